@@ -1,0 +1,83 @@
+-- Laws of tests over the numbers below n. Assumes nothing.
+use mathlib.Core.Path.{_≡_, refl, sym, ap, ap₂, _∙_}
+use mathlib.Core.Bool.{Bool, true, false, not, _&&_, _||_, and-false, and-true, or-false}
+use mathlib.Core.Logic.{⊎-elim}
+use Prim.Native.Nat.{ℕ, zero, suc, _+_, _≤_, _<_}
+use native.Mathlib.Nat.{not-suc-le-zero, le-of-suc-le-suc, eq-or-lt-of-le}
+use native.Mathlib.Omega.{arith}
+use lib.Dec.{eqb}
+use borrow.Author.Tests.{eq-eqb, ne-eqb}
+use Rattle.words.specs.Below.{any, every, orElse, firstFrom}
+use Rattle.words.proofs.Tests.{Gives, or-gives, or-false-l, or-false-r, and-true-l, and-true-r, eqb-comm}
+
+-- ---- any
+pub any-ext : (n : ℕ) (p q : ℕ → Bool) → ((i : ℕ) → i < n → p i ≡ q i) → any n p ≡ any n q
+any-ext zero p q e = refl
+any-ext (suc n) p q e = ap₂ _||_ (any-ext n p q (λ i l. e i (omega arith))) (e n (omega arith))
+
+pub any-gives : (n : ℕ) {p q : ℕ → Bool} → ((i : ℕ) → i < n → Gives (p i) (q i)) → Gives (any n p) (any n q)
+any-gives zero h = λ e. e
+any-gives (suc n) {p} {q} h =
+    or-gives {a = any n p} {b = any n q} (any-gives n (λ i l. h i (omega arith))) (h n (omega arith))
+
+pub any-false : (n : ℕ) (p : ℕ → Bool) → any n p ≡ false → (i : ℕ) → i < n → p i ≡ false
+any-false zero p e i l = absurd (not-suc-le-zero l)
+any-false (suc n) p e i l =
+    ⊎-elim (λ (q : i ≡ n). rw q (or-false-r (any n p) (p n) e))
+    (λ (q : i < n). any-false n p (or-false-l (any n p) (p n) e) i q)
+    (eq-or-lt-of-le (le-of-suc-le-suc l))
+
+pub all-false : (n : ℕ) (p : ℕ → Bool) → ((i : ℕ) → i < n → p i ≡ false) → any n p ≡ false
+all-false zero p e = refl
+all-false (suc n) p e = rw (all-false n p (λ i l. e i (omega arith))) (e n (omega arith))
+
+-- among the numbers below k, only i is tested
+pub any-at : (k : ℕ) (p : ℕ → Bool) (i : ℕ) → i < k → any k (λ j. p j && eqb j i) ≡ p i
+any-at zero p i l = absurd (not-suc-le-zero l)
+any-at (suc n) p i l =
+    ⊎-elim
+    (λ (q : i ≡ n). rw q (at-top n))
+    (λ (q : i < n). ap₂ _||_ (any-at n p i q) (ap (λ (b : Bool). p n && b) (ne-eqb n i (omega arith)) ∙ and-false (p n)) ∙ or-false (p i))
+    (eq-or-lt-of-le (le-of-suc-le-suc l))
+  where
+    at-top : (m : ℕ) → (any m (λ j. p j && eqb j m) || (p m && eqb m m)) ≡ p m
+    at-top m =
+        ap₂ _||_
+        (all-false m (λ j. p j && eqb j m) (λ j h. ap (λ (b : Bool). p j && b) (ne-eqb j m (omega arith)) ∙ and-false (p j)))
+        (ap (λ (b : Bool). p m && b) (eq-eqb m m refl) ∙ and-true (p m))
+
+pub any-is : (k : ℕ) (p : ℕ → Bool) (i : ℕ) → i < k → any k (λ j. p j && eqb i j) ≡ p i
+any-is k p i l =
+    any-ext k (λ j. p j && eqb i j) (λ j. p j && eqb j i) (λ j m. ap (λ (b : Bool). p j && b) (eqb-comm i j))
+    ∙ any-at k p i l
+
+-- ---- every
+pub every-at : (n : ℕ) (p : ℕ → Bool) → every n p ≡ true → (i : ℕ) → i < n → p i ≡ true
+every-at zero p e i l = absurd (not-suc-le-zero l)
+every-at (suc n) p e i l =
+    ⊎-elim (λ (q : i ≡ n). rw q (and-true-r (every n p) (p n) e))
+    (λ (q : i < n). every-at n p (and-true-l (every n p) (p n) e) i q)
+    (eq-or-lt-of-le (le-of-suc-le-suc l))
+
+pub every-true : (n : ℕ) (p : ℕ → Bool) → ((i : ℕ) → i < n → p i ≡ true) → every n p ≡ true
+every-true zero p e = refl
+every-true (suc n) p e = ap₂ _&&_ (every-true n p (λ i l. e i (omega arith))) (e n (omega arith))
+
+-- one that fails is enough
+pub every-false : (n : ℕ) (p : ℕ → Bool) (k : ℕ) → k < n → p k ≡ false → every n p ≡ false
+every-false zero p k l e = absurd (not-suc-le-zero l)
+every-false (suc n) p k l e =
+    ⊎-elim
+    (λ (q : k ≡ n). ap (λ (b : Bool). every n p && b) (ap p (sym q) ∙ e) ∙ and-false (every n p))
+    (λ (q : k < n). ap (λ (b : Bool). b && p n) (every-false n p k q e))
+    (eq-or-lt-of-le (le-of-suc-le-suc l))
+
+-- ---- first
+pub first-is : (n : ℕ) (p : ℕ → Bool) (k j : ℕ) → k ≤ j → j ≤ k + n → p j ≡ true → ((i : ℕ) → i < j → p i ≡ false)
+    → firstFrom n p k ≡ j
+first-is zero p k j h l e f = omega arith
+first-is (suc n) p k j h l e f =
+    ⊎-elim
+    (λ (q : k ≡ j). ap (λ (b : Bool). orElse b k (firstFrom n p (suc k))) (ap p q ∙ e) ∙ q)
+    (λ (q : k < j). ap (λ (b : Bool). orElse b k (firstFrom n p (suc k))) (f k q) ∙ first-is n p (suc k) j q (omega arith) e f)
+    (eq-or-lt-of-le h)

@@ -1,0 +1,10 @@
+-- Tests: Bools as tests: cases on an order, implications.
+-- Below: laws of `any`, `every` and `first`.
+-- Bits: laws of `has` and of the machine's operations on bits, for every bit number and width.
+-- Words: a number as the word of its bits.
+-- Counts: how the count of ones grows with the word.
+pub mod Tests
+pub mod Below
+pub mod Bits
+pub mod Words
+pub mod Counts

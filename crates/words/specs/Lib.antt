@@ -1,0 +1,4 @@
+-- Below: whether some, or every, number below n passes a test; the first that does.
+-- Bits: the bits of a number, and the word of given bits.
+pub mod Below
+pub mod Bits

@@ -1,0 +1,37 @@
+// Words of 64 bits as sets of bit numbers: one bit, the lowest bits, the test of a bit, the count of ones.
+ghost use mathlib.Core.Path.{_≡_};
+ghost use Prim.Native.Nat.{_+_, _^_, _≤_, _<_};
+ghost use lib.Count.{ones};
+ghost use Rattle.words.specs.Bits.{has};
+
+// The word with bit i alone.
+pub fn single(i: u32) -> u64
+    requires { ⌜ i < 64 ⌝ }
+    ensures { λ r. ⌜ r ≡ 2 ^ i ⌝ }
+{
+    1u64 << i
+}
+
+// The word with the lowest n bits.
+pub fn lowest(n: u32) -> u64
+    requires { ⌜ (1 ≤ n) × (n ≤ 64) ⌝ }
+    ensures { λ r. ⌜ r + 1 ≡ 2 ^ n ⌝ }
+{
+    let top = 1u64 << (n - 1);
+    top - 1 + top
+}
+
+// Whether w has bit i.
+pub fn test(w: u64, i: u32) -> bool
+    requires { ⌜ i < 64 ⌝ }
+    ensures { λ r. ⌜ r ≡ has w i ⌝ }
+{
+    w & (1u64 << i) != 0
+}
+
+// How many bits w has.
+pub fn count(w: u64) -> u32
+    ensures { λ r. ⌜ r ≡ ones w ⌝ }
+{
+    u64::count_ones(w)
+}
