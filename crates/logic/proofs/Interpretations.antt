@@ -1,0 +1,168 @@
+-- Laws of interpretations: the values in one, the one of given values, and how the number of decided atoms grows.
+-- Assumes nothing.
+use mathlib.Core.Path.{_≡_, refl, sym, ap, ap₂, _∙_}
+use mathlib.Core.Bool.{Bool, true, false, not, _&&_, _||_, or-true, or-false, and-true, and-false}
+use mathlib.Core.Logic.{_⊎_, inl, inr, ⊎-elim}
+use Prim.Native.Nat.{ℕ, _-_, _^_, _≤_, _<_}
+use native.Mathlib.Omega.{arith}
+use lib.Dec.{eqb, lit<}
+use lib.Bits.{bitAnd, bitOr, and-lt}
+use lib.Count.{ones}
+use borrow.Author.Tests.{eqb-true, eq-eqb, ne-eqb}
+use Rattle.words.specs.Bits.{has, word}
+use Rattle.words.proofs.Tests.{lt-or-le, and-true-l, and-true-r}
+use Rattle.words.proofs.Bits.{has-zero, has-above, has-and, has-ext}
+use Rattle.words.proofs.Words.{word-lt, has-word, is-word, word-ext}
+use Rattle.words.proofs.Words.{has-or-one, or-one-lt, has-without-one, without-one-lt}
+use Rattle.words.proofs.Counts.{ones-grow, ones-apart}
+use Rattle.logic.specs.declared.value.Value.{Value}
+use Rattle.logic.specs.declared.value.Value.the-variants.{Unknown}
+use Rattle.logic.specs.declared.interpretation.Interpretation.{Interpretation}
+use Rattle.logic.specs.Value.{isTrue, isFalse}
+use Rattle.logic.specs.Interpretation.{nothing, among, valueAt, ofValues, pickValue, assigned}
+use Rattle.logic.specs.Interpretation.{decidedIn, Disjoint, sameIn}
+use Rattle.logic.specs.Order.{Contained}
+use Rattle.logic.proofs.Values.{by-tests, not-both, true-among, false-among}
+use Rattle.logic.proofs.Order.{leq-refl, leq-unknown}
+
+-- an interpretation of two words of 64 bits in which no atom is both true and false
+pub record Good (i : Interpretation) : Type 0 where
+  pub trues-fit : i .trues < 2 ^ 64
+  pub falses-fit : i .falses < 2 ^ 64
+  pub disjoint : Disjoint i
+
+-- ---- equality
+pub interpretation-eq : {i j : Interpretation} → i .trues ≡ j .trues → i .falses ≡ j .falses → i ≡ j
+interpretation-eq p q = λ k. record { trues = p k; falses = q k }
+
+pub same-in-eq : (i j : Interpretation) → sameIn i j ≡ true → i ≡ j
+same-in-eq i j e =
+    interpretation-eq
+    (eqb-true (i .trues) (j .trues) (and-true-l (eqb (i .trues) (j .trues)) (eqb (i .falses) (j .falses)) e))
+    (eqb-true (i .falses) (j .falses) (and-true-r (eqb (i .trues) (j .trues)) (eqb (i .falses) (j .falses)) e))
+
+pub same-in-refl : (i j : Interpretation) → i ≡ j → sameIn i j ≡ true
+same-in-refl i j e =
+    ap₂ _&&_
+    (eq-eqb (i .trues) (j .trues) (ap (λ (x : Interpretation). x .trues) e))
+    (eq-eqb (i .falses) (j .falses) (ap (λ (x : Interpretation). x .falses) e))
+
+-- ---- the value of an atom
+pub nothing-at : (a : ℕ) → valueAt nothing a ≡ Unknown
+nothing-at a = ap₂ among (has-zero a) (has-zero a)
+
+pub apart-at : (i : Interpretation) → Disjoint i → (a : ℕ) → (has (i .trues) a && has (i .falses) a) ≡ false
+apart-at i d a = sym (has-and (i .trues) (i .falses) a) ∙ ap (λ (w : ℕ). has w a) d ∙ has-zero a
+
+pub true-at : (i : Interpretation) (a : ℕ) → isTrue (valueAt i a) ≡ has (i .trues) a
+true-at i a = true-among (has (i .trues) a) (has (i .falses) a)
+
+pub false-at : (i : Interpretation) → Disjoint i → (a : ℕ) → isFalse (valueAt i a) ≡ has (i .falses) a
+false-at i d a = false-among (has (i .trues) a) (has (i .falses) a) (apart-at i d a)
+
+-- ---- the interpretation of given values
+pub values-at : (v : ℕ → Value) (a : ℕ) → a < 64 → valueAt (ofValues v) a ≡ v a
+values-at v a l =
+    ap₂ among (has-word 64 (λ b. isTrue (v b)) a l) (has-word 64 (λ b. isFalse (v b)) a l) ∙ sym (by-tests (v a))
+
+pub values-above : (v : ℕ → Value) (a : ℕ) → 64 ≤ a → valueAt (ofValues v) a ≡ Unknown
+values-above v a l =
+    ap₂ among
+    (has-above 64 (word 64 (λ b. isTrue (v b))) a (word-lt 64 (λ b. isTrue (v b))) l)
+    (has-above 64 (word 64 (λ b. isFalse (v b))) a (word-lt 64 (λ b. isFalse (v b))) l)
+
+pub values-contained : (v : ℕ → Value) → Contained (valueAt (ofValues v)) v
+values-contained v a =
+    ⊎-elim
+    (λ (l : a < 64). rw (values-at v a l) (leq-refl (v a)))
+    (λ (l : 64 ≤ a). rw (values-above v a l) (leq-unknown (v a)))
+    (lt-or-le a 64)
+
+pub values-ext : (v w : ℕ → Value) → ((a : ℕ) → a < 64 → v a ≡ w a) → ofValues v ≡ ofValues w
+values-ext v w e =
+    interpretation-eq
+    (word-ext 64 (λ a. isTrue (v a)) (λ a. isTrue (w a)) (λ a l. ap isTrue (e a l)))
+    (word-ext 64 (λ a. isFalse (v a)) (λ a. isFalse (w a)) (λ a l. ap isFalse (e a l)))
+
+pub of-values-at : (i : Interpretation) → Good i → ofValues (valueAt i) ≡ i
+of-values-at i g =
+    interpretation-eq
+    (sym (is-word 64 (i .trues) (λ a. isTrue (valueAt i a)) (g .trues-fit) (λ a l. sym (true-at i a))))
+    (sym (is-word 64 (i .falses) (λ a. isFalse (valueAt i a)) (g .falses-fit)
+    (λ a l. sym (false-at i (g .disjoint) a))))
+
+pub values-good : (v : ℕ → Value) → Good (ofValues v)
+values-good v = record {
+  trues-fit = word-lt 64 (λ a. isTrue (v a));
+  falses-fit = word-lt 64 (λ a. isFalse (v a));
+  disjoint = has-ext 64 _ 0 (and-lt 64 _ _ (word-lt 64 (λ a. isTrue (v a))) (word-lt 64 (λ a. isFalse (v a)))) (lit< tt)
+      (λ a l. has-and (word 64 (λ b. isTrue (v b))) (word 64 (λ b. isFalse (v b))) a
+      ∙ ap₂ _&&_ (has-word 64 (λ b. isTrue (v b)) a l) (has-word 64 (λ b. isFalse (v b)) a l)
+      ∙ not-both (v a) ∙ sym (has-zero a));
+}
+
+pub nothing-good : Good nothing
+nothing-good = record { trues-fit = lit< tt; falses-fit = lit< tt; disjoint = refl }
+
+-- ---- one atom assigned
+pub assigned-same : (v : ℕ → Value) (a : ℕ) (x : Value) → assigned v a x a ≡ x
+assigned-same v a x = ap (λ (t : Bool). pickValue t x (v a)) (eq-eqb a a refl)
+
+pub assigned-other : (v : ℕ → Value) (a : ℕ) (x : Value) (b : ℕ) → (b ≡ a → ⊥) → assigned v a x b ≡ v b
+assigned-other v a x b n = ap (λ (t : Bool). pickValue t x (v b)) (ne-eqb b a n)
+
+-- an atom that is assigned the value it has
+pub assigned-kept : (v : ℕ → Value) (a : ℕ) (x : Value) → x ≡ v a → (b : ℕ) → assigned v a x b ≡ v b
+assigned-kept v a x e b = go (eqb b a) refl
+  where
+    go : (t : Bool) → eqb b a ≡ t → pickValue t x (v b) ≡ v b
+    go true p = e ∙ ap v (sym (eqb-true b a p))
+    go false p = refl
+
+-- a word of the atoms whose value in v passes the test q, and the word of those that pass with x at atom a
+module _ (q : Value → Bool) (v : ℕ → Value) (w : ℕ) (a : ℕ) (x : Value)
+    (fits : w < 2 ^ 64) (l : a < 64) (bits : (b : ℕ) → has w b ≡ q (v b)) where
+  or-pick : q x ≡ true → (t : Bool) (y : Value) → (q y || t) ≡ q (pickValue t x y)
+  or-pick e true y = or-true (q y) ∙ sym e
+  or-pick e false y = or-false (q y)
+
+  without-pick : q x ≡ false → (t : Bool) (y : Value) → (q y && not t) ≡ q (pickValue t x y)
+  without-pick e true y = and-false (q y) ∙ sym e
+  without-pick e false y = and-true (q y)
+
+  -- where x passes, it has one atom more
+  pub assigned-more : q x ≡ true → bitOr w (2 ^ a) ≡ word 64 (λ b. q (assigned v a x b))
+  assigned-more e =
+      is-word 64 _ (λ b. q (assigned v a x b)) (or-one-lt 64 w a fits l)
+      (λ b m. has-or-one w a b ∙ ap (λ (t : Bool). t || eqb b a) (bits b) ∙ or-pick e (eqb b a) (v b))
+
+  -- where x fails, one less
+  pub assigned-less : q x ≡ false → bitAnd w (2 ^ 64 - 1 - 2 ^ a) ≡ word 64 (λ b. q (assigned v a x b))
+  assigned-less e =
+      is-word 64 _ (λ b. q (assigned v a x b)) (without-one-lt 64 w a fits)
+      (λ b m. has-without-one 64 w a b l m ∙ ap (λ (t : Bool). t && not (eqb b a)) (bits b)
+      ∙ without-pick e (eqb b a) (v b))
+
+-- ---- the number of decided atoms
+pub decided-le : (m : ℕ) (i : Interpretation) → i .trues < 2 ^ m → i .falses < 2 ^ m → Disjoint i → decidedIn i ≤ m
+decided-le m i t f d = ones-apart m (i .trues) (i .falses) t f (λ a l. apart-at i d a)
+
+-- an interpretation contained in another is the other, or decides fewer atoms
+pub grow : (i j : Interpretation) → Good i → Good j → Contained (valueAt i) (valueAt j)
+    → (i ≡ j) ⊎ (decidedIn i < decidedIn j)
+grow i j g h k =
+    go (ones-grow 64 (i .trues) (j .trues) (g .trues-fit) (h .trues-fit) trues-in)
+    (ones-grow 64 (i .falses) (j .falses) (g .falses-fit) (h .falses-fit) falses-in)
+  where
+    trues-in : (a : ℕ) → a < 64 → has (i .trues) a ≡ true → has (j .trues) a ≡ true
+    trues-in a l e = sym (true-at j a) ∙ k a .true-kept (true-at i a ∙ e)
+
+    falses-in : (a : ℕ) → a < 64 → has (i .falses) a ≡ true → has (j .falses) a ≡ true
+    falses-in a l e = sym (false-at j (h .disjoint) a) ∙ k a .false-kept (false-at i (g .disjoint) a ∙ e)
+
+    go : (i .trues ≡ j .trues) ⊎ (ones (i .trues) < ones (j .trues))
+        → (i .falses ≡ j .falses) ⊎ (ones (i .falses) < ones (j .falses)) → (i ≡ j) ⊎ (decidedIn i < decidedIn j)
+    go (inl p) (inl q) = inl (interpretation-eq p q)
+    go (inl p) (inr q) = inr (omega (arith, ap ones p))
+    go (inr p) (inl q) = inr (omega (arith, ap ones q))
+    go (inr p) (inr q) = inr (omega arith)
