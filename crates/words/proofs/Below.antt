@@ -3,7 +3,8 @@ use mathlib.Core.Path.{_≡_, refl, sym, ap, ap₂, _∙_}
 use mathlib.Core.Bool.{Bool, true, false, not, _&&_, _||_, and-false, and-true, or-false}
 use mathlib.Core.Logic.{⊎-elim}
 use Prim.Native.Nat.{ℕ, zero, suc, _+_, _≤_, _<_}
-use native.Mathlib.Nat.{not-suc-le-zero, le-of-suc-le-suc, eq-or-lt-of-le}
+use native.Mathlib.Nat.{not-suc-le-zero, le-of-suc-le-suc, eq-or-lt-of-le, le-antisymm}
+use native.Mathlib.Numerals.{add-one}
 use native.Mathlib.Omega.{arith}
 use lib.Dec.{eqb}
 use borrow.Author.Tests.{eq-eqb, ne-eqb}
@@ -62,6 +63,14 @@ every-at (suc n) p e i l =
 pub every-true : (n : ℕ) (p : ℕ → Bool) → ((i : ℕ) → i < n → p i ≡ true) → every n p ≡ true
 every-true zero p e = refl
 every-true (suc n) p e = ap₂ _&&_ (every-true n p (λ i l. e i (omega arith))) (e n (omega arith))
+
+-- one number more
+pub every-more : (n : ℕ) (p : ℕ → Bool) → every n p ≡ true → p n ≡ true → every (n + 1) p ≡ true
+every-more n p e h = ap (λ (k : ℕ). every k p) (add-one n) ∙ ap₂ _&&_ e h
+
+-- a loop over the numbers below n ends at n
+pub every-end : (n k : ℕ) (p : ℕ → Bool) → k ≤ n → n ≤ k → every k p ≡ true → true ≡ every n p
+every-end n k p h l e = sym e ∙ ap (λ (j : ℕ). every j p) (le-antisymm h l)
 
 -- one that fails is enough
 pub every-false : (n : ℕ) (p : ℕ → Bool) (k : ℕ) → k < n → p k ≡ false → every n p ≡ false

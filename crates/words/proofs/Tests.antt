@@ -4,7 +4,7 @@ use mathlib.Core.Bool.{Bool, true, false, not, _&&_, _||_, true≢false, false�
 use mathlib.Core.Logic.{_⊎_, inl, inr}
 use Prim.Native.Nat.{ℕ, _≤_, _<_}
 use lib.Dec.{eqb, ltb}
-use borrow.Author.Tests.{eqb-true, eqb-false, eq-eqb, ne-eqb, ltb-true, ltb-false}
+use borrow.Author.Tests.{eqb-true, eqb-false, eq-eqb, ne-eqb, ltb-true, ltb-false, not-true, not-false}
 
 pub lt-or-le : (a b : ℕ) → (a < b) ⊎ (b ≤ a)
 lt-or-le a b = go (ltb a b) refl
@@ -40,6 +40,18 @@ and-gives {a = false} f g e = absurd (false≢true e)
 pub not-gives : {a b : Bool} → Gives a b → Gives (not b) (not a)
 not-gives {a = true} {b} f e = absurd (false≢true (sym (ap not (f refl)) ∙ e))
 not-gives {a = false} {b} f e = refl
+
+-- a test that fails makes those fail that would make it pass
+pub gives-false : (a b : Bool) → Gives b a → a ≡ false → false ≡ b
+gives-false a true f e = sym e ∙ f refl
+gives-false a false f e = refl
+
+-- the test t that r is, where code returned early (failed) or went on (passed) on `not r`
+pub failed : {r t : Bool} → r ≡ t → not r ≡ true → t ≡ false
+failed {r} e h = sym e ∙ not-true r h
+
+pub passed : {r t : Bool} → r ≡ t → not r ≡ false → t ≡ true
+passed {r} e h = sym e ∙ not-false r h
 
 pub and-true-l : (a b : Bool) → (a && b) ≡ true → a ≡ true
 and-true-l true b e = refl

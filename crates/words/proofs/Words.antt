@@ -6,10 +6,10 @@ use mathlib.Core.Logic.{⊎-elim}
 use Prim.Native.Nat.{ℕ, zero, suc, _+_, _-_, _*_, _/_, _%_, _^_, _≤_, _<_}
 use native.Mathlib.Nat.{not-suc-le-zero, le-of-suc-le-suc, pow-suc, lt-of-lt-of-le, lt-of-le-of-lt}
 use native.Mathlib.Omega.{arith}
-use lib.Dec.{eqb}
+use lib.Dec.{eqb, ltb}
 use lib.Pow.{pow-pos, pow-lt, pow-mono}
 use lib.Bits.{bitAnd, bitOr, and-le-l, or-lt}
-use borrow.Author.Tests.{eq-eqb, ne-eqb}
+use borrow.Author.Tests.{eq-eqb, ne-eqb, lt-ltb, le-ltb}
 use Rattle.words.specs.Below.{any}
 use Rattle.words.specs.Bits.{odd, has, digit, word}
 use Rattle.words.proofs.Tests.{lt-or-le}
@@ -56,6 +56,16 @@ lt-of-bits k m w l h e =
     rw (has-ext k w (word m (has w)) h (lt-of-lt-of-le (word-lt m (has w)) (pow-mono l))
     (λ i j. ⊎-elim (λ (q : i < m). sym (has-word m (has w) i q)) (λ (q : m ≤ i). e i q j ∙ sym (has-above m (word m (has w)) i (word-lt m (has w)) q)) (lt-or-le i m)))
     (word-lt m (has w))
+
+-- ---- the lowest n bits: the number below 2 ^ n by one
+pub has-lowest : (n w i : ℕ) → w + 1 ≡ 2 ^ n → has w i ≡ ltb i n
+has-lowest n w i e = ⊎-elim
+    (λ (l : i < n). ap (λ (x : ℕ). has x i) q ∙ has-not n 0 i (pow-pos n) l ∙ ap not (has-zero i) ∙ sym (lt-ltb i n l))
+    (λ (l : n ≤ i). has-above n w i (omega arith) l ∙ sym (le-ltb i n l))
+    (lt-or-le i n)
+  where
+    q : w ≡ 2 ^ n - 1 - 0
+    q = omega arith
 
 -- ---- a word is zero where it has no bit
 pub zero-any : (k w : ℕ) → w < 2 ^ k → eqb w 0 ≡ not (any k (has w))
