@@ -1,0 +1,203 @@
+-- Laws of soundness: the kinds of clauses, and what is known of a sound case, phrase by phrase. Assumes nothing.
+use mathlib.Core.Path.{_≡_, refl, sym, _∙_}
+use mathlib.Core.Bool.{Bool, true, false, _&&_, false≢true}
+use mathlib.Core.List.{List}
+use Prim.Native.Nat.{ℕ, zero, suc, _+_, _*_, _/_, _%_, _^_, _≤_, _<_}
+use native.Mathlib.Omega.{arith}
+use lib.Count.{ones}
+use lib.Dec.{ltb, leb}
+use lib.ListN.{length, getD, take}
+use borrow.Author.Tests.{ltb-true, ltb-false, leb-true, le-leb, lt-leb}
+use Rattle.words.proofs.Tests.{and-true-l, and-true-r}
+use Rattle.words.proofs.Below.{every-at}
+use Rattle.logic.specs.Nodes.{oneFormula}
+use Rattle.program.specs.declared.case.Case.{Case}
+use Rattle.program.specs.Case.{tablesFull, headAt, plainAt, negatedAt, forbidden, forbiddenNot}
+use Rattle.program.specs.Cause.{causesOf}
+use Rattle.program.specs.Sound.{limitsHold, within, bare, shaped, soundClause, soundClauses, soundConstraint, soundConstraints, fewCauses, sound}
+
+-- ---- at most the number below m by one is below m
+pub leb-below : (a t m : ℕ) → t + 1 ≡ m → leb a t ≡ ltb a m
+leb-below a t m e = go (ltb a m) refl
+  where
+    go : (b : Bool) → ltb a m ≡ b → leb a t ≡ ltb a m
+    go true p = le-leb a t (omega (arith, ltb-true a m p)) ∙ sym p
+    go false p = lt-leb a t (omega (arith, ltb-false a m p)) ∙ sym p
+
+-- ---- kinds
+pub shaped-low : (k : ℕ) (b : Bool) → k < 2 → b ≡ shaped k b
+shaped-low zero b h = refl
+shaped-low (suc zero) b h = refl
+shaped-low (suc (suc k)) b h = absurd (omega arith)
+
+pub shaped-none : (k : ℕ) (b : Bool) → 2 ≤ k → (k ≡ 2 → ⊥) → false ≡ shaped k b
+shaped-none zero b h e = absurd (omega arith)
+shaped-none (suc zero) b h e = absurd (omega arith)
+shaped-none (suc (suc zero)) b h e = absurd (e refl)
+shaped-none (suc (suc (suc k))) b h e = refl
+
+-- ---- the entries of a table
+abbrev pub clauseTest : ℕ → List ℕ → ℕ → Bool
+clauseTest n cl k = soundClause n (getD cl (3 * k) 0) (plainAt cl k) (negatedAt cl k)
+
+abbrev pub constraintTest : ℕ → List ℕ → ℕ → Bool
+constraintTest n co k = soundConstraint n (forbidden co k) (forbiddenNot co k)
+
+clause-head : (n first p q : ℕ) → soundClause n first p q ≡ true → first % 64 < n
+unfolding soundClause
+clause-head n first p q e =
+    ltb-true (first % 64) n
+    (and-true-l (ltb (first % 64) n) (within n p q)
+    (and-true-l (ltb (first % 64) n && within n p q) (shaped (first / 64) (bare p q)) e))
+
+-- ---- phrases that hold together hold each
+Seven : Bool → Bool → Bool → Bool → Bool → Bool → Bool → Type 0
+Seven a b c d e f g = (a ≡ true) × (b ≡ true) × (c ≡ true) × (d ≡ true) × (e ≡ true) × (f ≡ true) × (g ≡ true)
+
+seven : (a b c d e f g : Bool) → (a && b && c && d && e && f && g) ≡ true → Seven a b c d e f g
+unfolding Seven
+seven true true true true true true g h = (refl, refl, refl, refl, refl, refl, h)
+seven false b c d e f g h = absurd (false≢true h)
+seven true false c d e f g h = absurd (false≢true h)
+seven true true false d e f g h = absurd (false≢true h)
+seven true true true false e f g h = absurd (false≢true h)
+seven true true true true false f g h = absurd (false≢true h)
+seven true true true true true false g h = absurd (false≢true h)
+
+-- ---- full tables
+module _ (cl co fo : List ℕ) (h : tablesFull cl co fo ≡ true) where
+  sizes : Seven true true true true (leb 768 (length cl)) (leb 64 (length co)) (leb 128 (length fo))
+  unfolding tablesFull
+  sizes = seven true true true true (leb 768 (length cl)) (leb 64 (length co)) (leb 128 (length fo)) h
+
+  pub full-clauses : 768 ≤ length cl
+  unfolding Seven
+  full-clauses = leb-true 768 (length cl) (sizes .4)
+
+  pub full-constraints : 64 ≤ length co
+  unfolding Seven
+  full-constraints = leb-true 64 (length co) (sizes .5)
+
+  pub full-formula : 128 ≤ length fo
+  unfolding Seven
+  full-formula = leb-true 128 (length fo) (sizes .6)
+
+-- ---- counts within the limits
+module _ (c : Case) (h : limitsHold c ≡ true) where
+  limits : Seven true true (leb 1 (c .atoms)) (leb (c .atoms) 64) (leb (c .clauses) 256) (leb (c .constraints) 32)
+      (leb (c .nodes) 128)
+  unfolding limitsHold
+  limits =
+      seven true true (leb 1 (c .atoms)) (leb (c .atoms) 64) (leb (c .clauses) 256) (leb (c .constraints) 32)
+      (leb (c .nodes) 128) h
+
+  pub limits-atoms : (1 ≤ c .atoms) × (c .atoms ≤ 64)
+  unfolding Seven
+  limits-atoms = (leb-true 1 (c .atoms) (limits .2), leb-true (c .atoms) 64 (limits .3))
+
+  pub limits-clauses : c .clauses ≤ 256
+  unfolding Seven
+  limits-clauses = leb-true (c .clauses) 256 (limits .4)
+
+  pub limits-constraints : c .constraints ≤ 32
+  unfolding Seven
+  limits-constraints = leb-true (c .constraints) 32 (limits .5)
+
+  pub limits-nodes : c .nodes ≤ 128
+  unfolding Seven
+  limits-nodes = leb-true (c .nodes) 128 (limits .6)
+
+-- ---- tables that hold as many entries as the counts say
+module _ (c : Case) (cl co fo : List ℕ) (f : tablesFull cl co fo ≡ true) (h : limitsHold c ≡ true) where
+  pub clauses-held : (1 ≤ c .atoms) × (c .atoms ≤ 64) × (c .clauses ≤ 256) × (3 * c .clauses ≤ length cl)
+  clauses-held =
+      let a = limits-atoms c h in
+      let n = limits-clauses c h in
+      (a .0, a .1, n, omega (arith, full-clauses cl co fo f))
+
+  pub constraints-held : (1 ≤ c .atoms) × (c .atoms ≤ 64) × (c .constraints ≤ 32) × (2 * c .constraints ≤ length co)
+  constraints-held =
+      let a = limits-atoms c h in
+      let n = limits-constraints c h in
+      (a .0, a .1, n, omega (arith, full-constraints cl co fo f))
+
+  pub nodes-held : c .nodes ≤ length fo
+  nodes-held = let n = limits-nodes c h in omega (arith, full-formula cl co fo f)
+
+-- ---- a sound case
+module _ (c : Case) (cl co fo : List ℕ) (h : sound c cl co fo ≡ true) where
+  phrases : Seven (tablesFull cl co fo) (limitsHold c) (soundClauses (c .atoms) cl (c .clauses))
+      (soundConstraints (c .atoms) co (c .constraints)) (within (c .atoms) (c .plain) (c .negated))
+      (fewCauses (c .atoms) cl (c .clauses)) (oneFormula (c .atoms) (take (c .nodes) fo))
+  unfolding sound
+  phrases =
+      seven (tablesFull cl co fo) (limitsHold c) (soundClauses (c .atoms) cl (c .clauses))
+      (soundConstraints (c .atoms) co (c .constraints)) (within (c .atoms) (c .plain) (c .negated))
+      (fewCauses (c .atoms) cl (c .clauses)) (oneFormula (c .atoms) (take (c .nodes) fo)) h
+
+  pub sound-full : tablesFull cl co fo ≡ true
+  unfolding Seven
+  sound-full = phrases .0
+
+  pub sound-limits : limitsHold c ≡ true
+  unfolding Seven
+  sound-limits = phrases .1
+
+  pub sound-clause-table : soundClauses (c .atoms) cl (c .clauses) ≡ true
+  unfolding Seven
+  sound-clause-table = phrases .2
+
+  pub sound-constraint-table : soundConstraints (c .atoms) co (c .constraints) ≡ true
+  unfolding Seven
+  sound-constraint-table = phrases .3
+
+  pub sound-within : within (c .atoms) (c .plain) (c .negated) ≡ true
+  unfolding Seven
+  sound-within = phrases .4
+
+  pub sound-causes : fewCauses (c .atoms) cl (c .clauses) ≡ true
+  unfolding Seven
+  sound-causes = phrases .5
+
+  pub sound-formula : oneFormula (c .atoms) (take (c .nodes) fo) ≡ true
+  unfolding Seven
+  sound-formula = phrases .6
+
+  pub sound-atoms : (1 ≤ c .atoms) × (c .atoms ≤ 64)
+  sound-atoms = limits-atoms c sound-limits
+
+  pub sound-clauses : c .clauses ≤ 256
+  sound-clauses = limits-clauses c sound-limits
+
+  pub sound-constraints : c .constraints ≤ 32
+  sound-constraints = limits-constraints c sound-limits
+
+  pub sound-nodes : c .nodes ≤ 128
+  sound-nodes = limits-nodes c sound-limits
+
+  pub sound-head : (k : ℕ) → k < c .clauses → headAt cl k < c .atoms
+  unfolding soundClauses
+  sound-head k l =
+      clause-head (c .atoms) (getD cl (3 * k) 0) (plainAt cl k) (negatedAt cl k)
+      (every-at (c .clauses) (clauseTest (c .atoms) cl) sound-clause-table k l)
+
+  pub sound-observed : (c .plain < 2 ^ c .atoms) × (c .negated < 2 ^ c .atoms)
+  unfolding within
+  sound-observed =
+      let m = 2 ^ c .atoms in (
+        ltb-true (c .plain) m (and-true-l (ltb (c .plain) m) (ltb (c .negated) m) sound-within),
+        ltb-true (c .negated) m (and-true-r (ltb (c .plain) m) (ltb (c .negated) m) sound-within),
+      )
+
+  pub sound-few : ones (causesOf c cl) ≤ 10
+  unfolding fewCauses causesOf
+  sound-few = leb-true (ones (causesOf c cl)) 10 sound-causes
+
+-- where the other phrases hold, the formula decides
+pub sound-rest : (c : Case) (cl co fo : List ℕ) → tablesFull cl co fo ≡ true → limitsHold c ≡ true
+    → soundClauses (c .atoms) cl (c .clauses) ≡ true → soundConstraints (c .atoms) co (c .constraints) ≡ true
+    → within (c .atoms) (c .plain) (c .negated) ≡ true → fewCauses (c .atoms) cl (c .clauses) ≡ true
+    → oneFormula (c .atoms) (take (c .nodes) fo) ≡ sound c cl co fo
+unfolding sound
+sound-rest c cl co fo full limits clauses constraints observed few =
+    rw (full, limits, clauses, constraints, observed, few)

@@ -1,0 +1,105 @@
+-- `program::sound::is_sound` meets its contract: a phrase that fails makes the case unsound, and where the others hold
+-- the formula decides. Assumes nothing.
+use mathlib.Core.Path.{_∙_}
+use native.Mathlib.Omega.{arith}
+use lib.ListN.{length-take}
+use borrow.Author.Needs.{needs}
+use Rattle.words.proofs.Tests.{gives-false, failed, passed}
+use Rattle.program.proofs.Soundness.{limits-atoms, clauses-held, constraints-held, nodes-held, sound-limits, sound-clause-table, sound-constraint-table, sound-within, sound-causes, sound-rest}
+use Rattle.program.proofs.sound.is_sound.Statement.{statement}
+use Rattle.program.proofs.sound.is_sound.Tie as tie
+
+limits-hold-requires : tie.Need-limits-hold-requires
+limits-hold-requires c κs = search needs
+
+returns : tie.Need-returns
+returns c = gives-false _ _ (sound-limits _ _ _ _) (failed (c .before .limits-hold .ensures) (c .if1 .taken))
+
+clauses-sound-requires : tie.Need-clauses-sound-requires
+clauses-sound-requires c κs =
+    clauses-held _ _ _ _ (c .before .before .before .before .before .pre)
+    (passed (c .before .limits-hold .ensures) (c .if1 .left))
+
+returns-2 : tie.Need-returns-2
+returns-2 c = gives-false _ _ (sound-clause-table _ _ _ _) (failed (c .before .clauses-sound .ensures) (c .if2 .taken))
+
+constraints-sound-requires : tie.Need-constraints-sound-requires
+constraints-sound-requires c κs =
+    let s = c .before .before in
+    constraints-held _ _ _ _ (s .before .before .before .before .before .pre)
+    (passed (s .before .limits-hold .ensures) (s .if1 .left))
+
+returns-3 : tie.Need-returns-3
+returns-3 c =
+    gives-false _ _ (sound-constraint-table _ _ _ _) (failed (c .before .constraints-sound .ensures) (c .if3 .taken))
+
+cast-lowest : tie.Need-cast-lowest
+cast-lowest c =
+    let s = c .before .before .before .before .before in
+    let h = limits-atoms _ (passed (s .before .limits-hold .ensures) (s .if1 .left)) in
+    omega arith
+
+lowest-requires : tie.Need-lowest-requires
+lowest-requires c κs =
+    let s = c .before .before .before .before .before in
+    limits-atoms _ (passed (s .before .limits-hold .ensures) (s .if1 .left))
+
+is-within-requires : tie.Need-is-within-requires
+is-within-requires c κs = search needs
+
+returns-4 : tie.Need-returns-4
+returns-4 c = gives-false _ _ (sound-within _ _ _ _) (failed (c .before .is-within .ensures) (c .if4 .taken))
+
+causes-few-requires : tie.Need-causes-few-requires
+causes-few-requires c κs =
+    let s = c .before .before .before .before .before .before .before .before in
+    clauses-held _ _ _ _ (s .before .before .before .before .before .pre)
+    (passed (s .before .limits-hold .ensures) (s .if1 .left))
+
+returns-5 : tie.Need-returns-5
+returns-5 c = gives-false _ _ (sound-causes _ _ _ _) (failed (c .before .causes-few .ensures) (c .if5 .taken))
+
+slice-aggregate-one-formula : tie.Need-slice-aggregate-one-formula
+slice-aggregate-one-formula c =
+    let s = c .before .before .before .before .before .before .before .before .before .before .before in
+    let h = nodes-held _ _ _ _ (s .before .before .before .before .before .pre)
+    (passed (s .before .limits-hold .ensures) (s .if1 .left)) in
+    simp length-take (omega arith)
+
+one-formula-requires : tie.Need-one-formula-requires
+one-formula-requires c κs = search needs
+
+returns-6 : tie.Need-returns-6
+returns-6 c =
+    let o = c .before .before in
+    let w = o .before .before in
+    let k = w .before .before .before .before in
+    let l = k .before .before in
+    let s = l .before .before in
+    c .one-formula .ensures
+    ∙ sound-rest _ _ _ _ (s .before .before .before .before .before .pre)
+    (passed (s .before .limits-hold .ensures) (s .if1 .left))
+    (passed (l .before .clauses-sound .ensures) (l .if2 .left))
+    (passed (k .before .constraints-sound .ensures) (k .if3 .left))
+    (passed (w .before .is-within .ensures) (w .if4 .left))
+    (passed (o .before .causes-few .ensures) (o .if5 .left))
+
+pub is-sound-spec : {M : Type 1} → statement M
+is-sound-spec =
+    tie.close
+    (tie.spec
+    limits-hold-requires
+    returns
+    clauses-sound-requires
+    returns-2
+    constraints-sound-requires
+    returns-3
+    cast-lowest
+    lowest-requires
+    is-within-requires
+    returns-4
+    causes-few-requires
+    returns-5
+    slice-aggregate-one-formula
+    one-formula-requires
+    returns-6)

@@ -1,0 +1,33 @@
+-- The lent tables of a case.
+-- From: document 01, "Case tables and sound cases".
+--
+--   tablesFull cl co fo      clauses, constraints and formula have their full sizes
+--   headAt, kindAt           head and kind of clause k: its first word is head + 64 × kind
+--   plainAt, negatedAt       the plain and the negated atoms of clause k
+--   forbidden, forbiddenNot  the plain and the negated atoms of constraint k
+use mathlib.Core.Bool.{Bool, _&&_}
+use mathlib.Core.List.{List}
+use Prim.Native.Nat.{ℕ, _+_, _*_, _/_, _%_}
+use lib.Dec.{leb}
+use lib.ListN.{length, getD}
+
+unfoldable pub tablesFull : List ℕ → List ℕ → List ℕ → Bool
+tablesFull cl co fo = leb 768 (length cl) && leb 64 (length co) && leb 128 (length fo)
+
+abbrev pub headAt : List ℕ → ℕ → ℕ
+headAt cl k = getD cl (3 * k) 0 % 64
+
+abbrev pub kindAt : List ℕ → ℕ → ℕ
+kindAt cl k = getD cl (3 * k) 0 / 64
+
+abbrev pub plainAt : List ℕ → ℕ → ℕ
+plainAt cl k = getD cl (3 * k + 1) 0
+
+abbrev pub negatedAt : List ℕ → ℕ → ℕ
+negatedAt cl k = getD cl (3 * k + 2) 0
+
+abbrev pub forbidden : List ℕ → ℕ → ℕ
+forbidden co k = getD co (2 * k) 0
+
+abbrev pub forbiddenNot : List ℕ → ℕ → ℕ
+forbiddenNot co k = getD co (2 * k + 1) 0

@@ -1,0 +1,60 @@
+-- Settings: numbers whose digits say what each cause gets.
+-- From: document 01, "Causes, settings, explanations".
+--
+--   choicesFor l         a choice count for each cause of l: nothing, a fact, an assumption
+--   product cs           the number of settings with these choice counts
+--   digits cs s          the digits of s, lowest first, to the bases cs
+--   digitOf l ds a       the digit that belongs to the cause a, 0 where a is none
+--   settingsOf w         the number of settings of the causes w
+--   additionsOf w s      what setting s of the causes w adds: digit 0 nothing, 1 a fact, 2 an assumption
+use mathlib.Core.Bool.{Bool, true, false}
+use mathlib.Core.List.{List, [], _∷_}
+use Prim.Native.Nat.{ℕ, zero, suc, _*_, _/_, _%_, _^_}
+use lib.Bits.{bitOr}
+use lib.Dec.{eqb}
+use Rattle.words.specs.Bits.{has, word}
+use Rattle.program.specs.declared.cause.Additions.{Additions}
+use Rattle.program.specs.Cause.{atomsIn}
+
+unfoldable pub choicesFor : List ℕ → List ℕ
+choicesFor [] = []
+choicesFor (a ∷ l) = 3 ∷ choicesFor l
+
+unfoldable pub product : List ℕ → ℕ
+product [] = 1
+product (c ∷ cs) = c * product cs
+
+unfoldable pub digits : List ℕ → ℕ → List ℕ
+digits [] s = []
+digits (c ∷ cs) s = s % c ∷ digits cs (s / c)
+
+abbrev pub pickDigit : Bool → ℕ → ℕ → ℕ
+pickDigit true d e = d
+pickDigit false d e = e
+
+unfoldable pub digitOf : List ℕ → List ℕ → ℕ → ℕ
+digitOf [] ds a = 0
+digitOf (b ∷ bs) [] a = 0
+digitOf (b ∷ bs) (d ∷ ds) a = let r = digitOf bs ds a in pickDigit (eqb a b) d r
+
+unfoldable pub settingsOf : ℕ → ℕ
+settingsOf w = product (choicesFor (atomsIn w))
+
+-- the digits of setting s of the causes w
+abbrev pub digitsOf : ℕ → ℕ → List ℕ
+digitsOf w s = digits (choicesFor (atomsIn w)) s
+
+unfoldable pub additionsOf : ℕ → ℕ → Additions
+additionsOf w s =
+    let ds = digitsOf w s in
+    record {
+      facts = word 64 (λ a. eqb (digitOf (atomsIn w) ds a) 1);
+      assumptions = word 64 (λ a. eqb (digitOf (atomsIn w) ds a) 2);
+    }
+
+-- x with atom a added as digit d says
+abbrev pub withDigit : Additions → ℕ → ℕ → Additions
+withDigit x a zero = x
+withDigit x a (suc zero) = record { facts = bitOr (x .facts) (2 ^ a); assumptions = x .assumptions }
+withDigit x a (suc (suc zero)) = record { facts = x .facts; assumptions = bitOr (x .assumptions) (2 ^ a) }
+withDigit x a (suc (suc (suc d))) = x

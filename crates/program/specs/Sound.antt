@@ -1,0 +1,64 @@
+-- Sound cases.
+-- From: document 01, "Case tables and sound cases", phrase by phrase.
+--
+--   limitsHold c          1 to 64 atoms, at most 256 clauses, 32 constraints and 128 nodes
+--   within n p q          every bit of the two words names one of n atoms
+--   bare p q              neither word has a bit
+--   shaped k b            facts and assumptions have no literal (b), rules have one or more; there is no other kind
+--   soundClause           a clause's three words, over n atoms
+--   soundConstraint       a constraint's two words, over n atoms
+--   fewCauses             at most 10 causes
+--   sound c cl co fo      the case c with the tables cl, co, fo is sound
+use mathlib.Core.Bool.{Bool, true, false, not, _&&_}
+use mathlib.Core.List.{List}
+use Prim.Native.Nat.{ℕ, zero, suc, _+_, _*_, _/_, _%_, _^_}
+use lib.Count.{ones}
+use lib.Dec.{eqb, ltb, leb}
+use lib.ListN.{getD, take}
+use Rattle.words.specs.Below.{every}
+use Rattle.logic.specs.Nodes.{oneFormula}
+use Rattle.program.specs.declared.case.Case.{Case}
+use Rattle.program.specs.Case.{tablesFull, plainAt, negatedAt, forbidden, forbiddenNot}
+use Rattle.program.specs.Program.{headsOf}
+use Rattle.program.specs.Cause.{causesAmong}
+
+unfoldable pub limitsHold : Case → Bool
+limitsHold c = leb 1 (c .atoms) && leb (c .atoms) 64 && leb (c .clauses) 256 && leb (c .constraints) 32 && leb (c .nodes) 128
+
+unfoldable pub within : ℕ → ℕ → ℕ → Bool
+within n p q = ltb p (2 ^ n) && ltb q (2 ^ n)
+
+abbrev pub bare : ℕ → ℕ → Bool
+bare p q = eqb p 0 && eqb q 0
+
+abbrev pub shaped : ℕ → Bool → Bool
+shaped zero b = b
+shaped (suc zero) b = b
+shaped (suc (suc zero)) b = not b
+shaped (suc (suc (suc k))) b = false
+
+-- the first word is head + 64 × kind
+unfoldable pub soundClause : ℕ → ℕ → ℕ → ℕ → Bool
+soundClause n first p q = ltb (first % 64) n && within n p q && shaped (first / 64) (bare p q)
+
+unfoldable pub soundClauses : ℕ → List ℕ → ℕ → Bool
+soundClauses n cl m = every m (λ k. soundClause n (getD cl (3 * k) 0) (plainAt cl k) (negatedAt cl k))
+
+unfoldable pub soundConstraint : ℕ → ℕ → ℕ → Bool
+soundConstraint n p q = within n p q && not (bare p q)
+
+unfoldable pub soundConstraints : ℕ → List ℕ → ℕ → Bool
+soundConstraints n co m = every m (λ k. soundConstraint n (forbidden co k) (forbiddenNot co k))
+
+unfoldable pub fewCauses : ℕ → List ℕ → ℕ → Bool
+fewCauses n cl m = leb (ones (causesAmong n (headsOf cl m))) 10
+
+unfoldable pub sound : Case → List ℕ → List ℕ → List ℕ → Bool
+sound c cl co fo =
+    tablesFull cl co fo
+    && limitsHold c
+    && soundClauses (c .atoms) cl (c .clauses)
+    && soundConstraints (c .atoms) co (c .constraints)
+    && within (c .atoms) (c .plain) (c .negated)
+    && fewCauses (c .atoms) cl (c .clauses)
+    && oneFormula (c .atoms) (take (c .nodes) fo)

@@ -1,0 +1,44 @@
+// The case record, and the limits of document 01.
+ghost use mathlib.Core.Path.{_≡_};
+ghost use Rattle.program.specs.Case.{tablesFull};
+
+// A case: how many entries its lent tables have in use, and the observed literals, bit i for atom i.
+pub struct Case {
+    pub atoms: usize,
+    pub clauses: usize,
+    pub constraints: usize,
+    pub nodes: usize,
+    pub plain: u64,
+    pub negated: u64,
+}
+
+impl Case {
+    pub const ATOMS: usize = 64;
+
+    pub const CLAUSES: usize = 256;
+
+    pub const CONSTRAINTS: usize = 32;
+
+    pub const NODES: usize = 128;
+
+    pub const CAUSES: u32 = 10;
+    // Sizes of the lent tables: words of clauses, words of constraints, bytes of the formula.
+    pub const CLAUSE_WORDS: usize = 768;
+
+    pub const CONSTRAINT_WORDS: usize = 64;
+
+    pub const FORMULA_BYTES: usize = 128;
+}
+
+// Whether the lent tables have their full sizes.
+pub fn tables_full(clauses: &[u64], constraints: &[u64], formula: &[u8]) -> bool
+    ensures { λ r. ⌜ r ≡ tablesFull (now (clauses .entry)) (now (constraints .entry)) (now (formula .entry)) ⌝ }
+{
+    if clauses.len() < Case::CLAUSE_WORDS {
+        return false;
+    }
+    if constraints.len() < Case::CONSTRAINT_WORDS {
+        return false;
+    }
+    Case::FORMULA_BYTES <= formula.len()
+}

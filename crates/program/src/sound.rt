@@ -1,0 +1,155 @@
+// The soundness of a case: every phrase of document 01, "Case tables and sound cases".
+ghost use mathlib.Core.Path.{_≡_};
+ghost use mathlib.Core.Bool.{Bool, true, false, not, _&&_};
+ghost use Prim.Native.Nat.{_+_, _*_, _^_, _≤_, _<_};
+ghost use lib.Dec.{eqb, leb};
+ghost use lib.ListN.{length};
+ghost use Rattle.program.specs.Case.{tablesFull};
+ghost use Rattle.program.specs.Sound.{limitsHold, bare, shaped, within, soundClause, soundClauses, soundConstraint, soundConstraints, fewCauses, sound};
+use crate::case::Case;
+
+// Whether the counts are within the limits.
+pub fn limits_hold(c: Case) -> bool
+    ensures { λ r. ⌜ r ≡ limitsHold c ⌝ }
+{
+    if c.atoms < 1 {
+        return false;
+    }
+    if Case::ATOMS < c.atoms {
+        return false;
+    }
+    if Case::CLAUSES < c.clauses {
+        return false;
+    }
+    if Case::CONSTRAINTS < c.constraints {
+        return false;
+    }
+    c.nodes <= Case::NODES
+}
+
+// Whether a body has no literal.
+pub fn is_bare(plain: u64, negated: u64) -> bool
+    ensures { λ r. ⌜ r ≡ bare plain negated ⌝ }
+{
+    if plain != 0 {
+        return false;
+    }
+    negated == 0
+}
+
+// Whether a clause of a kind may have no literal, or some.
+pub fn is_shaped(kind: u64, none: bool) -> bool
+    ensures { λ r. ⌜ r ≡ shaped kind none ⌝ }
+{
+    if kind < 2 {
+        return none;
+    }
+    if kind == 2 {
+        return !none;
+    }
+    false
+}
+
+// Whether every bit of two words names one of the atoms; top is the word of all atoms.
+pub fn is_within(atoms: usize, top: u64, plain: u64, negated: u64) -> bool
+    requires { ⌜ top + 1 ≡ 2 ^ atoms ⌝ }
+    ensures { λ r. ⌜ r ≡ within atoms plain negated ⌝ }
+{
+    if top < plain {
+        return false;
+    }
+    negated <= top
+}
+
+// Whether a clause's three words are sound; top is the word of all atoms.
+pub fn clause_sound(atoms: usize, top: u64, first: u64, plain: u64, negated: u64) -> bool
+    requires { ⌜ top + 1 ≡ 2 ^ atoms ⌝ }
+    ensures { λ r. ⌜ r ≡ soundClause atoms first plain negated ⌝ }
+{
+    if atoms <= (first % 64) as usize {
+        return false;
+    }
+    if !is_within(atoms, top, plain, negated) {
+        return false;
+    }
+    is_shaped(first / 64, is_bare(plain, negated))
+}
+
+// Whether the first n clauses are sound.
+pub fn clauses_sound(atoms: usize, clauses: &[u64], n: usize) -> bool
+    requires { ⌜ (1 ≤ atoms) × (atoms ≤ 64) × (n ≤ 256) × (3 * n ≤ length (now clauses)) ⌝ }
+    ensures { λ r. ⌜ r ≡ soundClauses atoms (now (clauses .entry)) n ⌝ }
+{
+    let top = words::lowest(atoms as u32);
+    let mut k = 0;
+    while k < n {
+        let at = 3 * k;
+        if !clause_sound(atoms, top, clauses[at], clauses[at + 1], clauses[at + 2]) {
+            return false;
+        }
+        k += 1;
+    }
+    true
+}
+
+// Whether a constraint's two words are sound; top is the word of all atoms.
+pub fn constraint_sound(atoms: usize, top: u64, plain: u64, negated: u64) -> bool
+    requires { ⌜ top + 1 ≡ 2 ^ atoms ⌝ }
+    ensures { λ r. ⌜ r ≡ soundConstraint atoms plain negated ⌝ }
+{
+    if !is_within(atoms, top, plain, negated) {
+        return false;
+    }
+    !is_bare(plain, negated)
+}
+
+// Whether the first n constraints are sound.
+pub fn constraints_sound(atoms: usize, constraints: &[u64], n: usize) -> bool
+    requires { ⌜ (1 ≤ atoms) × (atoms ≤ 64) × (n ≤ 32) × (2 * n ≤ length (now constraints)) ⌝ }
+    ensures { λ r. ⌜ r ≡ soundConstraints atoms (now (constraints .entry)) n ⌝ }
+{
+    let top = words::lowest(atoms as u32);
+    let mut k = 0;
+    while k < n {
+        let at = 2 * k;
+        if !constraint_sound(atoms, top, constraints[at], constraints[at + 1]) {
+            return false;
+        }
+        k += 1;
+    }
+    true
+}
+
+// Whether at most ten of the atoms head none of the first n clauses.
+pub fn causes_few(atoms: usize, clauses: &[u64], n: usize) -> bool
+    requires { ⌜ (1 ≤ atoms) × (atoms ≤ 64) × (n ≤ 256) × (3 * n ≤ length (now clauses)) ⌝ }
+    ensures { λ r. ⌜ r ≡ fewCauses atoms (now (clauses .entry)) n ⌝ }
+{
+    let heads = crate::cause::heads(clauses, n);
+    let causes = crate::cause::causes(atoms, heads);
+    words::count(causes) <= Case::CAUSES
+}
+
+// Whether a case is sound, where its lent tables have their full sizes.
+pub fn is_sound(c: Case, clauses: &[u64], constraints: &[u64], formula: &[u8]) -> bool
+    requires { ⌜ tablesFull (now clauses) (now constraints) (now formula) ≡ true ⌝ }
+    ensures { λ r. ⌜ r ≡ sound c (now (clauses .entry)) (now (constraints .entry)) (now (formula .entry)) ⌝ }
+{
+    if !limits_hold(c) {
+        return false;
+    }
+    if !clauses_sound(c.atoms, clauses, c.clauses) {
+        return false;
+    }
+    if !constraints_sound(c.atoms, constraints, c.constraints) {
+        return false;
+    }
+    if !is_within(c.atoms, words::lowest(c.atoms as u32), c.plain, c.negated) {
+        return false;
+    }
+    if !causes_few(c.atoms, clauses, c.clauses) {
+        return false;
+    }
+    let nodes = c.nodes;
+    logic::formula::one_formula(&formula[..nodes], c.atoms)
+}
