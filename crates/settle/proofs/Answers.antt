@@ -1,0 +1,79 @@
+-- Laws of what settling one setting answers: which refusal is due, and the answer with or without one. Assumes nothing.
+use mathlib.Core.Path.{_≡_, refl, sym, ap, ap₂, _∙_}
+use mathlib.Core.Bool.{Bool, true, false}
+use mathlib.Core.List.{List}
+use Prim.Native.Nat.{ℕ, suc, _≤_, _<_}
+use lib.Dec.{ltb}
+use borrow.Author.Tests.{lt-ltb, le-ltb}
+use Rattle.program.specs.declared.case.Case.{Case}
+use Rattle.program.specs.Case.{tablesFull}
+use Rattle.program.specs.Cause.{causesOf}
+use Rattle.program.specs.Setting.{settingsOf}
+use Rattle.program.specs.Sound.{sound}
+use Rattle.settle.specs.declared.operation.Answer.{Answer}
+use Rattle.settle.specs.declared.settle.Settled.{Settled}
+use Rattle.settle.specs.Rounds.{settled}
+use Rattle.settle.specs.Operation.{unless, settleRefusal, programOf, accepted, refusedWith, SettledOne}
+
+module _ (c : Case) (cl co fo : List ℕ) (s : ℕ) where
+  abbrev refusal : ℕ
+  refusal = settleRefusal c cl co fo s
+
+  -- ---- the refusal that is due
+  pub refusal-short : tablesFull cl co fo ≡ false → refusal ≡ 1
+  unfolding settleRefusal
+  refusal-short e = rw e
+
+  pub refusal-unsound : tablesFull cl co fo ≡ true → sound c cl co fo ≡ false → refusal ≡ 13
+  unfolding settleRefusal
+  refusal-unsound e f = rw (e, f)
+
+  due : ℕ
+  due = unless (ltb s (settingsOf (causesOf c cl))) 14 0
+
+  refusal-sound : tablesFull cl co fo ≡ true → sound c cl co fo ≡ true → refusal ≡ due
+  unfolding settleRefusal due
+  refusal-sound e f = rw (e, f)
+
+  pub refusal-past : tablesFull cl co fo ≡ true → sound c cl co fo ≡ true → settingsOf (causesOf c cl) ≤ s → refusal ≡ 14
+  unfolding due
+  refusal-past e f l = refusal-sound e f ∙ ap (λ (t : Bool). unless t 14 0) (le-ltb s (settingsOf (causesOf c cl)) l)
+
+  pub refusal-none : tablesFull cl co fo ≡ true → sound c cl co fo ≡ true → s < settingsOf (causesOf c cl) → refusal ≡ 0
+  unfolding due
+  refusal-none e f l = refusal-sound e f ∙ ap (λ (t : Bool). unless t 14 0) (lt-ltb s (settingsOf (causesOf c cl)) l)
+
+  -- ---- the answer
+  abbrev result : Settled
+  result = settled (programOf c cl s)
+
+  none-accepted : (n x : ℕ) → refusal ≡ suc n → 0 ≡ accepted refusal x
+  none-accepted n x e = rw e
+
+  all-accepted : (x : ℕ) → refusal ≡ 0 → x ≡ accepted refusal x
+  all-accepted x e = rw e
+
+  pub answer-refused : (n : ℕ) (r : Answer) → refusal ≡ suc n → r ≡ refusedWith (suc n) → SettledOne c cl co fo s r
+  answer-refused n r e q = record {
+    refusal-is = ap (λ (a : Answer). a .refusal) q ∙ sym e;
+    trues-are = ap (λ (a : Answer). a .trues) q ∙ none-accepted n (result .interpretation .trues) e;
+    falses-are = ap (λ (a : Answer). a .falses) q ∙ none-accepted n (result .interpretation .falses) e;
+    rounds-are = ap (λ (a : Answer). a .rounds) q ∙ none-accepted n (result .rounds) e;
+  }
+
+  -- the answer that hands a settled interpretation on
+  abbrev pub answerOf : Settled → Answer
+  answerOf r = record {
+    refusal = 0;
+    trues = r .interpretation .trues;
+    falses = r .interpretation .falses;
+    rounds = r .rounds;
+  }
+
+  pub answer-settled : (r : Settled) → refusal ≡ 0 → r ≡ result → SettledOne c cl co fo s (answerOf r)
+  answer-settled r e q = record {
+    refusal-is = sym e;
+    trues-are = ap (λ (x : Settled). x .interpretation .trues) q ∙ all-accepted (result .interpretation .trues) e;
+    falses-are = ap (λ (x : Settled). x .interpretation .falses) q ∙ all-accepted (result .interpretation .falses) e;
+    rounds-are = ap (λ (x : Settled). x .rounds) q ∙ all-accepted (result .rounds) e;
+  }

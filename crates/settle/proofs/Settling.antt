@@ -1,0 +1,54 @@
+-- Settling a steady program ends: the step keeps the settled interpretation, and each round before it changed
+-- something. Assumes nothing.
+use mathlib.Core.Path.{_≡_, refl, sym, ap, _∙_, subst}
+use mathlib.Core.Bool.{false, true≢false}
+use mathlib.Core.List.{List}
+use mathlib.Core.Logic.{_⊎_, inl, inr, ⊎-elim}
+use Prim.Native.Nat.{ℕ, zero, suc, _+_, _<_}
+use native.Mathlib.Numerals.{add-one}
+use native.Mathlib.Omega.{arith}
+use Rattle.logic.specs.Interpretation.{decidedIn}
+use Rattle.logic.proofs.Interpretations.{grow, same-in-refl}
+use Rattle.program.specs.Program.{Clause}
+use Rattle.settle.specs.declared.settle.Settled.{Settled}
+use Rattle.settle.specs.Step.{step}
+use Rattle.settle.specs.Rounds.{rounds, unchanged, roundCount, settled}
+use Rattle.settle.proofs.Steady.{Steady}
+use Rattle.settle.proofs.Reached.{Reached, good-decided, rounds-good, rounds-rise, start, onwards, again, ends}
+
+-- k rounds changed something, and one more does not
+pub record Ended (p : List Clause) (k : ℕ) : Type 0 where
+  pub fixed : rounds p k ≡ step p (rounds p k)
+  pub reached : Reached p (rounds p k) k
+
+module _ (p : List Clause) (s : Steady p) where
+  ended-count : (k : ℕ) → Ended p k → k ≡ roundCount p
+  unfolding settled
+  ended-count k d =
+      ap (λ (z : Settled). z .rounds) (ends p s (d .reached) (step p (rounds p k)) refl (ap decidedIn (sym (d .fixed))))
+
+  -- each of the rounds from k on decides one atom more, until the step keeps one
+  search-ended : (d k : ℕ) → Reached p (rounds p k) k → 64 < k + d → Ended p (roundCount p)
+  unfolding rounds
+  search-ended zero k r h = absurd (omega (arith, r .few, good-decided (rounds p k) (rounds-good p k)))
+  search-ended (suc d) k r h = go (search-ended d (suc k)) (onwards p s r)
+    where
+      moved : decidedIn (rounds p k) < decidedIn (step p (rounds p k)) → Reached p (rounds p (suc k)) (suc k)
+      moved q = rw add-one at (again p s r (step p (rounds p k)) refl (λ e. omega arith))
+
+      go : (Reached p (rounds p (suc k)) (suc k) → 64 < suc k + d → Ended p (roundCount p))
+          → (rounds p k ≡ step p (rounds p k)) ⊎ (decidedIn (rounds p k) < decidedIn (step p (rounds p k)))
+          → Ended p (roundCount p)
+      go f (inl e) = let x : Ended p k = record { fixed = e; reached = r } in subst (Ended p) (ended-count k x) x
+      go f (inr q) = f (moved q) (omega arith)
+
+  pub settled-ended : Ended p (roundCount p)
+  unfolding rounds
+  settled-ended = search-ended 65 0 (start p) (omega arith)
+
+  -- a round that changes something decides one atom more at least
+  pub changed-more : (k : ℕ) → unchanged p k ≡ false → decidedIn (rounds p k) < decidedIn (rounds p (suc k))
+  unfolding rounds
+  changed-more k h =
+      ⊎-elim (λ (e : rounds p k ≡ rounds p (suc k)). absurd (true≢false (sym (same-in-refl _ _ e) ∙ h))) (λ q. q)
+      (grow (rounds p k) (rounds p (suc k)) (rounds-good p k) (rounds-good p (suc k)) (rounds-rise p s k))

@@ -1,0 +1,79 @@
+-- A proof of each claim of specs/Claims.antt; each holds of every steady program whose heads are below n ≤ 64.
+-- Assumes nothing.
+use mathlib.Core.Path.{_≡_}
+use mathlib.Core.Bool.{true}
+use mathlib.Core.List.{List}
+use Prim.Native.Nat.{ℕ, _^_, _≤_, _<_}
+use native.Mathlib.Omega.{arith}
+use Rattle.logic.proofs.Interpretations.{decided-le, same-in-refl}
+use Rattle.program.specs.declared.case.Case.{Case}
+use Rattle.program.specs.Program.{Clause, headsOf}
+use Rattle.program.specs.Cause.{causesOf}
+use Rattle.program.specs.Setting.{additionsOf}
+use Rattle.program.specs.Sound.{sound}
+use Rattle.program.proofs.Causes.{causes-lt}
+use Rattle.program.proofs.Settings.{additions-facts-lt, additions-assumptions-lt}
+use Rattle.program.proofs.Soundness.{sound-atoms, sound-head}
+use Rattle.settle.specs.Rounds.{rounds, roundCount, settled}
+use Rattle.settle.specs.Operation.{programOf}
+use Rattle.settle.specs.Claims.{IsLeastModel, IsRoundCount, SettledLeastModel, RoundCountLeast}
+use Rattle.settle.proofs.Steady.{Steady, program-steady}
+use Rattle.settle.proofs.Heads.{HeadsBelow, rounds-within, program-heads-below}
+use Rattle.settle.proofs.Reached.{rounds-good}
+use Rattle.settle.proofs.Settling.{settled-ended, changed-more}
+use Rattle.settle.proofs.Models.{settled-least, least-unique}
+
+module _ (n : ℕ) (p : List Clause) (m : n ≤ 64) (s : Steady p) (b : HeadsBelow n p) where
+  pub steady-least-model : IsLeastModel n p (settled p .interpretation)
+  unfolding settled
+  steady-least-model = record {
+    least-model = settled-least n p s b m;
+    only-one = λ w k. least-unique n p _ w (settled-least n p s b m) k;
+    disjoint = rounds-good p (roundCount p) .disjoint;
+    trues-within = rounds-within n p b m (roundCount p) .0;
+    falses-within = rounds-within n p b m (roundCount p) .1;
+  }
+
+  rounds-few : roundCount p ≤ n
+  rounds-few =
+      let k = roundCount p in
+      let w = rounds-within n p b m k in
+      let d = decided-le n (rounds p k) (w .0) (w .1) (rounds-good p k .disjoint) in
+      omega (arith, settled-ended p s .reached .few, d)
+
+  pub steady-round-count : IsRoundCount n p (settled p .rounds)
+  unfolding settled rounds
+  steady-round-count = record {
+    unchanged-at = same-in-refl _ _ (settled-ended p s .fixed);
+    changed-before = settled-ended p s .reached .fresh;
+    at-most = rounds-few;
+    decides-more = λ j l. changed-more p s j (settled-ended p s .reached .fresh j l);
+  }
+
+-- ---- a sound case and a setting
+module _ (c : Case) (cl co fo : List ℕ) (s : ℕ) (h : sound c cl co fo ≡ true) where
+  atoms-le : c .atoms ≤ 64
+  atoms-le = sound-atoms c cl co fo h .1
+
+  causes-within : causesOf c cl < 2 ^ c .atoms
+  unfolding causesOf
+  causes-within = causes-lt (c .atoms) (headsOf cl (c .clauses)) atoms-le
+
+  sound-steady : Steady (programOf c cl s)
+  sound-steady = program-steady cl (c .clauses) (additionsOf (causesOf c cl) s)
+
+  sound-heads-below : HeadsBelow (c .atoms) (programOf c cl s)
+  sound-heads-below =
+      program-heads-below (c .atoms) cl (c .clauses) (additionsOf (causesOf c cl) s) (sound-head c cl co fo h)
+      (additions-facts-lt (causesOf c cl) s (c .atoms) atoms-le causes-within)
+      (additions-assumptions-lt (causesOf c cl) s (c .atoms) atoms-le causes-within)
+
+pub settled-least-model : SettledLeastModel
+settled-least-model c cl co fo s h =
+    steady-least-model (c .atoms) (programOf c cl s) (atoms-le c cl co fo s h) (sound-steady c cl co fo s h)
+    (sound-heads-below c cl co fo s h)
+
+pub round-count-least : RoundCountLeast
+round-count-least c cl co fo s h =
+    steady-round-count (c .atoms) (programOf c cl s) (atoms-le c cl co fo s h) (sound-steady c cl co fo s h)
+    (sound-heads-below c cl co fo s h)

@@ -1,0 +1,134 @@
+-- `settle_one` meets its contract: each refusal is the one that is due, and without one the callees' contracts compose.
+-- Assumes nothing.
+use mathlib.Core.Path.{_≡_, sym, ap, ap₂, _∙_, subst}
+use mathlib.Core.Bool.{true}
+use Prim.Native.Nat.{ℕ, _*_, _≤_, _<_}
+use native.Mathlib.Omega.{arith}
+use lib.Count.{ones}
+use lib.ListN.{length}
+use borrow.Author.Needs.{needs}
+use borrow.Author.Tests.{not-true, not-false}
+use Rattle.program.specs.declared.cause.Additions.{Additions}
+use Rattle.program.specs.Case.{tablesFull}
+use Rattle.program.specs.Program.{programWith}
+use Rattle.program.specs.Cause.{causesAmong, causesOf}
+use Rattle.program.specs.Setting.{settingsOf, additionsOf}
+use Rattle.program.specs.Sound.{sound}
+use Rattle.program.proofs.Soundness.{full-clauses, sound-atoms, sound-clauses, sound-few}
+use Rattle.settle.specs.Rounds.{settled}
+use Rattle.settle.proofs.Answers.{refusal-short, refusal-unsound, refusal-past, refusal-none, answer-refused, answer-settled}
+use Rattle.settle.proofs.operation.settle_one.Statement.{statement}
+use Rattle.settle.proofs.operation.settle_one.Tie as tie
+
+-- where the tables are full
+is-full : (c : tie.Else1) → let a = c .before .before .before .before .before .args in
+    tablesFull (a .clauses .now) (a .constraints .now) (a .formula .now) ≡ true
+is-full c = sym (c .before .tables-full .ensures) ∙ not-false _ (c .if1 .left)
+
+-- where the case is sound
+is-sound : (c : tie.Else2) → let a = c .before .before .before .before .before .before .before .args in
+    sound (a .c) (a .clauses .now) (a .constraints .now) (a .formula .now) ≡ true
+is-sound c = sym (c .before .is-sound .ensures) ∙ not-false _ (c .if2 .left)
+
+clauses-fit : (c : tie.Else2) → let a = c .before .before .before .before .before .before .before .args in
+    (a .c .clauses ≤ 256) × (3 * a .c .clauses ≤ length (a .clauses .now))
+clauses-fit c =
+    let a = c .before .before .before .before .before .before .before .args in
+    let l = sound-clauses (a .c) (a .clauses .now) (a .constraints .now) (a .formula .now) (is-sound c) in
+    let f = full-clauses (a .clauses .now) (a .constraints .now) (a .formula .now) (is-full (c .before .before)) in
+    (l, omega arith)
+
+causes-are : (c : tie.After-causes)
+    → let a = c .before .before .before .before .before .before .before .before .before .args in
+    c .causes .result ≡ causesOf (a .c) (a .clauses .now)
+unfolding causesOf
+causes-are c =
+    let a = c .before .before .before .before .before .before .before .before .before .args in
+    c .causes .ensures ∙ ap (causesAmong (a .c .atoms)) (c .before .heads .ensures)
+
+tables-full-requires : tie.Need-tables-full-requires
+tables-full-requires c κs = search needs
+
+refused-requires : tie.Need-refused-requires
+refused-requires c κs = search needs
+
+returns : tie.Need-returns
+returns c =
+    let short = sym (c .before .before .tables-full .ensures) ∙ not-true _ (c .before .if1 .taken) in
+    answer-refused _ _ _ _ _ 0 (c .refused .result) (refusal-short _ _ _ _ _ short) (c .refused .ensures)
+
+is-sound-requires : tie.Need-is-sound-requires
+is-sound-requires c κs = is-full c
+
+refused-requires-2 : tie.Need-refused-requires-2
+refused-requires-2 c κs = search needs
+
+returns-2 : tie.Need-returns-2
+returns-2 c =
+    let unsound = sym (c .before .before .is-sound .ensures) ∙ not-true _ (c .before .if2 .taken) in
+    answer-refused _ _ _ _ _ 12 (c .refused2 .result)
+    (refusal-unsound _ _ _ _ _ (is-full (c .before .before .before)) unsound) (c .refused2 .ensures)
+
+heads-requires : tie.Need-heads-requires
+heads-requires c κs = clauses-fit c
+
+causes-requires : tie.Need-causes-requires
+causes-requires c κs = sound-atoms _ _ _ _ (is-sound (c .before))
+
+settings-requires : tie.Need-settings-requires
+settings-requires c κs = rw (causes-are c) (sound-few _ _ _ _ (is-sound (c .before .before)))
+
+refused-requires-3 : tie.Need-refused-requires-3
+refused-requires-3 c κs = search needs
+
+settings-are : (c : tie.After-settings)
+    → let a = c .before .before .before .before .before .before .before .before .before .before .args in
+    c .settings .result ≡ settingsOf (causesOf (a .c) (a .clauses .now))
+settings-are c = c .settings .ensures ∙ ap settingsOf (causes-are (c .before))
+
+returns-3 : tie.Need-returns-3
+returns-3 c =
+    let d = c .before .before in
+    let a = d .before .before .before .before .before .before .before .before .before .before .args in
+    let past = subst (λ (n : ℕ). n ≤ a .setting) (settings-are d) (c .before .if3 .taken) in
+    answer-refused _ _ _ _ _ 13 (c .refused3 .result)
+    (refusal-past _ _ _ _ _ (is-full (d .before .before .before .before .before)) (is-sound (d .before .before .before)) past)
+    (c .refused3 .ensures)
+
+added-requires : tie.Need-added-requires
+added-requires c κs = search needs
+
+run-requires : tie.Need-run-requires
+run-requires c κs =
+    let d = c .before .before .before .before in
+    let l = clauses-fit (d .before) in
+    (l .0, l .1, d .heads .ensures)
+
+returns-4 : tie.Need-returns-4
+returns-4 c =
+    let d = c .before .before .before .before in
+    let a = d .before .before .before .before .before .before .before .before .before .before .args in
+    let below = subst (λ (n : ℕ). a .setting < n) (settings-are d) (omega arith) in
+    let added = c .before .before .added .ensures ∙ ap (λ (w : ℕ). additionsOf w (a .setting)) (causes-are (d .before)) in
+    answer-settled _ _ _ _ _ (c .before .run .result)
+    (refusal-none _ _ _ _ _ (is-full (d .before .before .before .before .before)) (is-sound (d .before .before .before)) below)
+    (c .before .run .ensures ∙ ap (λ (x : Additions). settled (programWith (a .clauses .now) (a .c .clauses) x)) added)
+
+pub settle-one-spec : {M : Type 1} → statement M
+settle-one-spec =
+    tie.close
+    (tie.spec
+    tables-full-requires
+    refused-requires
+    returns
+    is-sound-requires
+    refused-requires-2
+    returns-2
+    heads-requires
+    causes-requires
+    settings-requires
+    refused-requires-3
+    returns-3
+    added-requires
+    run-requires
+    returns-4)

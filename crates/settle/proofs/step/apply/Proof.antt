@@ -1,0 +1,125 @@
+-- `apply` meets its contract: the loop walks the clauses from the start, and keeps the two words disjoint (Passes.antt).
+-- The measure is the number of clauses left. Assumes nothing.
+use mathlib.Core.Path.{_≡_, refl, sym, ap, ap₂, _∙_, subst}
+use Prim.Native.Nat.{ℕ, _-_, _^_, _≤_, _<_}
+use native.Mathlib.Nat.{le-antisymm}
+use native.Mathlib.Omega.{arith}
+use borrow.Author.Needs.{needs}
+use Rattle.logic.specs.Interpretation.{valueAt, Disjoint}
+use Rattle.program.specs.Case.{headAt}
+use Rattle.program.specs.Program.{clauseAt}
+use Rattle.settle.proofs.Passes.{start, raised, raised-disjoint, walked, walked-more, walked-step, start-disjoint}
+use Rattle.settle.proofs.step.apply.Statement.{statement}
+use Rattle.settle.proofs.step.apply.Tie as tie
+
+abbrev Inv-loop : tie.InvT-loop
+Inv-loop i clauses n heads next₀ k₀ next k =
+    (k ≤ n) × Disjoint next × (next ≡ walked (valueAt i) clauses next₀ k)
+
+abbrev μ-loop : tie.MeasureT-loop
+μ-loop i clauses n heads next₀ k₀ next k = n - k
+
+loop-holds : tie.Need-loop-holds Inv-loop μ-loop
+unfolding walked
+loop-holds c =
+    let s = c .before .before .before in
+    let a = s .args in
+    let hf : a .added .facts < 2 ^ 64 = omega arith in
+    let hs : a .added .assumptions < 2 ^ 64 = omega arith in (
+      search needs,
+      subst (λ (h : ℕ). Disjoint (start h (a .added))) (sym (s .pre .3))
+          (start-disjoint (a .i) (a .clauses .now) (a .n) (a .added) hf hs),
+      refl,
+    )
+
+mul-at : tie.Need-mul-at Inv-loop μ-loop
+mul-at c = search needs
+
+mul-first : tie.Need-mul-first Inv-loop μ-loop
+mul-first c = search needs
+
+shared-slice-read-first : tie.Need-shared-slice-read-first Inv-loop μ-loop
+shared-slice-read-first c = search needs
+
+add-body-value : tie.Need-add-body-value Inv-loop μ-loop
+add-body-value c = search needs
+
+mul-body-value : tie.Need-mul-body-value Inv-loop μ-loop
+mul-body-value c = search needs
+
+shared-slice-read-body-value : tie.Need-shared-slice-read-body-value Inv-loop μ-loop
+shared-slice-read-body-value c = search needs
+
+add-body-value-2 : tie.Need-add-body-value-2 Inv-loop μ-loop
+add-body-value-2 c = search needs
+
+mul-body-value-2 : tie.Need-mul-body-value-2 Inv-loop μ-loop
+mul-body-value-2 c = search needs
+
+shared-slice-read-body-value-2 : tie.Need-shared-slice-read-body-value-2 Inv-loop μ-loop
+shared-slice-read-body-value-2 c = search needs
+
+body-value-requires : tie.Need-body-value-requires Inv-loop μ-loop
+body-value-requires c κs = search needs
+
+cast-raise : tie.Need-cast-raise Inv-loop μ-loop
+cast-raise c = search needs
+
+raise-requires : tie.Need-raise-requires Inv-loop μ-loop
+raise-requires c κs = search needs
+
+add-k : tie.Need-add-k Inv-loop μ-loop
+add-k c = search needs
+
+loop-less : tie.Need-loop-less Inv-loop μ-loop
+loop-less c = search needs
+
+loop-again : tie.Need-loop-again Inv-loop μ-loop
+unfolding clauseAt
+loop-again c =
+    let l = c .before .before .before .before .before .before in
+    let a = l .before .before .before .before .args in
+    let k = l .loop .k in
+    let h = headAt (a .clauses .now) k in (
+      search needs,
+      raised-disjoint _ (l .loop .next) h (c .before .body-value .result) (c .raise .ensures),
+      c .raise .ensures
+          ∙ ap (raised (l .loop .next) h) (c .before .body-value .ensures)
+          ∙ walked-more (valueAt (a .i)) (a .clauses .now) (l .loop .next) _ k (l .loop .inv .2),
+    )
+
+returns : tie.Need-returns Inv-loop μ-loop
+returns c =
+    let l = c .before in
+    let s = l .before .before .before .before in
+    let a = s .args in
+    let hf : a .added .facts < 2 ^ 64 = omega arith in
+    let hs : a .added .assumptions < 2 ^ 64 = omega arith in
+    l .loop .inv .2
+    ∙ ap₂ (λ (h m : ℕ). walked (valueAt (a .i)) (a .clauses .now) (start h (a .added)) m) (s .pre .3)
+    (le-antisymm (l .loop .inv .0) (c .loop-test .left))
+    ∙ walked-step (a .i) (a .clauses .now) (a .n) (a .added) hf hs
+
+pub apply-spec : {M : Type 1} → statement M
+apply-spec =
+    tie.close
+    (tie.spec
+    Inv-loop
+    μ-loop
+    loop-holds
+    mul-at
+    mul-first
+    shared-slice-read-first
+    add-body-value
+    mul-body-value
+    shared-slice-read-body-value
+    add-body-value-2
+    mul-body-value-2
+    shared-slice-read-body-value-2
+    body-value-requires
+    cast-raise
+    raise-requires
+    add-k
+    loop-less
+    loop-again
+    returns)

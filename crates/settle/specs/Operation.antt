@@ -1,0 +1,46 @@
+-- What the operation *settle one setting* answers, on every input.
+-- From: document 01, "What each operation refuses".
+--
+--   settleRefusal     0, or 1 a lent table too short, 13 the case isn't sound, 14 the setting is 3^k or more
+--   programOf         the case's program with a setting's facts and assumptions added
+--   refusedWith n     the answer of the refusal n
+--   SettledOne        the answer, part by part
+use mathlib.Core.Path.{_≡_}
+use mathlib.Core.Bool.{Bool, true, false}
+use mathlib.Core.List.{List}
+use Prim.Native.Nat.{ℕ, zero, suc}
+use lib.Dec.{ltb}
+use Rattle.program.specs.declared.case.Case.{Case}
+use Rattle.program.specs.Case.{tablesFull}
+use Rattle.program.specs.Program.{Clause, programWith}
+use Rattle.program.specs.Cause.{causesOf}
+use Rattle.program.specs.Setting.{settingsOf, additionsOf}
+use Rattle.program.specs.Sound.{sound}
+use Rattle.settle.specs.declared.operation.Answer.{Answer}
+use Rattle.settle.specs.Rounds.{settled}
+
+-- x where the test holds, otherwise the number of a refusal
+abbrev pub unless : Bool → ℕ → ℕ → ℕ
+unless true n x = x
+unless false n x = n
+
+unfoldable pub settleRefusal : Case → List ℕ → List ℕ → List ℕ → ℕ → ℕ
+settleRefusal c cl co fo s =
+    unless (tablesFull cl co fo) 1 (unless (sound c cl co fo) 13 (unless (ltb s (settingsOf (causesOf c cl))) 14 0))
+
+abbrev pub programOf : Case → List ℕ → ℕ → List Clause
+programOf c cl s = programWith cl (c .clauses) (additionsOf (causesOf c cl) s)
+
+-- x where nothing is refused, otherwise 0
+abbrev pub accepted : ℕ → ℕ → ℕ
+accepted zero x = x
+accepted (suc n) x = 0
+
+abbrev pub refusedWith : ℕ → Answer
+refusedWith n = record { refusal = n; trues = 0; falses = 0; rounds = 0 }
+
+pub record SettledOne (c : Case) (cl co fo : List ℕ) (s : ℕ) (r : Answer) : Type 0 where
+  pub refusal-is : r .refusal ≡ settleRefusal c cl co fo s
+  pub trues-are : r .trues ≡ accepted (settleRefusal c cl co fo s) (settled (programOf c cl s) .interpretation .trues)
+  pub falses-are : r .falses ≡ accepted (settleRefusal c cl co fo s) (settled (programOf c cl s) .interpretation .falses)
+  pub rounds-are : r .rounds ≡ accepted (settleRefusal c cl co fo s) (settled (programOf c cl s) .rounds)
