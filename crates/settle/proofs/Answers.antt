@@ -1,5 +1,5 @@
 -- Laws of what settling one setting answers: which refusal is due, and the answer with or without one. Assumes nothing.
-use mathlib.Core.Path.{_≡_, refl, sym, ap, ap₂, _∙_}
+use mathlib.Core.Path.{_≡_, sym, ap, _∙_}
 use mathlib.Core.Bool.{Bool, true, false}
 use mathlib.Core.List.{List}
 use Prim.Native.Nat.{ℕ, suc, _≤_, _<_}
@@ -35,7 +35,8 @@ module _ (c : Case) (cl co fo : List ℕ) (s : ℕ) where
   unfolding settleRefusal due
   refusal-sound e f = rw (e, f)
 
-  pub refusal-past : tablesFull cl co fo ≡ true → sound c cl co fo ≡ true → settingsOf (causesOf c cl) ≤ s → refusal ≡ 14
+  pub refusal-past : tablesFull cl co fo ≡ true → sound c cl co fo ≡ true → settingsOf (causesOf c cl) ≤ s
+      → refusal ≡ 14
   unfolding due
   refusal-past e f l = refusal-sound e f ∙ ap (λ (t : Bool). unless t 14 0) (le-ltb s (settingsOf (causesOf c cl)) l)
 

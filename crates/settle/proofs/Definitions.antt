@@ -1,5 +1,5 @@
--- Laws of the bodies of an atom in a table's clauses and in those that a set adds: whether there is one, and the value of
--- their "or". Assumes nothing.
+-- Laws of the bodies of an atom in a table's clauses and in those that a set adds: whether there is one, and the value
+-- of their "or". Assumes nothing.
 use mathlib.Core.Path.{_≡_, refl, sym, ap, ap₂, _∙_}
 use mathlib.Core.Bool.{Bool, true, false, _&&_, _||_}
 use mathlib.Core.List.{List, [], _∷_, _++_}
@@ -94,7 +94,9 @@ bodies-value-if v false b f a = refl
 module _ (x : Additions) (a : ℕ) where
   -- what is added for the atom b alone
   addedAt : ℕ → List Clause
-  addedAt b = clauseIf (has (x .facts) b) (clause b Formula.truth) ++ clauseIf (has (x .assumptions) b) (clause b Formula.falsity)
+  addedAt b =
+      clauseIf (has (x .facts) b) (clause b Formula.truth)
+      ++ clauseIf (has (x .assumptions) b) (clause b Formula.falsity)
 
   or-and : (s t e : Bool) → (s && e || t && e) ≡ ((s || t) && e)
   or-and true true true = refl
@@ -103,7 +105,8 @@ module _ (x : Additions) (a : ℕ) where
   or-and true false false = refl
   or-and false t e = refl
 
-  defines-below : (n : ℕ) → defines (addedBelow x n) a ≡ any n (λ b. (has (x .facts) b || has (x .assumptions) b) && eqb a b)
+  defines-below : (n : ℕ)
+      → defines (addedBelow x n) a ≡ any n (λ b. (has (x .facts) b || has (x .assumptions) b) && eqb a b)
   unfolding addedBelow bodiesOf addedAt
   defines-below zero = refl
   defines-below (suc b) =
@@ -126,7 +129,8 @@ module _ (x : Additions) (a : ℕ) where
   pick-false true = refl
   pick-false false = refl
 
-  bodies-value-at : (v : ℕ → Value) (b : ℕ) → bodiesValue v (addedAt b) a ≡ pickValue (has (x .facts) b && eqb a b) True False
+  bodies-value-at : (v : ℕ → Value) (b : ℕ)
+      → bodiesValue v (addedAt b) a ≡ pickValue (has (x .facts) b && eqb a b) True False
   unfolding valueOf addedAt
   bodies-value-at v b =
       let s = has (x .facts) b in
@@ -146,6 +150,7 @@ module _ (x : Additions) (a : ℕ) where
       ∙ pick-or (any b (λ i. has (x .facts) i && eqb a i)) (has (x .facts) b && eqb a b)
 
   -- the "or" of what a set adds for an atom is true where it adds a fact
-  pub bodies-value-added : (v : ℕ → Value) → a < 64 → bodiesValue v (addedBy x) a ≡ pickValue (has (x .facts) a) True False
+  pub bodies-value-added : (v : ℕ → Value) → a < 64
+      → bodiesValue v (addedBy x) a ≡ pickValue (has (x .facts) a) True False
   bodies-value-added v l =
       bodies-value-below v 64 ∙ ap (λ (t : Bool). pickValue t True False) (any-is 64 (has (x .facts)) a l)

@@ -1,24 +1,24 @@
 -- Given: the bodies of an atom, and the value that they give it.
--- Definitions: the bodies of an atom in a table's clauses and in what a set adds.
--- Passes: the step by one pass over the clauses.
 -- Programs: what holds of a program because it holds of its clauses.
 -- Steady: programs whose step keeps the order of information.
 -- Heads: programs whose heads are all below a number of atoms.
 -- Reached: the rounds rise, and the state of the loop that counts them.
 -- Settling: the rounds end.
 -- Models: the settled interpretation is the least model.
--- Answers: what settling one setting answers, refusal by refusal.
 -- Theorems: a proof of each claim of specs/Claims.antt.
--- Marked: the marked files M3, M9 and M10 settled by computation.
+-- Definitions: the bodies of an atom in a table's clauses and in those that a set adds.
+-- Passes: the step by one pass over the clauses.
+-- Answers: what settling one setting answers, with and without a refusal.
+-- Marked: the marked files settled by computation.
 pub mod Given
-pub mod Definitions
-pub mod Passes
 pub mod Programs
 pub mod Steady
 pub mod Heads
 pub mod Reached
 pub mod Settling
 pub mod Models
-pub mod Answers
 pub mod Theorems
+pub mod Definitions
+pub mod Passes
+pub mod Answers
 pub mod Marked

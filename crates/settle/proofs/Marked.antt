@@ -1,5 +1,5 @@
--- The marked files M3, M9 and M10 of document 01, settled by computation: for each of their settings the true atoms, the
--- false atoms and the rounds. Assumes nothing.
+-- The marked files M3, M9 and M10 of document 01, settled by computation: for each of their settings the true atoms,
+-- the false atoms and the rounds. Assumes nothing.
 use mathlib.Core.Path.{_≡_, refl}
 use mathlib.Core.List.{List, [], _∷_, _++_, map}
 use Prim.Native.Nat.{ℕ, zero, suc}

@@ -2,16 +2,18 @@
 -- Assumes nothing.
 use mathlib.Core.Path.{_≡_, refl, sym, ap, ap₂, subst, _∙_}
 use mathlib.Core.Bool.{Bool, true, false, not, _&&_, _||_, true≢false}
-use mathlib.Core.List.{List, [], _∷_, _++_}
+use mathlib.Core.List.{List}
 use Prim.Native.Nat.{ℕ, zero, suc, _+_, _-_, _^_, _≤_, _<_}
+use native.Mathlib.Nat.{lt-of-le-of-lt}
 use native.Mathlib.Omega.{arith}
 use native.Mathlib.Numerals.{add-one}
-use lib.Bits.{bitAnd, bitOr, and-lt, or-lt}
+use lib.Bits.{bitAnd, bitOr, and-le-l, and-lt, or-lt}
+use lib.Pow.{pow-pos}
 use lib.Dec.{eqb}
 use borrow.Author.Tests.{eqb-true, eq-eqb}
 use Rattle.words.specs.Bits.{has, word}
 use Rattle.words.proofs.Below.{any-false}
-use Rattle.words.proofs.Bits.{has-and, has-or, has-not}
+use Rattle.words.proofs.Bits.{has-zero, has-and, has-or, has-not, has-ext}
 use Rattle.words.proofs.Words.{is-word}
 use Rattle.logic.specs.declared.value.Value.{Value}
 use Rattle.logic.specs.declared.value.Value.the-variants.{False, Unknown, True}
@@ -25,9 +27,10 @@ use Rattle.program.specs.declared.cause.Additions.{Additions}
 use Rattle.program.specs.Case.{headAt}
 use Rattle.program.specs.Program.{clauseAt, clausesOf, addedBy, programWith, headed, headsOf}
 use Rattle.program.proofs.Heads.{head-lt, heads-lt, heads-has}
-use Rattle.settle.specs.Step.{bodiesOf, hasSome, given, nextValue, step}
+use Rattle.settle.specs.Step.{bodiesOf, given, nextValue, step}
 use Rattle.settle.proofs.Given.{given-some, given-none}
-use Rattle.settle.proofs.Definitions.{defines, bodiesValue, defines-append, defines-clauses, bodies-value-more, defines-added, bodies-value-added}
+use Rattle.settle.proofs.Definitions.{defines, bodiesValue, defines-append, defines-clauses, defines-added}
+use Rattle.settle.proofs.Definitions.{bodies-value-more, bodies-value-added}
 
 -- after k of n clauses, an atom that the whole program defines has the value of its bodies so far
 abbrev pub passed : (ℕ → Value) → List ℕ → ℕ → Additions → ℕ → ℕ → Value
@@ -60,6 +63,21 @@ walked-more v cl i j k e =
     ap (λ (m : Interpretation). raised m (headAt cl k) (valueOf v (clauseAt cl k .body))) e
     ∙ ap (walked v cl j) (sym (add-one k))
 
+-- nothing is both true and false at the start
+pub start-disjoint : (t w : ℕ) → t < 2 ^ 64 → bitAnd t (bitAnd w (2 ^ 64 - 1 - t)) ≡ 0
+start-disjoint t w h =
+    has-ext 64 _ 0 (lt-of-le-of-lt (and-le-l t _) h) (pow-pos 64)
+    (λ a l. has-and t (bitAnd w (2 ^ 64 - 1 - t)) a
+    ∙ ap (λ (b : Bool). has t a && b)
+    (has-and w (2 ^ 64 - 1 - t) a ∙ ap (λ (b : Bool). has w a && b) (has-not 64 t a h l))
+    ∙ apart (has t a) (has w a) ∙ sym (has-zero a))
+  where
+    apart : (s b : Bool) → (s && (b && not s)) ≡ false
+    apart true true = refl
+    apart true false = refl
+    apart false b = refl
+
+-- ---- the atoms that a program defines
 defines-with : (cl : List ℕ) (n : ℕ) (x : Additions) (a : ℕ) → a < 64
     → defines (programWith cl n x) a ≡ (headed cl n a || (has (x .facts) a || has (x .assumptions) a))
 defines-with cl n x a l =
@@ -86,7 +104,8 @@ false-start false false true = refl
 false-start false false false = refl
 
 module _ (v : ℕ → Value) (cl : List ℕ) (n : ℕ) (x : Additions) where
-  passed-none : (a : ℕ) → a < 64 → passed v cl n x 0 a ≡ startValue (headed cl n a) (has (x .facts) a) (has (x .assumptions) a)
+  passed-none : (a : ℕ) → a < 64
+      → passed v cl n x 0 a ≡ startValue (headed cl n a) (has (x .facts) a) (has (x .assumptions) a)
   unfolding clausesOf
   passed-none a l =
       ap₂ (λ (d : Bool) (w : Value). pickValue d w Unknown) (defines-with cl n x a l) (bodies-value-added x a v l)
@@ -95,7 +114,8 @@ module _ (v : ℕ → Value) (cl : List ℕ) (n : ℕ) (x : Additions) where
     start-trues : x .facts ≡ word 64 (λ a. isTrue (passed v cl n x 0 a))
     start-trues =
         is-word 64 (x .facts) (λ a. isTrue (passed v cl n x 0 a)) hf
-        (λ a l. sym (ap isTrue (passed-none a l) ∙ true-start (headed cl n a) (has (x .facts) a) (has (x .assumptions) a)))
+        (λ a l. sym (ap isTrue (passed-none a l)
+        ∙ true-start (headed cl n a) (has (x .facts) a) (has (x .assumptions) a)))
 
     start-falses : start (headsOf cl n) x .falses ≡ word 64 (λ a. isFalse (passed v cl n x 0 a))
     start-falses =
@@ -108,7 +128,7 @@ module _ (v : ℕ → Value) (cl : List ℕ) (n : ℕ) (x : Additions) where
         (has-not 64 (x .facts) a hf l)
         ∙ sym (ap isFalse (passed-none a l) ∙ false-start (headed cl n a) (has (x .facts) a) (has (x .assumptions) a)))
 
-    pub start-passed : start (headsOf cl n) x ≡ ofValues (passed v cl n x 0)
+    start-passed : start (headsOf cl n) x ≡ ofValues (passed v cl n x 0)
     start-passed = interpretation-eq start-trues start-falses
 
   -- ---- one clause more
@@ -141,11 +161,13 @@ module _ (v : ℕ → Value) (cl : List ℕ) (n : ℕ) (x : Additions) where
 
     passed-more : (a : ℕ) → passed v cl n x (suc k) a ≡ more a (defines (programWith cl n x) a) (eqb a head)
     passed-more a =
-        ap (λ (u : Value). pickValue (defines (programWith cl n x) a) u Unknown) (bodies-value-more v cl (addedBy x) k a)
+        ap (λ (u : Value). pickValue (defines (programWith cl n x) a) u Unknown)
+        (bodies-value-more v cl (addedBy x) k a)
 
     raised-head : greater (passed v cl n x k head) value ≡ passed v cl n x (suc k) head
     raised-head =
-        ap (λ (d : Bool). greater (pickValue d (bodiesValue v (programWith cl k x) head) Unknown) value) (defines-head k l)
+        ap (λ (d : Bool). greater (pickValue d (bodiesValue v (programWith cl k x) head) Unknown) value)
+        (defines-head k l)
         ∙ sym (passed-more head ∙ ap₂ (more head) (defines-head k l) (eq-eqb head head refl))
 
     raised-other : (a : ℕ) → eqb a head ≡ false → passed v cl n x k a ≡ passed v cl n x (suc k) a
@@ -173,7 +195,7 @@ module _ (v : ℕ → Value) (cl : List ℕ) (n : ℕ) (x : Additions) where
         ∙ raised-at a)
 
   -- ---- after the last clause
-  pub passed-all : (a : ℕ) → passed v cl n x n a ≡ nextValue (programWith cl n x) v a
+  passed-all : (a : ℕ) → passed v cl n x n a ≡ nextValue (programWith cl n x) v a
   unfolding nextValue
   passed-all a = go (defines (programWith cl n x) a) refl
     where
@@ -182,8 +204,10 @@ module _ (v : ℕ → Value) (cl : List ℕ) (n : ℕ) (x : Additions) where
       go true e = sym (given-some v (bodiesOf (programWith cl n x) a) e)
       go false e = sym (given-none v (bodiesOf (programWith cl n x) a) e)
 
-module _ (i : Interpretation) (cl : List ℕ) (n : ℕ) (x : Additions) (hf : x .facts < 2 ^ 64) (hs : x .assumptions < 2 ^ 64) where
-  walked-passed : (k : ℕ) → k ≤ n → walked (valueAt i) cl (start (headsOf cl n) x) k ≡ ofValues (passed (valueAt i) cl n x k)
+module _ (i : Interpretation) (cl : List ℕ) (n : ℕ) (x : Additions)
+    (hf : x .facts < 2 ^ 64) (hs : x .assumptions < 2 ^ 64) where
+  walked-passed : (k : ℕ) → k ≤ n
+      → walked (valueAt i) cl (start (headsOf cl n) x) k ≡ ofValues (passed (valueAt i) cl n x k)
   unfolding walked
   walked-passed zero l = start-passed (valueAt i) cl n x hf hs
   walked-passed (suc k) l =
@@ -193,10 +217,4 @@ module _ (i : Interpretation) (cl : List ℕ) (n : ℕ) (x : Additions) (hf : x 
 
   pub walked-step : walked (valueAt i) cl (start (headsOf cl n) x) n ≡ step (programWith cl n x) i
   unfolding step
-  walked-step =
-      walked-passed n (omega arith) ∙ values-ext _ _ (λ a l. passed-all (valueAt i) cl n x a)
-
-  -- nothing is both true and false at the start
-  pub start-disjoint : Disjoint (start (headsOf cl n) x)
-  start-disjoint =
-      subst Disjoint (sym (start-passed (valueAt i) cl n x hf hs)) (values-good (passed (valueAt i) cl n x 0) .disjoint)
+  walked-step = walked-passed n (omega arith) ∙ values-ext _ _ (λ a l. passed-all (valueAt i) cl n x a)

@@ -20,7 +20,7 @@ use Rattle.logic.proofs.Interpretations.{same-in-eq, same-in-refl}
 use Rattle.program.specs.Program.{Clause}
 use Rattle.settle.specs.declared.settle.Settled.{Settled}
 use Rattle.settle.specs.Step.{nextValue, step}
-use Rattle.settle.specs.Rounds.{rounds, unchanged, roundCount, settled}
+use Rattle.settle.specs.Rounds.{rounds, unchanged, roundLimit, roundCount, settled}
 use Rattle.settle.proofs.Steady.{Steady, step-mono}
 
 pub good-decided : (i : Interpretation) → Good i → decidedIn i ≤ 64
@@ -105,5 +105,5 @@ module _ (p : List Clause) (s : Steady p) where
 
         found : k ≡ roundCount p
         found =
-            sym (first-is 64 (unchanged p) 0 k (omega arith) (omega (arith, r .few, good-decided i (reached-good p r)))
-            passes (r .fresh))
+            sym (first-is roundLimit (unchanged p) 0 k (omega arith)
+            (omega (arith, r .few, good-decided i (reached-good p r))) passes (r .fresh))

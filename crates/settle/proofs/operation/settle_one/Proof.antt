@@ -1,10 +1,9 @@
 -- `settle_one` meets its contract: each refusal is the one that is due, and without one the callees' contracts compose.
 -- Assumes nothing.
-use mathlib.Core.Path.{_≡_, sym, ap, ap₂, _∙_, subst}
+use mathlib.Core.Path.{_≡_, sym, ap, _∙_}
 use mathlib.Core.Bool.{true}
 use Prim.Native.Nat.{ℕ, _*_, _≤_, _<_}
 use native.Mathlib.Omega.{arith}
-use lib.Count.{ones}
 use lib.ListN.{length}
 use borrow.Author.Needs.{needs}
 use borrow.Author.Tests.{not-true, not-false}
@@ -16,7 +15,8 @@ use Rattle.program.specs.Setting.{settingsOf, additionsOf}
 use Rattle.program.specs.Sound.{sound}
 use Rattle.program.proofs.Soundness.{full-clauses, sound-atoms, sound-clauses, sound-few}
 use Rattle.settle.specs.Rounds.{settled}
-use Rattle.settle.proofs.Answers.{refusal-short, refusal-unsound, refusal-past, refusal-none, answer-refused, answer-settled}
+use Rattle.settle.proofs.Answers.{refusal-short, refusal-unsound, refusal-past, refusal-none}
+use Rattle.settle.proofs.Answers.{answer-refused, answer-settled}
 use Rattle.settle.proofs.operation.settle_one.Statement.{statement}
 use Rattle.settle.proofs.operation.settle_one.Tie as tie
 
@@ -90,9 +90,10 @@ returns-3 : tie.Need-returns-3
 returns-3 c =
     let d = c .before .before in
     let a = d .before .before .before .before .before .before .before .before .before .before .args in
-    let past = subst (λ (n : ℕ). n ≤ a .setting) (settings-are d) (c .before .if3 .taken) in
+    let past : settingsOf (causesOf (a .c) (a .clauses .now)) ≤ a .setting = omega (arith, settings-are d) in
     answer-refused _ _ _ _ _ 13 (c .refused3 .result)
-    (refusal-past _ _ _ _ _ (is-full (d .before .before .before .before .before)) (is-sound (d .before .before .before)) past)
+    (refusal-past _ _ _ _ _ (is-full (d .before .before .before .before .before)) (is-sound (d .before .before .before))
+    past)
     (c .refused3 .ensures)
 
 added-requires : tie.Need-added-requires
@@ -108,10 +109,12 @@ returns-4 : tie.Need-returns-4
 returns-4 c =
     let d = c .before .before .before .before in
     let a = d .before .before .before .before .before .before .before .before .before .before .args in
-    let below = subst (λ (n : ℕ). a .setting < n) (settings-are d) (omega arith) in
-    let added = c .before .before .added .ensures ∙ ap (λ (w : ℕ). additionsOf w (a .setting)) (causes-are (d .before)) in
+    let below : a .setting < settingsOf (causesOf (a .c) (a .clauses .now)) = omega (arith, settings-are d) in
+    let added =
+    c .before .before .added .ensures ∙ ap (λ (w : ℕ). additionsOf w (a .setting)) (causes-are (d .before)) in
     answer-settled _ _ _ _ _ (c .before .run .result)
-    (refusal-none _ _ _ _ _ (is-full (d .before .before .before .before .before)) (is-sound (d .before .before .before)) below)
+    (refusal-none _ _ _ _ _ (is-full (d .before .before .before .before .before)) (is-sound (d .before .before .before))
+    below)
     (c .before .run .ensures ∙ ap (λ (x : Additions). settled (programWith (a .clauses .now) (a .c .clauses) x)) added)
 
 pub settle-one-spec : {M : Type 1} → statement M

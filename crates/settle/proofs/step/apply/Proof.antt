@@ -1,6 +1,6 @@
--- `apply` meets its contract: the loop walks the clauses from the start, and keeps the two words disjoint (Passes.antt).
--- The measure is the number of clauses left. Assumes nothing.
-use mathlib.Core.Path.{_≡_, refl, sym, ap, ap₂, _∙_, subst}
+-- `apply` meets its contract: the loop walks the clauses (`walked` of Passes.antt) and keeps the two words disjoint. The
+-- measure is the number of clauses left. Assumes nothing.
+use mathlib.Core.Path.{_≡_, refl, ap, ap₂, _∙_}
 use Prim.Native.Nat.{ℕ, _-_, _^_, _≤_, _<_}
 use native.Mathlib.Nat.{le-antisymm}
 use native.Mathlib.Omega.{arith}
@@ -8,7 +8,8 @@ use borrow.Author.Needs.{needs}
 use Rattle.logic.specs.Interpretation.{valueAt, Disjoint}
 use Rattle.program.specs.Case.{headAt}
 use Rattle.program.specs.Program.{clauseAt}
-use Rattle.settle.proofs.Passes.{start, raised, raised-disjoint, walked, walked-more, walked-step, start-disjoint}
+use Rattle.settle.proofs.Passes.{start, start-disjoint, raised, raised-disjoint}
+use Rattle.settle.proofs.Passes.{walked, walked-more, walked-step}
 use Rattle.settle.proofs.step.apply.Statement.{statement}
 use Rattle.settle.proofs.step.apply.Tie as tie
 
@@ -22,15 +23,9 @@ abbrev μ-loop : tie.MeasureT-loop
 loop-holds : tie.Need-loop-holds Inv-loop μ-loop
 unfolding walked
 loop-holds c =
-    let s = c .before .before .before in
-    let a = s .args in
+    let a = c .before .before .before .args in
     let hf : a .added .facts < 2 ^ 64 = omega arith in
-    let hs : a .added .assumptions < 2 ^ 64 = omega arith in (
-      search needs,
-      subst (λ (h : ℕ). Disjoint (start h (a .added))) (sym (s .pre .3))
-          (start-disjoint (a .i) (a .clauses .now) (a .n) (a .added) hf hs),
-      refl,
-    )
+    (search needs, rw (start-disjoint (a .added .facts)) refl, refl)
 
 mul-at : tie.Need-mul-at Inv-loop μ-loop
 mul-at c = search needs
