@@ -1,0 +1,138 @@
+-- Laws of names added to names: none is lost, each of those added is found, and they differ. Assumes nothing.
+use mathlib.Core.Path.{_≡_, refl, sym, _∙_, subst}
+use mathlib.Core.List.{List, [], _∷_, _++_, List·Memᴰ, List·Memᴰ·not-nil, List·Memᴰ·cases-cons}
+use mathlib.Core.Logic.{⊎-elim}
+use Prim.Native.Nat.{ℕ, _≤_, _<_}
+use native.Mathlib.Nat.{not-suc-le-zero, le-refl, le-trans, eq-or-lt-of-le}
+use native.Mathlib.Omega.{arith}
+use lib.Dec.{ltb}
+use lib.ListN.{length, getD, length-append, List·getD-append}
+use lib.Seq.{getD-append-seam}
+use borrow.Author.Tests.{lt-ltb, le-ltb, ltb-true, ltb-false}
+use Rattle.names.specs.Names.{atomOf, withName, withNames}
+use Rattle.names.specs.Distinct.{Distinct}
+use Rattle.names.proofs.Atoms.{by-test, atom-name, atom-first, atom-append}
+
+-- distinct names
+
+pub distinct-none : Distinct []
+unfolding Distinct
+distinct-none = λ i j lt h e. not-suc-le-zero h
+
+-- a name that is not found differs from each
+new-differs : (ns : List (List ℕ)) (w : List ℕ) (i : ℕ) → length ns ≤ atomOf ns w → i < length ns
+    → getD ns i [] ≡ w → ⊥
+new-differs ns w i h l e = let a = atom-first ns w i l e in omega arith
+
+pub distinct-push : (ns : List (List ℕ)) (w : List ℕ) → length ns ≤ atomOf ns w → Distinct ns
+    → Distinct (ns ++ (w ∷ []))
+unfolding Distinct
+distinct-push ns w h d = λ i j lt k e.
+    let n = length-append ns (w ∷ []) in
+    let le : j ≤ length ns = omega arith in
+    let f : getD ns i [] ≡ getD (ns ++ (w ∷ [])) j [] = sym (List·getD-append ns (w ∷ []) [] i (omega arith)) ∙ e in
+    let last : j ≡ length ns → getD (ns ++ (w ∷ [])) j [] ≡ w = λ q. rw q (getD-append-seam ns w [] []) in
+    ⊎-elim
+    (λ q. new-differs ns w i h (omega arith) (f ∙ last q))
+    (λ p. d i j lt p (f ∙ List·getD-append ns (w ∷ []) [] j p))
+    (eq-or-lt-of-le le)
+
+-- among names that differ, the number of the name at place i is i
+pub distinct-atom : (ns : List (List ℕ)) (i : ℕ) → Distinct ns → i < length ns → atomOf ns (getD ns i []) ≡ i
+unfolding Distinct
+distinct-atom ns i d h =
+    let w : List ℕ = getD ns i [] in
+    let le : atomOf ns w ≤ i = atom-first ns w i h refl in
+    ⊎-elim
+    (λ e. e)
+    (λ lt. absurd (d (atomOf ns w) i lt h (atom-name ns w (omega arith))))
+    (eq-or-lt-of-le le)
+
+-- one name
+
+module _ (ns : List (List ℕ)) (w : List ℕ) where
+  pub with-name-known : atomOf ns w < length ns → withName ns w ≡ ns
+  unfolding withName
+  with-name-known h = rw (lt-ltb _ _ h)
+
+  pub with-name-new : length ns ≤ atomOf ns w → withName ns w ≡ ns ++ (w ∷ [])
+  unfolding withName
+  with-name-new h = rw (le-ltb _ _ h)
+
+  -- either way
+  by-name : {P : Type 0} → (withName ns w ≡ ns → atomOf ns w < length ns → P)
+      → (withName ns w ≡ ns ++ (w ∷ []) → length ns ≤ atomOf ns w → P) → P
+  by-name f g =
+      by-test
+      (ltb (atomOf ns w) (length ns))
+      (λ t. let h = ltb-true _ _ t in f (with-name-known h) h)
+      (λ t. let h = ltb-false _ _ t in g (with-name-new h) h)
+
+  pub with-name-length : length ns ≤ length (withName ns w)
+  with-name-length =
+      by-name (λ e h. rw e (le-refl (length ns))) (λ e h. rw (e, length-append ns (w ∷ [])) (omega arith))
+
+  -- a name that is found keeps its number
+  pub with-name-atom : (v : List ℕ) → atomOf ns v < length ns → atomOf (withName ns w) v ≡ atomOf ns v
+  with-name-atom v h = by-name (λ e k. rw e) (λ e k. rw e (atom-append ns (w ∷ []) v h))
+
+  pub with-name-found : atomOf (withName ns w) w < length (withName ns w)
+  with-name-found =
+      let n = length-append ns (w ∷ []) in
+      let f = atom-first (ns ++ (w ∷ [])) w (length ns) (omega arith) (getD-append-seam ns w [] []) in
+      by-name (λ e h. rw e h) (λ e h. rw e (omega arith))
+
+  pub with-name-distinct : Distinct ns → Distinct (withName ns w)
+  with-name-distinct d = by-name (λ e h. rw e d) (λ e h. rw e (distinct-push ns w h d))
+
+-- several names
+
+pub with-names-length : (ns ws : List (List ℕ)) → length ns ≤ length (withNames ns ws)
+unfolding withNames
+with-names-length ns [] = le-refl (length ns)
+with-names-length ns (w ∷ ws) = le-trans (with-name-length ns w) (with-names-length (withName ns w) ws)
+
+pub with-names-distinct : (ns ws : List (List ℕ)) → Distinct ns → Distinct (withNames ns ws)
+unfolding withNames
+with-names-distinct ns [] d = d
+with-names-distinct ns (w ∷ ws) d = with-names-distinct (withName ns w) ws (with-name-distinct ns w d)
+
+-- a name that is found keeps its number
+pub with-names-atom : (ns ws : List (List ℕ)) (v : List ℕ) → atomOf ns v < length ns
+    → atomOf (withNames ns ws) v ≡ atomOf ns v
+unfolding withNames
+with-names-atom ns [] v h = refl
+with-names-atom ns (w ∷ ws) v h =
+    let e = with-name-atom ns w v h in
+    let n = with-name-length ns w in
+    with-names-atom (withName ns w) ws v (omega arith) ∙ e
+
+-- and is found still
+pub with-names-kept : (ns ws : List (List ℕ)) (v : List ℕ) → atomOf ns v < length ns
+    → atomOf (withNames ns ws) v < length (withNames ns ws)
+with-names-kept ns ws v h =
+    let e = with-names-atom ns ws v h in
+    let n = with-names-length ns ws in
+    omega arith
+
+-- each of ws is so
+abbrev pub Each : (List ℕ → Type 0) → List (List ℕ) → Type 0
+Each P [] = Unit {0}
+Each P (w ∷ ws) = P w × Each P ws
+
+pub each-member : (P : List ℕ → Type 0) (ws : List (List ℕ)) (w : List ℕ) → Each P ws → List·Memᴰ w ws → P w
+each-member P [] w h m = absurd (List·Memᴰ·not-nil m)
+each-member P (v ∷ ws) w h m =
+    ⊎-elim (λ e. subst P (sym e) (h .0)) (λ k. each-member P ws w (h .1) k) (List·Memᴰ·cases-cons m)
+
+-- each name that was added is found
+pub each-found : (ns ws : List (List ℕ)) → Each (λ w. atomOf (withNames ns ws) w < length (withNames ns ws)) ws
+unfolding withNames
+each-found ns [] = tt
+each-found ns (w ∷ ws) =
+    (with-names-kept (withName ns w) ws w (with-name-found ns w), each-found (withName ns w) ws)
+
+pub names-found : (ns ws : List (List ℕ)) (w : List ℕ) → List·Memᴰ w ws
+    → atomOf (withNames ns ws) w < length (withNames ns ws)
+names-found ns ws w m =
+    each-member (λ v. atomOf (withNames ns ws) v < length (withNames ns ws)) ws w (each-found ns ws) m

@@ -1,0 +1,12 @@
+-- Atoms: the number of a name among names.
+-- Adding: names added to names: which are found, and that they differ.
+-- Rows: the rows of a table that holds names.
+-- Search: the search for a name in such a table.
+-- Interning: names added to a table that holds names.
+-- LineNames: the names of a line from a place on.
+pub mod Atoms
+pub mod Adding
+pub mod Rows
+pub mod Search
+pub mod Interning
+pub mod LineNames

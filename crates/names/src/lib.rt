@@ -1,0 +1,131 @@
+// Names in a table of rows of 16 bytes.
+ghost use mathlib.Core.Path.{_≡_};
+ghost use mathlib.Core.Bool.{false};
+ghost use mathlib.Core.List.{List};
+ghost use Prim.Native.Nat.{ℕ, _+_, _*_, _≤_, _<_};
+ghost use lib.ListN.{length};
+ghost use lib.Seq.{slice};
+ghost use Rattle.text.specs.Bytes.{sameBytes};
+ghost use Rattle.text.specs.Tokens.{tokens};
+ghost use Rattle.table.specs.Filled.{padded};
+ghost use Rattle.names.specs.Names.{namesIn, someLong};
+ghost use Rattle.names.specs.Held.{Named, Holds, FoundIn, Interned, LineInterned};
+use text::tokens::Next;
+use text::tokens::token;
+
+// Whether row i is the part of l from a to e, followed by zeros.
+pub fn row_is(names: &[u8], i: usize, l: &[u8], a: usize, e: usize) -> bool
+    requires { ⌜ (i < 64) × (1024 ≤ length (now names)) × (a ≤ e) × (e ≤ length (now l)) ⌝ }
+    ensures { λ r. ⌜ r ≡ sameBytes (slice (i * 16) (i * 16 + 16) (now (names .entry))) (padded 16 (slice a e (now (l .entry)))) ⌝ }
+{
+    let base = i * 16;
+    let mut j = 0;
+    while j < 16 {
+        if names[base + j] != table::byte_or_zero(l, a, e, j) {
+            return false;
+        }
+        j += 1;
+    }
+    true
+}
+
+// The atom whose name is the part of l from a to e, or count where none of the count names is.
+pub fn find(names: &[u8], count: usize, l: &[u8], a: usize, e: usize) -> usize
+    requires { ⌜ (count ≤ 64) × (1024 ≤ length (now names)) × (a ≤ e) × (e ≤ length (now l)) ⌝ }
+    ensures { λ r. ⌜ FoundIn (now (names .entry)) count (slice a e (now (l .entry))) r ⌝ }
+{
+    let mut i = 0;
+    while i < count {
+        if row_is(names, i, l, a, e) {
+            return i;
+        }
+        i += 1;
+    }
+    count
+}
+
+// Adds the part of l from a to e to the count names, unless it is one; answers how many there are, 65 where there is no
+// room.
+pub fn intern(names: &mut [u8], count: usize, l: &[u8], a: usize, e: usize) -> usize
+    requires { ⌜ (count ≤ 64) × (1024 ≤ length (now names)) × (a ≤ e) × (e ≤ length (now l)) ⌝ }
+    ensures { λ r. ⌜ ((ns : List (List ℕ)) (old : List ℕ) → length ns ≡ count → Holds ns old (now (names .entry)) → Named (slice a e (now (l .entry))) → Interned ns old (slice a e (now (l .entry))) r (now (names .exit))) ⌝ }
+{
+    let i = find(names, count, l, a, e);
+    if i < count {
+        return count;
+    }
+    if 64 <= count {
+        return 65;
+    }
+    table::put_row(names, count * 16, 16, l, a, e);
+    count + 1
+}
+
+// Adds the names of a line to the count names; answers how many there are, over 64 where there is no room.
+pub fn intern_line(l: &[u8], names: &mut [u8], count: usize) -> usize
+    requires { ⌜ (count ≤ 64) × (1024 ≤ length (now names)) ⌝ }
+    ensures { λ r. ⌜ ((ns : List (List ℕ)) (old : List ℕ) → length ns ≡ count → Holds ns old (now (names .entry)) → someLong (namesIn (tokens (now (l .entry)))) ≡ false → LineInterned ns (namesIn (tokens (now (l .entry)))) old r (now (names .exit))) ⌝ }
+{
+    let mut at = 0;
+    let mut n = count;
+    let mut opened = false;
+    loop {
+        match token(l, at) {
+            Next::End => {
+                return n;
+            }
+            Next::Open(i) => {
+                opened = true;
+                at = i;
+            }
+            Next::Close(i) => {
+                opened = false;
+                at = i;
+            }
+            Next::Word(a, e) => {
+                if opened {
+                    opened = false;
+                } else {
+                    n = intern(names, n, l, a, e);
+                    if 64 < n {
+                        return n;
+                    }
+                }
+                at = e;
+            }
+        }
+    }
+}
+
+// Whether some name of a line is over 16 bytes.
+pub fn some_long(l: &[u8]) -> bool
+    ensures { λ r. ⌜ r ≡ someLong (namesIn (tokens (now (l .entry)))) ⌝ }
+{
+    let mut at = 0;
+    let mut opened = false;
+    loop {
+        match token(l, at) {
+            Next::End => {
+                return false;
+            }
+            Next::Open(i) => {
+                opened = true;
+                at = i;
+            }
+            Next::Close(i) => {
+                opened = false;
+                at = i;
+            }
+            Next::Word(a, e) => {
+                if opened {
+                    opened = false;
+                } else {
+                    if 16 < e - a {
+                        return true;
+                    }
+                }
+                at = e;
+            }
+        }
+    }
+}

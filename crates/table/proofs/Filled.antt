@@ -1,0 +1,127 @@
+-- Laws of tables whose first entries are filled, and of padded rows; and a loop that zeroes a table's first entries.
+-- Assumes nothing.
+use mathlib.Core.Path.{_≡_, refl, ap, _∙_}
+use mathlib.Core.List.{List, [], _∷_, _++_, append-assoc, append-nil}
+use Prim.Native.Nat.{ℕ, zero, suc, _+_, _≤_, _<_}
+use native.Mathlib.Nat.{not-suc-le-zero, le-of-suc-le-suc, le-antisymm, suc-add, zero-add}
+use native.Mathlib.Numerals.{add-one}
+use native.Mathlib.Omega.{arith}
+use lib.ListN.{length, take, drop, getD, set, length-append, length-set}
+use lib.Seq.{sets}
+use Rattle.table.specs.Filled.{filled, padded}
+
+-- filled
+
+pub filled-length : (n : ℕ) (l old : List ℕ) → length (filled n l old) ≡ length old
+unfolding filled
+filled-length zero l old = refl
+filled-length (suc n) l [] = refl
+filled-length (suc n) [] (o ∷ old) = ap suc (filled-length n [] old)
+filled-length (suc n) (x ∷ l) (o ∷ old) = ap suc (filled-length n l old)
+
+-- a second filling hides the first
+pub filled-again : (n : ℕ) (l m old : List ℕ) → filled n l (filled n m old) ≡ filled n l old
+unfolding filled
+filled-again zero l m old = refl
+filled-again (suc n) l m [] = refl
+filled-again (suc n) [] [] (o ∷ old) = rw (filled-again n [] [] old)
+filled-again (suc n) [] (y ∷ m) (o ∷ old) = rw (filled-again n [] m old)
+filled-again (suc n) (x ∷ l) [] (o ∷ old) = rw (filled-again n l [] old)
+filled-again (suc n) (x ∷ l) (y ∷ m) (o ∷ old) = rw (filled-again n l m old)
+
+-- an entry is stored behind l
+pub filled-push : (n : ℕ) (l old : List ℕ) (x : ℕ) → length l < n → n ≤ length old
+    → set (filled n l old) (length l) x ≡ filled n (l ++ (x ∷ [])) old
+unfolding filled
+filled-push zero l old x h k = absurd (not-suc-le-zero h)
+filled-push (suc n) l [] x h k = absurd (not-suc-le-zero k)
+filled-push (suc n) [] (o ∷ old) x h k = refl
+filled-push (suc n) (y ∷ l) (o ∷ old) x h k = rw (filled-push n l old x (le-of-suc-le-suc h) (le-of-suc-le-suc k))
+
+pub filled-pushes : (n : ℕ) (l vs old : List ℕ) → length l + length vs ≤ n → n ≤ length old
+    → sets (filled n l old) (length l) vs ≡ filled n (l ++ vs) old
+filled-pushes n l [] old h k = rw (append-nil l)
+filled-pushes n l (v ∷ vs) old h k =
+    let e : length (l ++ (v ∷ [])) ≡ suc (length l) = length-append l (v ∷ []) ∙ add-one (length l) in
+    let ih = filled-pushes n (l ++ (v ∷ [])) vs old (omega arith) k in
+    rw (filled-push n l old v (omega arith) k, ← e, ih, append-assoc)
+
+pub filled-at : (n : ℕ) (l old : List ℕ) (i : ℕ) → i < n → n ≤ length old → getD (filled n l old) i 0 ≡ getD l i 0
+unfolding filled
+filled-at zero l old i h k = absurd (not-suc-le-zero h)
+filled-at (suc n) l [] i h k = absurd (not-suc-le-zero k)
+filled-at (suc n) [] (o ∷ old) zero h k = refl
+filled-at (suc n) [] (o ∷ old) (suc i) h k = filled-at n [] old i (le-of-suc-le-suc h) (le-of-suc-le-suc k) ∙ refl
+filled-at (suc n) (x ∷ l) (o ∷ old) zero h k = refl
+filled-at (suc n) (x ∷ l) (o ∷ old) (suc i) h k = filled-at n l old i (le-of-suc-le-suc h) (le-of-suc-le-suc k)
+
+pub filled-take : (n : ℕ) (l old : List ℕ) → n ≤ length old → take n (filled n l old) ≡ padded n l
+unfolding filled padded
+filled-take zero l old h = refl
+filled-take (suc n) l [] h = absurd (not-suc-le-zero h)
+filled-take (suc n) [] (o ∷ old) h = rw (filled-take n [] old (le-of-suc-le-suc h))
+filled-take (suc n) (x ∷ l) (o ∷ old) h = rw (filled-take n l old (le-of-suc-le-suc h))
+
+-- the entries from n on are kept
+pub filled-drop : (n : ℕ) (l old : List ℕ) → drop n (filled n l old) ≡ drop n old
+unfolding filled
+filled-drop zero l old = refl
+filled-drop (suc n) l [] = refl
+filled-drop (suc n) [] (o ∷ old) = filled-drop n [] old
+filled-drop (suc n) (x ∷ l) (o ∷ old) = filled-drop n l old
+
+-- padded
+
+pub padded-length : (n : ℕ) (l : List ℕ) → length (padded n l) ≡ n
+unfolding padded
+padded-length zero l = refl
+padded-length (suc n) [] = ap suc (padded-length n [])
+padded-length (suc n) (x ∷ l) = ap suc (padded-length n l)
+
+pub padded-at : (n : ℕ) (l : List ℕ) (i : ℕ) → i < n → getD (padded n l) i 0 ≡ getD l i 0
+unfolding padded
+padded-at zero l i h = absurd (not-suc-le-zero h)
+padded-at (suc n) [] zero h = refl
+padded-at (suc n) [] (suc i) h = padded-at n [] i (le-of-suc-le-suc h)
+padded-at (suc n) (x ∷ l) zero h = refl
+padded-at (suc n) (x ∷ l) (suc i) h = padded-at n l i (le-of-suc-le-suc h)
+
+padded-own : (l : List ℕ) → padded (length l) l ≡ l
+unfolding padded
+padded-own [] = refl
+padded-own (x ∷ l) = rw (padded-own l)
+
+pub padded-full : (n : ℕ) (l : List ℕ) → length l ≡ n → padded n l ≡ l
+padded-full n l h = rw (← h) (padded-own l)
+
+padded-behind : (n : ℕ) (l m : List ℕ) → padded (length l + n) (l ++ m) ≡ l ++ padded n m
+unfolding padded
+padded-behind n [] m = rw (zero-add n)
+padded-behind n (x ∷ l) m = rw (suc-add, padded-behind n l m)
+
+-- only what stands behind the first k entries is padded
+pub padded-append : (k n : ℕ) (l m : List ℕ) → length l ≡ k → padded (k + n) (l ++ m) ≡ l ++ padded n m
+padded-append k n l m h = rw (← h) (padded-behind n l m)
+
+-- one entry more is zeroed
+pub filled-zero : (n : ℕ) (old : List ℕ) → n < length old → set (filled n [] old) n 0 ≡ filled (suc n) [] old
+unfolding filled
+filled-zero n [] h = absurd (not-suc-le-zero h)
+filled-zero zero (o ∷ old) h = refl
+filled-zero (suc n) (o ∷ old) h = rw (filled-zero n old (le-of-suc-le-suc h))
+
+-- the table t when a loop has zeroed the first i of n entries of t₀: at its start, after a turn and at its end
+abbrev pub Zeroed : List ℕ → ℕ → List ℕ → ℕ → Type 0
+Zeroed t₀ n t i = (i ≤ n) × (length t ≡ length t₀) × (t ≡ filled i [] t₀)
+
+pub zeroed-none : (t₀ : List ℕ) (n : ℕ) → Zeroed t₀ n t₀ 0
+unfolding filled
+zeroed-none t₀ n = (omega arith, refl, refl)
+
+pub zeroed-more : (t₀ : List ℕ) (n : ℕ) (t : List ℕ) (i : ℕ) → i < n → n ≤ length t₀ → Zeroed t₀ n t i
+    → Zeroed t₀ n (set t i 0) (i + 1)
+zeroed-more t₀ n t i h k (b, l, e) =
+    (omega arith, simp length-set l, rw (e, add-one) (filled-zero i t₀ (omega arith)))
+
+pub zeroed-all : (t₀ : List ℕ) (n : ℕ) (t : List ℕ) (i : ℕ) → n ≤ i → Zeroed t₀ n t i → t ≡ filled n [] t₀
+zeroed-all t₀ n t i h (b, l, e) = e ∙ ap (λ k. filled k [] t₀) (le-antisymm b h)

@@ -1,0 +1,5 @@
+-- The laws of this crate, a file for each notion. Assumes nothing.
+-- Filled: laws of filled and padded.
+-- Stores: laws of stores one by one, for the loops that fill a table.
+pub mod Filled
+pub mod Stores

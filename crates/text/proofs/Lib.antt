@@ -1,0 +1,13 @@
+-- The laws of this crate, a file for each notion. Assumes nothing.
+-- Slices: a part of a list with one entry more.
+-- ByteLaws: the tests of bytes, and a test of every byte.
+-- Same: the comparison of bytes.
+-- LineLaws: the lines of a file.
+-- TokenLaws: the words and brackets of a line.
+-- Words: what the words of a line are made of.
+pub mod Slices
+pub mod ByteLaws
+pub mod Same
+pub mod LineLaws
+pub mod TokenLaws
+pub mod Words

@@ -1,0 +1,51 @@
+-- What the words of a line are made of: at least one byte, and bytes that stand in words only. Assumes nothing.
+use mathlib.Core.Path.{_≡_, refl, subst}
+use mathlib.Core.Bool.{Bool, true, false}
+use mathlib.Core.List.{List, [], _∷_, _++_}
+use Prim.Native.Nat.{ℕ, _<_}
+use native.Mathlib.Omega.{arith}
+use lib.Dec.{eqb}
+use lib.ListN.{length}
+use Rattle.text.specs.Bytes.{isWordByte, allOf}
+use Rattle.text.specs.Tokens.{Token, pickTokens, ended, bracket, tokensFrom, tokens}
+use Rattle.text.proofs.ByteLaws.{all-push}
+
+-- a word that holds a byte, and only bytes that stand in words
+abbrev pub IsWord : List ℕ → Type 0
+IsWord w = (0 < length w) × (allOf isWordByte w ≡ true)
+
+-- every word of a list of tokens is so
+abbrev pub WordBytes : List Token → Type 0
+WordBytes [] = Unit {0}
+WordBytes (Token.opening ∷ ts) = WordBytes ts
+WordBytes (Token.closing ∷ ts) = WordBytes ts
+WordBytes (Token.word w ∷ ts) = IsWord w × WordBytes ts
+
+pub ended-bytes : (w : List ℕ) (ts : List Token) → allOf isWordByte w ≡ true → WordBytes ts → WordBytes (ended w ts)
+ended-bytes [] ts h k = k
+ended-bytes (b ∷ w) ts h k = ((omega arith, h), k)
+
+picked-bytes : (t : Bool) (x y : List Token) → (t ≡ true → WordBytes x) → (t ≡ false → WordBytes y)
+    → WordBytes (pickTokens t x y)
+picked-bytes true x y f g = f refl
+picked-bytes false x y f g = g refl
+
+pub bracket-bytes : (b : ℕ) (ts : List Token) → WordBytes ts → WordBytes (bracket b ts)
+bracket-bytes b ts h =
+    picked-bytes (eqb b 40) _ _ (λ _. h) (λ _. picked-bytes (eqb b 41) _ _ (λ _. h) (λ _. h))
+
+pub tokens-from-bytes : (w l : List ℕ) → allOf isWordByte w ≡ true → WordBytes (tokensFrom w l)
+unfolding tokensFrom allOf
+tokens-from-bytes w [] h = ended-bytes w [] h tt
+tokens-from-bytes w (b ∷ l) h =
+    picked-bytes (isWordByte b) _ _
+    (λ t. tokens-from-bytes (w ++ (b ∷ [])) l (all-push isWordByte w b h t))
+    (λ _. ended-bytes w _ h (bracket-bytes b _ (tokens-from-bytes [] l refl)))
+
+pub tokens-word-bytes : (l : List ℕ) → WordBytes (tokens l)
+unfolding allOf
+tokens-word-bytes l = tokens-from-bytes [] l refl
+
+-- the first word of a line, or of what is left of it
+pub first-word-bytes : (l w : List ℕ) (ts : List Token) → tokens l ≡ Token.word w ∷ ts → IsWord w
+first-word-bytes l w ts e = subst WordBytes e (tokens-word-bytes l) .0

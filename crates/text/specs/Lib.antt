@@ -1,0 +1,9 @@
+-- In reading order.
+-- Bytes: which bytes stand in words, and which a line may have.
+-- Lines: the lines of a file.
+-- Tokens: the words and brackets of a line.
+-- Scanning: what scanning from a place finds.
+pub mod Bytes
+pub mod Lines
+pub mod Tokens
+pub mod Scanning
