@@ -1,6 +1,6 @@
 -- Laws of names added to names: none is lost, each of those added is found, and they differ. Assumes nothing.
-use mathlib.Core.Path.{_≡_, refl, sym, _∙_, subst}
-use mathlib.Core.List.{List, [], _∷_, _++_, List·Memᴰ, List·Memᴰ·not-nil, List·Memᴰ·cases-cons}
+use mathlib.Core.Path.{_≡_, refl, sym, _∙_}
+use mathlib.Core.List.{List, [], _∷_, _++_, List·Memᴰ}
 use mathlib.Core.Logic.{⊎-elim}
 use Prim.Native.Nat.{ℕ, _≤_, _<_}
 use native.Mathlib.Nat.{not-suc-le-zero, le-refl, le-trans, eq-or-lt-of-le}
@@ -11,6 +11,7 @@ use lib.Seq.{getD-append-seam}
 use borrow.Author.Tests.{lt-ltb, le-ltb, ltb-true, ltb-false}
 use Rattle.names.specs.Names.{atomOf, withName, withNames}
 use Rattle.names.specs.Distinct.{Distinct}
+use Rattle.names.proofs.Each.{Each, each-member, each-append}
 use Rattle.names.proofs.Atoms.{by-test, atom-name, atom-first, atom-append}
 
 -- distinct names
@@ -19,23 +20,21 @@ pub distinct-none : Distinct []
 unfolding Distinct
 distinct-none = λ i j lt h e. not-suc-le-zero h
 
--- a name that is not found differs from each
-new-differs : (ns : List (List ℕ)) (w : List ℕ) (i : ℕ) → length ns ≤ atomOf ns w → i < length ns
-    → getD ns i [] ≡ w → ⊥
-new-differs ns w i h l e = let a = atom-first ns w i l e in omega arith
-
 pub distinct-push : (ns : List (List ℕ)) (w : List ℕ) → length ns ≤ atomOf ns w → Distinct ns
     → Distinct (ns ++ (w ∷ []))
 unfolding Distinct
-distinct-push ns w h d = λ i j lt k e.
+distinct-push ns w h d =
+    λ i j lt k e.
     let n = length-append ns (w ∷ []) in
+    let f : getD (ns ++ (w ∷ [])) i [] ≡ getD ns i [] = List·getD-append ns (w ∷ []) [] i (omega arith) in
+    let last : j ≡ length ns → ⊥ =
+    λ q.
+    let g : getD (ns ++ (w ∷ [])) j [] ≡ w = rw q (getD-append-seam ns w [] []) in
+    let a = atom-first ns w i (omega arith) (sym f ∙ e ∙ g) in
+    omega arith
+    in
     let le : j ≤ length ns = omega arith in
-    let f : getD ns i [] ≡ getD (ns ++ (w ∷ [])) j [] = sym (List·getD-append ns (w ∷ []) [] i (omega arith)) ∙ e in
-    let last : j ≡ length ns → getD (ns ++ (w ∷ [])) j [] ≡ w = λ q. rw q (getD-append-seam ns w [] []) in
-    ⊎-elim
-    (λ q. new-differs ns w i h (omega arith) (f ∙ last q))
-    (λ p. d i j lt p (f ∙ List·getD-append ns (w ∷ []) [] j p))
-    (eq-or-lt-of-le le)
+    ⊎-elim last (λ p. d i j lt p (sym f ∙ e ∙ List·getD-append ns (w ∷ []) [] j p)) (eq-or-lt-of-le le)
 
 -- among names that differ, the number of the name at place i is i
 pub distinct-atom : (ns : List (List ℕ)) (i : ℕ) → Distinct ns → i < length ns → atomOf ns (getD ns i []) ≡ i
@@ -43,10 +42,10 @@ unfolding Distinct
 distinct-atom ns i d h =
     let w : List ℕ = getD ns i [] in
     let le : atomOf ns w ≤ i = atom-first ns w i h refl in
-    ⊎-elim
-    (λ e. e)
-    (λ lt. absurd (d (atomOf ns w) i lt h (atom-name ns w (omega arith))))
-    (eq-or-lt-of-le le)
+    let never : atomOf ns w < i → atomOf ns w ≡ i =
+    λ lt. absurd (d (atomOf ns w) i lt h (atom-name ns w (omega arith)))
+    in
+    ⊎-elim (λ e. e) never (eq-or-lt-of-le le)
 
 -- one name
 
@@ -78,9 +77,12 @@ module _ (ns : List (List ℕ)) (w : List ℕ) where
 
   pub with-name-found : atomOf (withName ns w) w < length (withName ns w)
   with-name-found =
+      by-name
+      (λ e h. rw e h)
+      (λ e h.
       let n = length-append ns (w ∷ []) in
       let f = atom-first (ns ++ (w ∷ [])) w (length ns) (omega arith) (getD-append-seam ns w [] []) in
-      by-name (λ e h. rw e h) (λ e h. rw e (omega arith))
+      rw e (omega arith))
 
   pub with-name-distinct : Distinct ns → Distinct (withName ns w)
   with-name-distinct d = by-name (λ e h. rw e d) (λ e h. rw e (distinct-push ns w h d))
@@ -115,16 +117,6 @@ with-names-kept ns ws v h =
     let n = with-names-length ns ws in
     omega arith
 
--- each of ws is so
-abbrev pub Each : (List ℕ → Type 0) → List (List ℕ) → Type 0
-Each P [] = Unit {0}
-Each P (w ∷ ws) = P w × Each P ws
-
-pub each-member : (P : List ℕ → Type 0) (ws : List (List ℕ)) (w : List ℕ) → Each P ws → List·Memᴰ w ws → P w
-each-member P [] w h m = absurd (List·Memᴰ·not-nil m)
-each-member P (v ∷ ws) w h m =
-    ⊎-elim (λ e. subst P (sym e) (h .0)) (λ k. each-member P ws w (h .1) k) (List·Memᴰ·cases-cons m)
-
 -- each name that was added is found
 pub each-found : (ns ws : List (List ℕ)) → Each (λ w. atomOf (withNames ns ws) w < length (withNames ns ws)) ws
 unfolding withNames
@@ -136,3 +128,13 @@ pub names-found : (ns ws : List (List ℕ)) (w : List ℕ) → List·Memᴰ w ws
     → atomOf (withNames ns ws) w < length (withNames ns ws)
 names-found ns ws w m =
     each-member (λ v. atomOf (withNames ns ws) v < length (withNames ns ws)) ws w (each-found ns ws) m
+
+-- what holds of each of the names and of each that is added
+module _ (P : List ℕ → Type 0) where
+  with-name-each : (ns : List (List ℕ)) (w : List ℕ) → Each P ns → P w → Each P (withName ns w)
+  with-name-each ns w h k = by-name ns w (λ e _. rw e h) (λ e _. rw e (each-append P ns (w ∷ []) h (k, tt)))
+
+  pub with-names-each : (ns ws : List (List ℕ)) → Each P ns → Each P ws → Each P (withNames ns ws)
+  unfolding withNames
+  with-names-each ns [] h k = h
+  with-names-each ns (w ∷ ws) h k = with-names-each (withName ns w) ws (with-name-each ns w h (k .0)) (k .1)

@@ -1,9 +1,11 @@
+-- Each: what holds of each entry of a list.
 -- Atoms: the number of a name among names.
 -- Adding: names added to names: which are found, and that they differ.
 -- Rows: the rows of a table that holds names.
 -- Search: the search for a name in such a table.
 -- Interning: names added to a table that holds names.
 -- LineNames: the names of a line from a place on.
+pub mod Each
 pub mod Atoms
 pub mod Adding
 pub mod Rows

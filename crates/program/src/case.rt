@@ -22,6 +22,7 @@ impl Case {
     pub const NODES: usize = 128;
 
     pub const CAUSES: u32 = 10;
+
     // Sizes of the lent tables: words of clauses, words of constraints, bytes of the formula.
     pub const CLAUSE_WORDS: usize = 768;
 
