@@ -45,7 +45,7 @@ module _ (w : List ℕ) (ws : List (List ℕ)) where
 
 -- Named
 
-no-zero : (w : List ℕ) → allOf isWordByte w ≡ true → NoZero w
+pub no-zero : (w : List ℕ) → allOf isWordByte w ≡ true → NoZero w
 no-zero [] h = NoZero.none
 no-zero (b ∷ w) h =
     NoZero.more (word-byte-not-zero b (all-head isWordByte b w h)) (no-zero w (all-tail isWordByte b w h))

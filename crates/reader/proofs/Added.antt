@@ -1,0 +1,193 @@
+-- What was read stays right with a line that passes its checks, and so is right at the end of an accepted file.
+-- Assumes nothing.
+use mathlib.Core.Path.{_≡_, refl, ap, subst}
+use mathlib.Core.Bool.{Bool, true, false, not}
+use mathlib.Core.List.{List, [], _∷_}
+use Prim.Native.Nat.{ℕ, zero, suc, _*_, _≤_, _<_}
+use native.Mathlib.Omega.{arith}
+use lib.Dec.{leb}
+use lib.ListN.{length}
+use borrow.Author.Tests.{leb-false, ltb-false, not-false}
+use Rattle.text.specs.Lines.{lines, isComment}
+use Rattle.text.specs.Tokens.{tokens}
+use Rattle.logic.specs.Formula.{Formula}
+use Rattle.program.specs.Sound.{bare, shaped, fewCauses}
+use Rattle.names.specs.Names.{namesIn, withNames}
+use Rattle.names.proofs.Adding.{each-found}
+use Rattle.grammar.specs.Sentence.{Sentence, depthOf}
+use Rattle.grammar.specs.Line.{Line, Literal, lineOf}
+use Rattle.grammar.specs.Parsing.{sizeOf}
+use Rattle.grammar.proofs.Sentences.{EachName}
+use Rattle.grammar.proofs.Sizes.{tokens-le-bytes}
+use Rattle.grammar.proofs.Names.{EachLiteral, EachOfLine}
+use Rattle.grammar.proofs.Shapes.{Bodied, Shaped, line-shaped}
+use Rattle.reader.specs.Saying.{ClauseRow, ConstraintRow, Said, nothingSaid, plainAtoms, negatedAtoms, encoded}
+use Rattle.reader.specs.Saying.{clauseRow, constraintRow, renamed, withClause, withConstraint, withObserved}
+use Rattle.reader.specs.Saying.{withQuery, saidBy}
+use Rattle.reader.specs.Checks.{isDeep, isOneTooMany, isSecondQuery, lineRefusal}
+use Rattle.reader.specs.Reading.{Outcome, pickSaid, saidAfter, clauseWords, refuseEnd, ending}
+use Rattle.reader.specs.Reading.{readLines, readFile}
+use Rattle.reader.proofs.Encoded.{Known, encoded-length, encoded-depth, encoded-over}
+use Rattle.reader.proofs.Literals.{or-atoms-lt, plain-lt, negated-lt, none-bare, body-not-bare}
+use Rattle.reader.proofs.LineNames.{names-line, names-named}
+use Rattle.reader.proofs.Passing.{FormPasses, line-passes}
+use Rattle.reader.proofs.Right.{rows-push, Below, ClauseRight, ConstraintRight, QueryRight, Right}
+use Rattle.reader.proofs.Right.{nothing-right, renamed-right}
+use Rattle.reader.proofs.FirstBad.{or-else-cases}
+
+-- An entry more
+
+module _ (st : Said) (r : Right st) where
+  clause-right : (c : ClauseRow) → leb 256 (length (st .clauses)) ≡ false → ClauseRight (length (st .names)) c
+      → Right (withClause st c)
+  clause-right c h k = record {
+    names-right = r .names-right;
+    distinct = r .distinct;
+    clauses-right = rows-push _ 256 (st .clauses) c (r .clauses-right) (leb-false 256 _ h) k;
+    constraints-right = r .constraints-right;
+    observed-right = r .observed-right;
+    queries-right = r .queries-right;
+  }
+
+  constraint-right : (c : ConstraintRow) → leb 32 (length (st .constraints)) ≡ false
+      → ConstraintRight (length (st .names)) c → Right (withConstraint st c)
+  constraint-right c h k = record {
+    names-right = r .names-right;
+    distinct = r .distinct;
+    clauses-right = r .clauses-right;
+    constraints-right = rows-push _ 32 (st .constraints) c (r .constraints-right) (leb-false 32 _ h) k;
+    observed-right = r .observed-right;
+    queries-right = r .queries-right;
+  }
+
+  observed-right : (l : List Literal)
+      → Below (length (st .names)) (plainAtoms (st .names) l) (negatedAtoms (st .names) l) → Right (withObserved st l)
+  observed-right l b = record {
+    names-right = r .names-right;
+    distinct = r .distinct;
+    clauses-right = r .clauses-right;
+    constraints-right = r .constraints-right;
+    observed-right = record {
+      plain-lt = or-atoms-lt _ _ _ (r .names-right .few) (r .observed-right .plain-lt) (b .plain-lt);
+      negated-lt = or-atoms-lt _ _ _ (r .names-right .few) (r .observed-right .negated-lt) (b .negated-lt);
+    };
+    queries-right = r .queries-right;
+  }
+
+  query-right : (f : Formula) → leb 1 (length (st .queries)) ≡ false → QueryRight (length (st .names)) f
+      → Right (withQuery st f)
+  query-right f h k = record {
+    names-right = r .names-right;
+    distinct = r .distinct;
+    clauses-right = r .clauses-right;
+    constraints-right = r .constraints-right;
+    observed-right = r .observed-right;
+    queries-right = rows-push _ 1 (st .queries) f (r .queries-right) (leb-false 1 _ h) k;
+  }
+
+-- What a line's parts make, where their names are all among ns
+
+module _ (ns : List (List ℕ)) (h : length ns ≤ 64) where
+  literals-below : (l : List Literal) → EachLiteral (Known ns) l
+      → Below (length ns) (plainAtoms ns l) (negatedAtoms ns l)
+  literals-below l k = record { plain-lt = plain-lt ns l h k; negated-lt = negated-lt ns l h k }
+
+  bare-right : (kind : ℕ) (w : List ℕ) → kind < 2 → Known ns w → ClauseRight (length ns) (clauseRow ns kind w [])
+  bare-right kind w l k = record { head-lt = k; below = literals-below [] tt; shape = go kind l }
+    where
+      go : (i : ℕ) → i < 2 → shaped i (bare (plainAtoms ns []) (negatedAtoms ns [])) ≡ true
+      go zero m = none-bare ns
+      go (suc zero) m = none-bare ns
+      go (suc (suc i)) m = absurd (omega arith)
+
+  rule-right : (w : List ℕ) (l : List Literal) → Known ns w → Bodied l → EachLiteral (Known ns) l
+      → ClauseRight (length ns) (clauseRow ns 2 w l)
+  rule-right w l k b e =
+      record { head-lt = k; below = literals-below l e; shape = ap not (body-not-bare ns l h b e) }
+
+  never-right : (l : List Literal) → Bodied l → EachLiteral (Known ns) l
+      → ConstraintRight (length ns) (constraintRow ns l)
+  never-right l b e = record { below = literals-below l e; some = body-not-bare ns l h b e }
+
+  sentence-right : (f : Sentence) → EachName (Known ns) f → 2 * sizeOf f ≤ 200 → depthOf f ≤ 16
+      → QueryRight (length ns) (encoded ns f)
+  sentence-right f k s d = record {
+    over-atoms = encoded-over ns f k;
+    not-deep = omega (arith, encoded-depth ns f);
+    nodes-few = omega (arith, encoded-length ns f);
+  }
+
+said-right : (ns : List (List ℕ)) (st : Said) (x : Line) (n : ℕ) → Right (renamed ns st) → EachOfLine (Known ns) x
+    → Shaped n x → n ≤ 200 → isDeep x ≡ false → isOneTooMany st x ≡ false → isSecondQuery st x ≡ false
+    → Right (saidBy (renamed ns st) x)
+unfolding saidBy
+said-right ns st Line.skipped n r p b s d m q = r
+said-right ns st Line.noForm n r p b s d m q = r
+said-right ns st (Line.fact w) n r p b s d m q =
+    clause-right _ r _ m (bare-right ns (r .names-right .few) 0 w (omega arith) p)
+said-right ns st (Line.assumption w) n r p b s d m q =
+    clause-right _ r _ m (bare-right ns (r .names-right .few) 1 w (omega arith) p)
+said-right ns st (Line.rule w l) n r p b s d m q =
+    clause-right _ r _ m (rule-right ns (r .names-right .few) w l (p .0) b (p .1))
+said-right ns st (Line.never l) n r p b s d m q = constraint-right _ r _ m (never-right ns (r .names-right .few) l b p)
+said-right ns st (Line.seen (Literal.literal a w)) n r p b s d m q =
+    let l = Literal.literal a w ∷ [] in
+    observed-right _ r l (literals-below ns (r .names-right .few) l (p, tt))
+said-right ns st (Line.query f) n r p b s d m q =
+    query-right _ r _ q (sentence-right ns (r .names-right .few) f p (omega arith) (ltb-false 16 _ d))
+
+-- A line
+
+form-right : (st : Said) (l : List ℕ) → Right st → length l ≤ 200 → FormPasses st (tokens l)
+    → Right (saidBy (renamed (withNames (st .names) (namesIn (tokens l))) st) (lineOf (tokens l)))
+form-right st l r h p =
+    let ws : List (List ℕ) = namesIn (tokens l) in
+    let ns : List (List ℕ) = withNames (st .names) ws in
+    let named = renamed-right st ws r (names-named l (p .is-form) (p .names-short)) (p .names-few) in
+    let known = names-line (Known ns) (tokens l) (each-found (st .names) ws) in
+    said-right ns st (lineOf (tokens l)) (length (tokens l)) named known (line-shaped (tokens l))
+    (omega (arith, tokens-le-bytes l)) (p .not-deep) (p .rows-few) (p .only-query)
+
+picked-right : (t : Bool) (x y : Said) → Right x → (t ≡ false → Right y) → Right (pickSaid t x y)
+picked-right true x y h k = h
+picked-right false x y h k = k refl
+
+pub line-right : (st : Said) (l : List ℕ) → Right st → lineRefusal st l ≡ 0 → Right (saidAfter st l)
+unfolding saidAfter
+line-right st l r e =
+    let p = line-passes st l e in
+    picked-right (isComment l) st _ r (λ c. form-right st l r (p .short) (p .form-passes c))
+
+-- A file
+
+pub record Ended (st : Said) : Type 0 where
+  pub right : Right st
+  pub query-there : 0 < length (st .queries)
+  pub causes-few : fewCauses (length (st .names)) (clauseWords (st .clauses)) (length (st .clauses)) ≡ true
+
+not-refused-end : (t : Bool) (n : ℕ) (o : Outcome) (st : Said) → refuseEnd t n o ≡ Outcome.case st
+    → (t ≡ false) × (o ≡ Outcome.case st)
+not-refused-end true n o st e = let z : _≡_ {A = ℕ} 0 1 = cc in absurd (omega arith)
+not-refused-end false n o st e = (refl, e)
+
+ending-right : (st s : Said) → Right st → ending st ≡ Outcome.case s → Ended s
+unfolding ending
+ending-right st s r e =
+    let eleven = not-refused-end (leb (length (st .queries)) 0) 11 _ s e in
+    let few = fewCauses (length (st .names)) (clauseWords (st .clauses)) (length (st .clauses)) in
+    let twelve = not-refused-end (not few) 12 _ s (eleven .1) in
+    let same : st ≡ s = cc in
+    subst Ended same
+    record { right = r; query-there = leb-false _ 0 (eleven .0); causes-few = not-false few (twelve .0) }
+
+lines-right : (ls : List (List ℕ)) (st s : Said) (k : ℕ) → Right st → readLines ls st k ≡ Outcome.case s → Ended s
+unfolding readLines
+lines-right [] st s k r e = ending-right st s r e
+lines-right (l ∷ ls) st s k r e =
+    or-else-cases (lineRefusal st l) k _ _ e
+    (λ q d. lines-right ls (saidAfter st l) s (suc k) (line-right st l r q) d)
+    (λ n q d. let z : _≡_ {A = ℕ} 0 1 = cc in absurd (omega arith))
+
+pub accepted-right : (f : List ℕ) (st : Said) → readFile f ≡ Outcome.case st → Ended st
+unfolding readFile
+accepted-right f st e = lines-right (lines f) nothingSaid st 1 nothing-right e

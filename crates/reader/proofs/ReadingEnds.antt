@@ -1,0 +1,188 @@
+-- Laws of the end of reading: the checks 11 and 12, and what the record and the tables are in each case.
+-- Assumes nothing.
+use mathlib.Core.Path.{_≡_, refl, sym, ap, _∙_}
+use mathlib.Core.Bool.{Bool, true, false}
+use mathlib.Core.List.{List, [], _∷_}
+use Prim.Native.Nat.{ℕ, _*_, _%_, _≤_, _<_}
+use native.Mathlib.Omega.{arith}
+use lib.Count.{ones}
+use lib.Dec.{eqb, leb}
+use lib.ListN.{length}
+use borrow.Author.Tests.{le-leb, lt-leb}
+use Rattle.words.proofs.Below.{any-ext}
+use Rattle.words.proofs.Bits.{has-ext}
+use Rattle.text.proofs.LineLaws.{lines-none}
+use Rattle.table.specs.Filled.{filled}
+use Rattle.table.proofs.Filled.{filled-at, filled-again, filled-length}
+use Rattle.logic.specs.Formula.{Formula}
+use Rattle.names.specs.Names.{rowsOf}
+use Rattle.program.specs.declared.case.Case.{Case}
+use Rattle.program.specs.Case.{headAt}
+use Rattle.program.specs.Program.{headsOf}
+use Rattle.program.specs.Cause.{causesAmong}
+use Rattle.program.specs.Sound.{fewCauses}
+use Rattle.program.proofs.Heads.{heads-lt, heads-has}
+use Rattle.reader.specs.declared.read.Answer.{Answer}
+use Rattle.reader.specs.Lent.{Lent}
+use Rattle.reader.specs.Saying.{Said}
+use Rattle.reader.specs.Reading.{Outcome, clauseWords, ending, readLines, readFile}
+use Rattle.reader.specs.Tables.{constraintWords, formulaNodes}
+use Rattle.reader.specs.Tables.{clauseEntries, constraintEntries, formulaEntries, nameEntries}
+use Rattle.reader.specs.Operation.{Zeroed, refusedAt, LinesRead}
+use Rattle.reader.specs.Held.{Held, SpoiltBy, Spoilt}
+use Rattle.reader.proofs.TakingHeld.{held-spoilt}
+use Rattle.reader.proofs.ReadingLines.{SameLengths, LinesTaken}
+
+-- the first n heads decide headsOf
+pub heads-ext : (cl cm : List ℕ) (n : ℕ) → ((k : ℕ) → k < n → headAt cl k ≡ headAt cm k) → headsOf cl n ≡ headsOf cm n
+heads-ext cl cm n e =
+    has-ext 64 (headsOf cl n) (headsOf cm n) (heads-lt cl n) (heads-lt cm n)
+    (λ a l. heads-has cl n a l
+    ∙ any-ext n (λ k. eqb a (headAt cl k)) (λ k. eqb a (headAt cm k)) (λ k m. ap (eqb a) (e k m))
+    ∙ sym (heads-has cm n a l))
+
+-- the causes of a table are those of the words that it is filled with
+pub few-causes-filled : (n m : ℕ) (ws old : List ℕ) → m ≤ 256 → 768 ≤ length old
+    → fewCauses n (filled 768 ws old) m ≡ fewCauses n ws m
+unfolding fewCauses
+few-causes-filled n m ws old h l =
+    ap (λ (x : ℕ). leb (ones (causesAmong n x)) 10)
+    (heads-ext (filled 768 ws old) ws m
+    (λ k b. ap (λ (x : ℕ). x % 64) (filled-at 768 ws old (3 * k) (omega arith) l)))
+
+-- ending
+
+pub nodes-query : (qs : List Formula) → (length (formulaNodes qs) ≡ 0 → ⊥) → 0 < length qs
+unfolding formulaNodes
+nodes-query [] h = absurd (h refl)
+nodes-query (q ∷ qs) h = omega arith
+
+module _ (st : Said) where
+  pub ending-without-query : length (st .queries) ≤ 0 → ending st ≡ Outcome.refused 11 0
+  unfolding ending
+  ending-without-query h = rw (le-leb _ _ h)
+
+  abbrev pub fewAfter : Bool
+  fewAfter = fewCauses (length (st .names)) (clauseWords (st .clauses)) (length (st .clauses))
+
+  pub ending-many-causes : 0 < length (st .queries) → fewAfter ≡ false → ending st ≡ Outcome.refused 12 0
+  unfolding ending
+  ending-many-causes h e = rw (lt-leb _ _ h, e)
+
+  pub ending-case : 0 < length (st .queries) → fewAfter ≡ true → ending st ≡ Outcome.case st
+  unfolding ending
+  ending-case h e = rw (lt-leb _ _ h, e)
+
+-- LinesRead
+
+pub lines-read-lengths : {f : List ℕ} {t u : Lent} {r : Answer} → LinesRead f t u r → SameLengths t u
+lines-read-lengths {f} {t} {u} {r} h =
+    let o = readFile f in
+    record {
+      clauses-same = ap length (h .clauses-are) ∙ filled-length 768 (clauseEntries o) (t .clauses);
+      constraints-same = ap length (h .constraints-are) ∙ filled-length 64 (constraintEntries o) (t .constraints);
+      formula-same = ap length (h .formula-is) ∙ filled-length 128 (formulaEntries o) (t .formula);
+      names-same = ap length (h .names-are) ∙ filled-length 1024 (nameEntries o) (t .names);
+    }
+
+-- zeroed again, a table is as after its first zeroing
+zeroed-again : (n : ℕ) (t₀ old t u : List ℕ) → old ≡ filled n [] t₀ → SpoiltBy n old t → u ≡ filled n [] t
+    → u ≡ filled n [] t₀
+zeroed-again n t₀ old t u e s f =
+    f ∙ ap (filled n []) (s .table-is) ∙ filled-again n [] (s .entries) old ∙ ap (filled n []) e
+    ∙ filled-again n [] [] t₀
+
+pub refused-read : (f : List ℕ) (n k : ℕ) (t₀ old t u : Lent) (r : Answer) → readFile f ≡ Outcome.refused n k
+    → Zeroed t₀ old → Spoilt old t → Zeroed t u → r ≡ refusedAt n k → LinesRead f t₀ u r
+refused-read f n k t₀ old t u r e z s w a = record {
+  refusal-is = rw (a, e);
+  line-is = rw (a, e);
+  case-is = rw (a, e);
+  clauses-are =
+      rw e (zeroed-again 768 (t₀ .clauses) (old .clauses) (t .clauses) (u .clauses) (z .clauses-zero)
+      (s .clauses-spoilt) (w .clauses-zero));
+  constraints-are =
+      rw e (zeroed-again 64 (t₀ .constraints) (old .constraints) (t .constraints) (u .constraints)
+      (z .constraints-zero) (s .constraints-spoilt) (w .constraints-zero));
+  formula-is =
+      rw e (zeroed-again 128 (t₀ .formula) (old .formula) (t .formula) (u .formula) (z .formula-zero)
+      (s .formula-spoilt) (w .formula-zero));
+  names-are =
+      rw e (zeroed-again 1024 (t₀ .names) (old .names) (t .names) (u .names) (z .names-zero) (s .names-spoilt)
+      (w .names-zero));
+}
+
+-- filled over its first zeroing, a table is as filled over what it was before
+over-zeroed : (n : ℕ) (l t₀ old t : List ℕ) → old ≡ filled n [] t₀ → t ≡ filled n l old → t ≡ filled n l t₀
+over-zeroed n l t₀ old t e f = f ∙ ap (filled n l) e ∙ filled-again n l [] t₀
+
+pub case-read : (f : List ℕ) (st : Said) (c : Case) (t₀ old t : Lent) → readFile f ≡ Outcome.case st → Zeroed t₀ old
+    → Held st c old t → LinesRead f t₀ t (record { refusal = 0; line = 0; found = c })
+case-read f st c t₀ old t e z h = record {
+  refusal-is = rw e;
+  line-is = rw e;
+  case-is = rw e (h .case-is);
+  clauses-are =
+      rw e (over-zeroed 768 (clauseWords (st .clauses)) (t₀ .clauses) (old .clauses) (t .clauses) (z .clauses-zero)
+      (h .clauses-are));
+  constraints-are =
+      rw e (over-zeroed 64 (constraintWords (st .constraints)) (t₀ .constraints) (old .constraints) (t .constraints)
+      (z .constraints-zero) (h .constraints-are));
+  formula-is =
+      rw e (over-zeroed 128 (formulaNodes (st .queries)) (t₀ .formula) (old .formula) (t .formula) (z .formula-zero)
+      (h .formula-is));
+  names-are =
+      rw e (over-zeroed 1024 (rowsOf (st .names)) (t₀ .names) (old .names) (t .names) (z .names-zero)
+      (h .names-held .table-is));
+}
+
+-- all lines are taken
+module _ (f : List ℕ) (old t : Lent) (c : Case) (at line : ℕ) (i : LinesTaken f old t c at line) where
+  nodes-are : c .nodes ≡ length (formulaNodes (i .said .queries))
+  nodes-are = ap (λ (x : Case). x .nodes) (i .held .case-is)
+
+  ended : length f ≤ at → readFile f ≡ ending (i .said)
+  unfolding readLines
+  ended h = i .rest-is ∙ ap (λ (m : List (List ℕ)). readLines m (i .said) line) (lines-none f at h)
+
+  -- the test of the table is the test of the words
+  few-is : fewCauses (c .atoms) (t .clauses) (c .clauses) ≡ fewAfter (i .said)
+  few-is =
+      let k : 768 ≤ length (old .clauses) = omega (arith, i .same .clauses-same, i .long .clauses-long) in
+      rw (i .held .case-is, i .held .clauses-are)
+      (few-causes-filled (length (i .said .names)) (length (i .said .clauses)) (clauseWords (i .said .clauses))
+      (old .clauses) (i .held .limits .clauses-few) k)
+
+  has-query : (c .nodes ≡ 0 → ⊥) → 0 < length (i .said .queries)
+  has-query h = nodes-query (i .said .queries) (λ e. h (nodes-are ∙ e))
+
+  -- what counting the causes requires
+  pub causes-countable : (c .nodes ≡ 0 → ⊥)
+      → (1 ≤ c .atoms) × (c .atoms ≤ 64) × (c .clauses ≤ 256) × (3 * c .clauses ≤ length (t .clauses))
+  causes-countable h =
+      let q = has-query h in
+      let a : c .atoms ≡ length (i .said .names) = ap (λ (x : Case). x .atoms) (i .held .case-is) in
+      let b : c .clauses ≡ length (i .said .clauses) = ap (λ (x : Case). x .clauses) (i .held .case-is) in
+      let l = i .held .limits in
+      let m : c .clauses ≤ 256 = omega (arith, l .clauses-few) in
+      (omega (arith, l .query-atoms), i .atoms-few, m, omega (arith, i .long .clauses-long))
+
+  module _ (t₀ : Lent) (h : length f ≤ at) (z : Zeroed t₀ old) where
+    pub read-without-query : (u : Lent) (r : Answer) → c .nodes ≡ 0 → Zeroed t u → r ≡ refusedAt 11 0
+        → LinesRead f t₀ u r
+    read-without-query u r e w a =
+        let q : length (i .said .queries) ≤ 0 = omega (arith, i .held .limits .query-nodes, nodes-are) in
+        refused-read f 11 0 t₀ old t u r (ended h ∙ ending-without-query (i .said) q) z
+        (held-spoilt (i .said) c old t (i .held)) w a
+
+    pub read-many-causes : (u : Lent) (r : Answer) → (c .nodes ≡ 0 → ⊥)
+        → fewCauses (c .atoms) (t .clauses) (c .clauses) ≡ false → Zeroed t u → r ≡ refusedAt 12 0 → LinesRead f t₀ u r
+    read-many-causes u r n e w a =
+        refused-read f 12 0 t₀ old t u r
+        (ended h ∙ ending-many-causes (i .said) (has-query n) (sym few-is ∙ e)) z
+        (held-spoilt (i .said) c old t (i .held)) w a
+
+    pub read-case : (c .nodes ≡ 0 → ⊥) → fewCauses (c .atoms) (t .clauses) (c .clauses) ≡ true
+        → LinesRead f t₀ t (record { refusal = 0; line = 0; found = c })
+    read-case n e =
+        case-read f (i .said) c t₀ old t (ended h ∙ ending-case (i .said) (has-query n) (sym few-is ∙ e)) z (i .held)

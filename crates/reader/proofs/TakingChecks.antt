@@ -1,0 +1,121 @@
+-- The number of a line's refusal by its checks, one law for each check in their order; and what a line with that number
+-- leaves. Assumes nothing.
+use mathlib.Core.Path.{_≡_, refl, sym, subst, _∙_}
+use mathlib.Core.Bool.{Bool, true, false, not}
+use mathlib.Core.List.{List}
+use Prim.Native.Nat.{ℕ, _≤_, _<_}
+use native.Mathlib.Omega.{arith}
+use lib.Dec.{ltb}
+use lib.ListN.{length}
+use borrow.Author.Tests.{lt-ltb, le-ltb}
+use Rattle.text.specs.Bytes.{isAllowed, allOf}
+use Rattle.text.specs.Lines.{isComment}
+use Rattle.text.specs.Tokens.{Token, tokens}
+use Rattle.names.specs.Names.{namesIn, someLong, withNames}
+use Rattle.grammar.specs.Line.{Line, lineOf}
+use Rattle.reader.specs.declared.take.Taken.{Taken}
+use Rattle.reader.specs.Lent.{Lent}
+use Rattle.reader.specs.Saying.{Said, renamed, saidBy}
+use Rattle.reader.specs.Checks.{isNoForm, isDeep, isOneTooMany, isSecondQuery, formRefusal, lineRefusal}
+use Rattle.reader.specs.Reading.{saidAfter}
+use Rattle.reader.specs.Held.{Spoilt, Refused, Took}
+use Rattle.reader.specs.Taking.{Allowed}
+
+-- a line refused by a number
+pub refused-by : (n k : ℕ) (old t : Lent) → n ≡ k → 0 < k → Spoilt old t → Refused n k old t
+refused-by n k old t e p s = record { number-is = sym e; not-zero = λ z. omega arith; spoilt = s }
+
+pub took-as : (n m : ℕ) (x y : Said) (r : Taken) (old t : Lent) → n ≡ m → x ≡ y → Took m y r old t → Took n x r old t
+took-as n m x y r old t e f h =
+    subst (λ k. Took k x r old t) (sym e) (subst (λ z. Took m z r old t) (sym f) h)
+
+-- 5 to 10, over the tokens of the line
+module _ (st : Said) (ts : List Token) where
+  pub form-refused-5 : isNoForm (lineOf ts) ≡ true → formRefusal st ts ≡ 5
+  unfolding formRefusal
+  form-refused-5 a = rw a
+
+  module _ (a : isNoForm (lineOf ts) ≡ false) where
+    pub form-refused-6 : someLong (namesIn ts) ≡ true → formRefusal st ts ≡ 6
+    unfolding formRefusal
+    form-refused-6 b = rw (a, b)
+
+    module _ (b : someLong (namesIn ts) ≡ false) where
+      pub form-refused-7 : isDeep (lineOf ts) ≡ true → formRefusal st ts ≡ 7
+      unfolding formRefusal
+      form-refused-7 d = rw (a, b, d)
+
+      module _ (d : isDeep (lineOf ts) ≡ false) where
+        pub form-refused-8 : 64 < length (withNames (st .names) (namesIn ts)) → formRefusal st ts ≡ 8
+        unfolding formRefusal
+        form-refused-8 e = rw (a, b, d, lt-ltb _ _ e)
+
+        module _ (e : length (withNames (st .names) (namesIn ts)) ≤ 64) where
+          pub form-refused-9 : isOneTooMany st (lineOf ts) ≡ true → formRefusal st ts ≡ 9
+          unfolding formRefusal
+          form-refused-9 f = rw (a, b, d, le-ltb _ _ e, f)
+
+          module _ (f : isOneTooMany st (lineOf ts) ≡ false) where
+            pub form-refused-10 : isSecondQuery st (lineOf ts) ≡ true → formRefusal st ts ≡ 10
+            unfolding formRefusal
+            form-refused-10 g = rw (a, b, d, le-ltb _ _ e, f, g)
+
+            pub form-passes : isSecondQuery st (lineOf ts) ≡ false → formRefusal st ts ≡ 0
+            unfolding formRefusal
+            form-passes g = rw (a, b, d, le-ltb _ _ e, f, g)
+
+-- the checks of a form look at no name
+module _ (st : Said) (ns : List (List ℕ)) where
+  one-too-many-renamed : (y : Line) → isOneTooMany (renamed ns st) y ≡ isOneTooMany st y
+  one-too-many-renamed Line.skipped = refl
+  one-too-many-renamed Line.noForm = refl
+  one-too-many-renamed (Line.fact w) = refl
+  one-too-many-renamed (Line.assumption w) = refl
+  one-too-many-renamed (Line.rule w l) = refl
+  one-too-many-renamed (Line.never l) = refl
+  one-too-many-renamed (Line.seen x) = refl
+  one-too-many-renamed (Line.query f) = refl
+
+  second-query-renamed : (y : Line) → isSecondQuery (renamed ns st) y ≡ isSecondQuery st y
+  second-query-renamed Line.skipped = refl
+  second-query-renamed Line.noForm = refl
+  second-query-renamed (Line.fact w) = refl
+  second-query-renamed (Line.assumption w) = refl
+  second-query-renamed (Line.rule w l) = refl
+  second-query-renamed (Line.never l) = refl
+  second-query-renamed (Line.seen x) = refl
+  second-query-renamed (Line.query f) = refl
+
+  pub renamed-allowed : (y : Line) → isNoForm y ≡ false → isOneTooMany st y ≡ false → isSecondQuery st y ≡ false
+      → Allowed (renamed ns st) y
+  renamed-allowed y a b d =
+      record { form = a; room = one-too-many-renamed y ∙ b; only-query = second-query-renamed y ∙ d }
+
+-- 3 and 4, over the bytes of the line
+module _ (st : Said) (l : List ℕ) where
+  pub line-refused-3 : 200 < length l → lineRefusal st l ≡ 3
+  unfolding lineRefusal
+  line-refused-3 h = rw (lt-ltb _ _ h)
+
+  module _ (h : length l ≤ 200) where
+    pub comment-passes : isComment l ≡ true → lineRefusal st l ≡ 0
+    unfolding lineRefusal
+    comment-passes a = rw (le-ltb _ _ h, a)
+
+    module _ (a : isComment l ≡ false) where
+      pub line-refused-4 : allOf isAllowed l ≡ false → lineRefusal st l ≡ 4
+      unfolding lineRefusal
+      line-refused-4 b = rw (le-ltb _ _ h, a, b)
+
+      pub line-refused-as : allOf isAllowed l ≡ true → lineRefusal st l ≡ formRefusal st (tokens l)
+      unfolding lineRefusal
+      line-refused-as b = rw (le-ltb _ _ h, a, b)
+
+  pub comment-says : isComment l ≡ true → saidAfter st l ≡ st
+  unfolding saidAfter
+  comment-says a = rw a
+
+  pub line-says : isComment l ≡ false
+      → saidAfter st l ≡ saidBy (renamed (withNames (st .names) (namesIn (tokens l))) st) (lineOf (tokens l))
+  unfolding saidAfter
+  line-says a = rw a

@@ -1,0 +1,120 @@
+// The operation *read*.
+ghost use mathlib.Core.Path.{_≡_};
+ghost use Prim.Native.Nat.{_≤_};
+ghost use lib.ListN.{length};
+ghost use Rattle.reader.specs.Lent.{lent, Long};
+ghost use Rattle.reader.specs.Operation.{Zeroed, refusedAt, LinesRead, ReadAs};
+use crate::take::Taken;
+use crate::take::take_line;
+use program::case::Case;
+
+// What reading answers: 0 and the record of the case, or a refusal's number, its line and a record of zeros.
+pub struct Answer {
+    pub refusal: u32,
+    pub line: u32,
+    pub found: Case,
+}
+
+// A refusal with its number and line.
+fn refused(number: u32, line: u32) -> Answer
+    ensures { λ r. ⌜ r ≡ refusedAt number line ⌝ }
+{
+    Answer {
+        refusal: number,
+        line,
+        found: Case {
+            atoms: 0,
+            clauses: 0,
+            constraints: 0,
+            nodes: 0,
+            plain: 0,
+            negated: 0,
+        },
+    }
+}
+
+// Zeroes the four tables in their sizes.
+fn zero(clauses: &mut [u64], constraints: &mut [u64], formula: &mut [u8], names: &mut [u8])
+    requires { ⌜ Long (lent (now clauses) (now constraints) (now formula) (now names)) ⌝ }
+    ensures { λ _. ⌜ Zeroed (lent (now (clauses .entry)) (now (constraints .entry)) (now (formula .entry)) (now (names .entry))) (lent (now (clauses .exit)) (now (constraints .exit)) (now (formula .exit)) (now (names .exit))) ⌝ }
+{
+    table::zero_words(clauses, Case::CLAUSE_WORDS);
+    table::zero_words(constraints, Case::CONSTRAINT_WORDS);
+    table::zero_bytes(formula, Case::FORMULA_BYTES);
+    table::zero_bytes(names, 1024);
+}
+
+// Reads a file of at most 32,768 bytes into tables of full size.
+fn read_lines(
+    file: &[u8],
+    clauses: &mut [u64],
+    constraints: &mut [u64],
+    formula: &mut [u8],
+    names: &mut [u8],
+) -> Answer
+    requires { ⌜ Long (lent (now clauses) (now constraints) (now formula) (now names)) × (length (now file) ≤ 32768) ⌝ }
+    ensures { λ r. ⌜ LinesRead (now (file .entry)) (lent (now (clauses .entry)) (now (constraints .entry)) (now (formula .entry)) (now (names .entry))) (lent (now (clauses .exit)) (now (constraints .exit)) (now (formula .exit)) (now (names .exit))) r ⌝ }
+{
+    zero(clauses, constraints, formula, names);
+    let mut c = Case {
+        atoms: 0,
+        clauses: 0,
+        constraints: 0,
+        nodes: 0,
+        plain: 0,
+        negated: 0,
+    };
+    let mut at = 0;
+    let mut line: u32 = 1;
+    while at < file.len() {
+        let e = text::lines::line_end(file, at);
+        match take_line(&file[at..e], c, clauses, constraints, formula, names) {
+            Taken::Next(next) => {
+                c = next;
+                at = e + 1;
+                line += 1;
+            }
+            Taken::Stop(number) => {
+                zero(clauses, constraints, formula, names);
+                return refused(number, line);
+            }
+        }
+    }
+    if c.nodes == 0 {
+        zero(clauses, constraints, formula, names);
+        return refused(11, 0);
+    }
+    if !program::sound::causes_few(c.atoms, clauses, c.clauses) {
+        zero(clauses, constraints, formula, names);
+        return refused(12, 0);
+    }
+    Answer {
+        refusal: 0,
+        line: 0,
+        found: c,
+    }
+}
+
+// Reads a case file into four lent tables. Refuses with 1 a table shorter than its size, with 2 a file over 32,768
+// bytes, both of which touch nothing; with 3 to 10 the first bad line, with 11 a file without query, with 12 one with
+// more than ten causes, each of which leaves the tables zero in their sizes.
+pub fn read(
+    file: &[u8],
+    clauses: &mut [u64],
+    constraints: &mut [u64],
+    formula: &mut [u8],
+    names: &mut [u8],
+) -> Answer
+    ensures { λ r. ⌜ ReadAs (now (file .entry)) (lent (now (clauses .entry)) (now (constraints .entry)) (now (formula .entry)) (now (names .entry))) (lent (now (clauses .exit)) (now (constraints .exit)) (now (formula .exit)) (now (names .exit))) r ⌝ }
+{
+    if !program::case::tables_full(clauses, constraints, formula) {
+        return refused(1, 0);
+    }
+    if names.len() < 1024 {
+        return refused(1, 0);
+    }
+    if 32768 < file.len() {
+        return refused(2, 0);
+    }
+    read_lines(file, clauses, constraints, formula, names)
+}
