@@ -2,11 +2,13 @@
 -- Causes: laws of the causes among the atoms.
 -- Atoms: the atoms of a word are as many as its ones.
 -- Settings: how many settings there are, the digits of a setting, and what it adds.
+-- Sets: the sets of causes that settings are.
 -- Soundness: the kinds of clauses, and what a sound case is sound of.
 -- Theorems: the claims of specs/Claims.antt.
 pub mod Heads
 pub mod Causes
 pub mod Atoms
 pub mod Settings
+pub mod Sets
 pub mod Soundness
 pub mod Theorems

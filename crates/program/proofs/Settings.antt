@@ -16,14 +16,19 @@ use Rattle.words.specs.Bits.{has, word}
 use Rattle.words.proofs.Bits.{has-zero, has-above}
 use Rattle.words.proofs.Words.{word-lt, has-word, is-word, lt-of-bits, has-or-one, or-one-lt}
 use Rattle.program.specs.declared.cause.Additions.{Additions}
-use Rattle.program.specs.Cause.{consIf, atomsFrom}
-use Rattle.program.specs.Setting.{choicesFor, product, digits, pickDigit, digitOf, additionsOf, withDigit}
+use Rattle.program.specs.Cause.{consIf, atomsFrom, atomsIn}
+use Rattle.program.specs.Setting.{choicesFor, product, digits, pickDigit, digitOf}
+use Rattle.program.specs.Setting.{settingsOf, additionsOf, withDigit}
 
 -- ---- how many settings
 pub choices-power : (l : List ℕ) → product (choicesFor l) ≡ 3 ^ length l
 unfolding choicesFor product
 choices-power [] = refl
 choices-power (a ∷ l) = ap (λ (n : ℕ). 3 * n) (choices-power l) ∙ sym (pow-succ' 3 (length l))
+
+pub settings-product : (w : ℕ) → settingsOf w ≡ product (choicesFor (atomsIn w))
+unfolding settingsOf
+settings-product w = refl
 
 -- a power of three with room for one more factor in a word
 pub power-le : (k : ℕ) → k ≤ 9 → 3 ^ k ≤ 19683
@@ -38,17 +43,17 @@ digitIn l s b = digitOf l (digits (choicesFor l) s) b
 abbrev pub digitFrom : ℕ → ℕ → ℕ → ℕ → ℕ → ℕ
 digitFrom w a n s b = digitIn (atomsFrom w a n) s b
 
-digit-cause : (w a n s b : ℕ) → has w a ≡ true
+pub digit-cause : (w a n s b : ℕ) → has w a ≡ true
     → digitFrom w a (suc n) s b ≡ pickDigit (eqb b a) (s % 3) (digitFrom w (suc a) n (s / 3) b)
 unfolding atomsFrom choicesFor digits digitOf
 digit-cause w a n s b e = ap (λ (t : Bool). digitIn (consIf t a (atomsFrom w (suc a) n)) s b) e
 
-digit-other : (w a n s b : ℕ) → has w a ≡ false → digitFrom w a (suc n) s b ≡ digitFrom w (suc a) n s b
+pub digit-other : (w a n s b : ℕ) → has w a ≡ false → digitFrom w a (suc n) s b ≡ digitFrom w (suc a) n s b
 unfolding atomsFrom
 digit-other w a n s b e = ap (λ (t : Bool). digitIn (consIf t a (atomsFrom w (suc a) n)) s b) e
 
 -- an atom that is none of the causes from a on has digit 0
-digit-none : (w b n a s : ℕ) → ((k : ℕ) → a ≤ k → has w k ≡ true → b ≡ k → ⊥) → digitFrom w a n s b ≡ 0
+pub digit-none : (w b n a s : ℕ) → ((k : ℕ) → a ≤ k → has w k ≡ true → b ≡ k → ⊥) → digitFrom w a n s b ≡ 0
 unfolding atomsFrom choicesFor digits digitOf
 digit-none w b zero a s h = refl
 digit-none w b (suc n) a s h = go (has w a) refl (λ t. digit-none w b n (suc a) t (λ k l. h k (omega arith)))

@@ -7,6 +7,7 @@
 -- Models: the settled interpretation is the least model.
 -- Theorems: a proof of each claim of specs/Claims.antt.
 -- Definitions: the bodies of an atom in a table's clauses and in those that a set adds.
+-- Alike: programs that settle alike.
 -- Passes: the step by one pass over the clauses.
 -- Answers: what settling one setting answers, with and without a refusal.
 -- Marked: the marked files settled by computation.
@@ -19,6 +20,7 @@ pub mod Settling
 pub mod Models
 pub mod Theorems
 pub mod Definitions
+pub mod Alike
 pub mod Passes
 pub mod Answers
 pub mod Marked

@@ -1,6 +1,6 @@
 -- Laws of tests over the numbers below n. Assumes nothing.
 use mathlib.Core.Path.{_≡_, refl, sym, ap, ap₂, _∙_}
-use mathlib.Core.Bool.{Bool, true, false, not, _&&_, _||_, and-false, and-true, or-false}
+use mathlib.Core.Bool.{Bool, true, false, not, _&&_, _||_, and-false, and-true, or-false, false≢true}
 use mathlib.Core.Logic.{⊎-elim}
 use Prim.Native.Nat.{ℕ, zero, suc, _+_, _≤_, _<_}
 use native.Mathlib.Nat.{not-suc-le-zero, le-of-suc-le-suc, eq-or-lt-of-le, le-antisymm}
@@ -27,6 +27,18 @@ any-false (suc n) p e i l =
     ⊎-elim (λ (q : i ≡ n). rw q (or-false-r (any n p) (p n) e))
     (λ (q : i < n). any-false n p (or-false-l (any n p) (p n) e) i q)
     (eq-or-lt-of-le (le-of-suc-le-suc l))
+
+-- the number that passes
+pub any-found : (n : ℕ) (p : ℕ → Bool) → any n p ≡ true → (i : ℕ) × (i < n) × (p i ≡ true)
+any-found zero p e = absurd (false≢true e)
+any-found (suc n) p e = go (p n) refl (any-found n p)
+  where
+    go : (b : Bool) → p n ≡ b → (any n p ≡ true → (i : ℕ) × (i < n) × (p i ≡ true))
+        → (i : ℕ) × (i < suc n) × (p i ≡ true)
+    go true h f = (n, omega arith, h)
+    go false h f =
+        let r = f (sym (or-false (any n p)) ∙ ap (λ (b : Bool). any n p || b) (sym h) ∙ e) in
+        (r .0, omega (arith, r .1), r .2)
 
 pub all-false : (n : ℕ) (p : ℕ → Bool) → ((i : ℕ) → i < n → p i ≡ false) → any n p ≡ false
 all-false zero p e = refl

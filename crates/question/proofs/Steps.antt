@@ -1,0 +1,125 @@
+-- One step of the walk: what visiting a setting leaves, by what the tests of the code say. Assumes nothing.
+use mathlib.Core.Path.{_≡_, _∙_, sym, ap, ap₂}
+use mathlib.Core.Bool.{Bool, true, false, not, _&&_}
+use mathlib.Core.List.{List, [], _∷_, _++_, append-nil}
+use Prim.Native.Nat.{ℕ, _+_, _-_, _≤_, _<_, min}
+use native.Mathlib.Numerals.{add-one}
+use native.Mathlib.Omega.{arith}
+use lib.ListN.{length, drop, set, length-append, length-take, length-drop}
+use Rattle.program.specs.Setting.{product}
+use Rattle.question.specs.declared.verdict.Verdict.{Verdict}
+use Rattle.question.specs.declared.walk.Tally.{Tally}
+use Rattle.question.specs.Judge.{Judge}
+use Rattle.question.specs.Judging.{markedIn}
+use Rattle.question.specs.Subset.{someProper, minimal}
+use Rattle.question.specs.Walk.{mark, byteOf, bytesBelow, minimalsBelow, roundsBelow}
+use Rattle.question.specs.Walking.{joined, Walked}
+use Rattle.question.proofs.Bytes.{bytes-length, bytes-proper, bytes-more}
+use Rattle.question.proofs.Lists.{lent, back, lent-length, put-back, list-more}
+use Rattle.question.proofs.Verdicts.{verdict-more}
+
+-- ---- the definitions grow at the end
+module _ (J : Judge) (cs : List ℕ) (s : ℕ) where
+  minimals-same : minimal J cs s ≡ false → minimalsBelow J cs (s + 1) ≡ minimalsBelow J cs s
+  unfolding minimalsBelow
+  minimals-same e = rw (add-one, e, append-nil)
+
+  minimals-more : minimal J cs s ≡ true → minimalsBelow J cs (s + 1) ≡ minimalsBelow J cs s ++ (s ∷ [])
+  unfolding minimalsBelow
+  minimals-more e = rw (add-one, e)
+
+  rounds-more : (k n : ℕ) → k ≡ roundsBelow J s → n ≡ J .rounds s → k + n ≡ roundsBelow J (s + 1)
+  unfolding roundsBelow
+  rounds-more k n e f = rw (add-one, e, f)
+
+-- ---- lengths
+module _ (J : Judge) (cs list₀ work₀ : List ℕ) (s : ℕ) (t : Tally) (list work : List ℕ)
+    (p : Walked J cs list₀ work₀ s t list work) where
+  pub list-kept : length list ≡ length list₀
+  list-kept =
+      ap length (p .list-is)
+      ∙ simp (length-append, length-take, length-drop) (omega (arith, p .minimal-is, p .written-is))
+
+  -- the work area is no shorter than the bytes written
+  work-covers : length work ≡ s + (length work₀ - s)
+  work-covers = ap length (p .work-is) ∙ simp (length-append, length-drop, bytes-length J cs s)
+
+  pub work-kept : s ≤ length work₀ → length work ≡ length work₀
+  work-kept h = omega (arith, work-covers)
+
+-- ---- visiting setting s
+module _ (J : Judge) (cs list₀ work₀ : List ℕ) (s : ℕ) (t : Tally) (list work : List ℕ)
+    (p : Walked J cs list₀ work₀ s t list work) (below : s < product cs) (within : s < length work) where
+  work-more : (b : ℕ) → b ≡ byteOf J cs s → set work s b ≡ bytesBelow J cs (s + 1) ++ drop (s + 1) work₀
+  work-more b e =
+      ap (λ (l : List ℕ). set l s b) (p .work-is)
+      ∙ bytes-more J cs s b work₀ (omega (arith, work-covers J cs list₀ work₀ s t list work p)) e
+
+  proper-is : someProper (markedIn work) cs s ≡ someProper (J .explains) cs s
+  proper-is =
+      ap (λ (l : List ℕ). someProper (markedIn l) cs s) (p .work-is) ∙ bytes-proper J cs s (drop s work₀) below
+
+  minimal-by : (e m : Bool) → J .explains s ≡ e → someProper (markedIn work) cs s ≡ m → minimal J cs s ≡ (e && not m)
+  unfolding minimal
+  minimal-by e m f g = ap₂ (λ (a b : Bool). a && not b) f (sym proper-is ∙ g)
+
+  byte-by : (e m : Bool) → J .explains s ≡ e → minimal J cs s ≡ m → mark e m ≡ byteOf J cs s
+  unfolding byteOf
+  byte-by e m f g = sym (ap₂ mark f g)
+
+  -- where s isn't minimal
+  passed : (b n : ℕ) → b ≡ byteOf J cs s → minimal J cs s ≡ false → n ≡ J .rounds s
+      → Walked J cs list₀ work₀ (s + 1)
+      (record { minimal = t .minimal; written = t .written; rounds = t .rounds + n; verdict = t .verdict })
+      list (set work s b)
+  passed b n e f g =
+      let k = minimals-same J cs s f in
+      record {
+        work-is = work-more b e;
+        list-is = rw k (p .list-is);
+        minimal-is = rw k (p .minimal-is);
+        written-is = p .written-is;
+        rounds-are = rounds-more J cs s (t .rounds) n (p .rounds-are) g;
+        verdict-is = rw k (p .verdict-is);
+      }
+
+  pub visit-other : (n : ℕ) → J .explains s ≡ false → n ≡ J .rounds s
+      → Walked J cs list₀ work₀ (s + 1)
+      (record { minimal = t .minimal; written = t .written; rounds = t .rounds + n; verdict = t .verdict })
+      list (set work s 0)
+  unfolding minimal
+  visit-other n e g =
+      let f : minimal J cs s ≡ false = ap (λ (a : Bool). a && not (someProper (J .explains) cs s)) e in
+      passed 0 n (byte-by false false e f) f g
+
+  pub visit-larger : (n : ℕ) → J .explains s ≡ true → someProper (markedIn work) cs s ≡ true → n ≡ J .rounds s
+      → Walked J cs list₀ work₀ (s + 1)
+      (record { minimal = t .minimal; written = t .written; rounds = t .rounds + n; verdict = t .verdict })
+      list (set work s 1)
+  visit-larger n e m g =
+      let f = minimal-by true true e m in
+      passed 1 n (byte-by true false e f) f g
+
+  -- the list's free rest was lent to put, which took k slots
+  pub visit-minimal : (n k : ℕ) (v : Verdict) (ys : List ℕ) → J .explains s ≡ true
+      → someProper (markedIn work) cs s ≡ false → n ≡ J .rounds s → k ≡ min 1 (length (lent (t .written) list))
+      → ys ≡ set (lent (t .written) list) 0 s → v ≡ joined (t .verdict) (J .value s)
+      → Walked J cs list₀ work₀ (s + 1)
+      (record { minimal = t .minimal + 1; written = t .written + k; rounds = t .rounds + n; verdict = v })
+      (back (t .written) list ys) (set work s 2)
+  visit-minimal n k v ys e m g ek ey ev =
+      let f = minimal-by true false e m in
+      let more = minimals-more J cs s f in
+      let len = list-kept J cs list₀ work₀ s t list work p in
+      let w : t .written ≡ min (length (minimalsBelow J cs s)) (length list₀) =
+      omega (arith, p .minimal-is, p .written-is) in
+      let k′ : k ≡ min 1 (length list₀ - t .written) = omega (arith, lent-length (t .written) list) in
+      record {
+        work-is = work-more 2 (byte-by true true e f);
+        list-is = put-back (t .written) list s ys ey ∙ ap (λ (l : List ℕ). set l (t .written) s) (p .list-is)
+            ∙ list-more (minimalsBelow J cs s) list₀ (t .written) s k w k′ ∙ rw more;
+        minimal-is = rw (more, length-append) (omega (arith, p .minimal-is));
+        written-is = omega (arith, p .written-is);
+        rounds-are = rounds-more J cs s (t .rounds) n (p .rounds-are) g;
+        verdict-is = rw (more, verdict-more J s (minimalsBelow J cs s), ← p .verdict-is) ev;
+      }

@@ -1,0 +1,80 @@
+// What settling one setting tells of it.
+ghost use mathlib.Core.Path.{_≡_};
+ghost use mathlib.Core.Bool.{true};
+ghost use Prim.Native.Nat.{ℕ, _*_, _≤_};
+ghost use lib.ListN.{length, take};
+ghost use Rattle.logic.specs.Formula.{valueOf};
+ghost use Rattle.logic.specs.Nodes.{oneFormula, formulaOf};
+ghost use Rattle.logic.specs.Interpretation.{valueAt, Disjoint};
+ghost use Rattle.question.specs.Explanation.{noneBroken, explainsUnder};
+ghost use Rattle.question.specs.Judging.{Prepared, Judges};
+use logic::interpretation::Interpretation;
+use logic::value::Value;
+use program::case::Case;
+
+// Whether a setting explains, its settled interpretation and its rounds.
+pub struct Judged {
+    pub explains: bool,
+    pub interpretation: Interpretation,
+    pub rounds: u32,
+}
+
+// Whether no body of the first n constraints is true.
+fn none_broken(i: Interpretation, constraints: &[u64], n: usize) -> bool
+    requires { ⌜ Disjoint i × (n ≤ 32) × (2 * n ≤ length (now constraints)) ⌝ }
+    ensures { λ r. ⌜ r ≡ noneBroken (now (constraints .entry)) n (valueAt i) ⌝ }
+{
+    let mut k = 0;
+    while k < n {
+        let at = 2 * k;
+        if let Value::True = i.body(constraints[at], constraints[at + 1]) {
+            return false;
+        }
+        k += 1;
+    }
+    true
+}
+
+// Whether every observation of a case is true and no constraint's body is.
+fn explains_under(i: Interpretation, c: Case, constraints: &[u64]) -> bool
+    requires { ⌜ Disjoint i × (c .constraints ≤ 32) × (64 ≤ length (now constraints)) ⌝ }
+    ensures { λ r. ⌜ r ≡ explainsUnder c (now (constraints .entry)) (valueAt i) ⌝ }
+{
+    let Value::True = i.body(c.plain, c.negated) else {
+        return false;
+    };
+    none_broken(i, constraints, c.constraints)
+}
+
+// Settles a setting and tells whether it explains the readings.
+pub fn judge(
+    c: Case,
+    clauses: &[u64],
+    constraints: &[u64],
+    formula: &[u8],
+    heads: u64,
+    causes: u64,
+    setting: u64,
+) -> Judged
+    requires { ⌜ Prepared c (now clauses) (now constraints) (now formula) heads causes ⌝ }
+    ensures { λ r. ⌜ Judges c (now (clauses .entry)) (now (constraints .entry)) setting r ⌝ }
+{
+    let added = program::cause::added(causes, setting);
+    let s = settle::settle::run(clauses, c.clauses, heads, added);
+    let i = s.interpretation;
+    Judged {
+        explains: explains_under(i, c, constraints),
+        interpretation: i,
+        rounds: s.rounds,
+    }
+}
+
+// The value of the query.
+pub fn query_value(c: Case, formula: &[u8], i: Interpretation) -> Value
+    requires { ⌜ (c .nodes ≤ 128) × (128 ≤ length (now formula)) ⌝ }
+    ensures { λ r. ⌜ ((n : ℕ) → oneFormula n (take (c .nodes) (now (formula .entry))) ≡ true
+        → r ≡ valueOf (valueAt i) (formulaOf (take (c .nodes) (now (formula .entry))))) ⌝ }
+{
+    let nodes = c.nodes;
+    logic::formula::formula_value(&formula[..nodes], i)
+}
