@@ -150,12 +150,21 @@ module _ (f : List ℕ) (old t u : Lent) (c : Case) (at e line : ℕ) (i : Lines
   line-is : take (e - at) (drop at f) ≡ slice at e f
   line-is = part-slice f at e (l .onward)
 
-  taken-as : (x : Taken) → r ≡ x → Took (lineRefusal (i .said) (slice at e f)) (saidAfter (i .said) (slice at e f)) x old u
+  taken-as : (x : Taken) → r ≡ x
+      → Took (lineRefusal (i .said) (slice at e f)) (saidAfter (i .said) (slice at e f)) x old u
   taken-as x q =
       rw q at (subst (λ (w : List ℕ). Took (lineRefusal (i .said) w) (saidAfter (i .said) w) r old u) line-is took)
 
   here : readFile f ≡ readLines (slice at e f ∷ lines (drop (e + 1) f)) (i .said) line
   here = i .rest-is ∙ ap (λ (m : List (List ℕ)). readLines m (i .said) line) (l .lines-are)
+
+  back : SameLengths t old
+  back = record {
+    clauses-same = sym (i .same .clauses-same);
+    constraints-same = sym (i .same .constraints-same);
+    formula-same = sym (i .same .formula-same);
+    names-same = sym (i .same .names-same);
+  }
 
   pub line-taken : (next : Case) → r ≡ Next next → LinesTaken f old u next (e + 1) (line + 1)
   line-taken next q =
@@ -167,18 +176,10 @@ module _ (f : List ℕ) (old t u : Lent) (c : Case) (at e line : ℕ) (i : Lines
         counted = omega (arith, l .onward, i .counted);
         atoms-few = held-few (saidAfter (i .said) w) next old u (p .held);
         same = s;
-        long = same-long old u s (same-long t old (back (i .same)) (i .long));
+        long = same-long old u s (same-long t old back (i .long));
         said = saidAfter (i .said) w;
         held = p .held;
         rest-is = here ∙ lines-go w (lines (drop (e + 1) f)) (i .said) line (p .passed);
-      }
-    where
-      back : SameLengths old t → SameLengths t old
-      back s = record {
-        clauses-same = sym (s .clauses-same);
-        constraints-same = sym (s .constraints-same);
-        formula-same = sym (s .formula-same);
-        names-same = sym (s .names-same);
       }
 
   pub line-refused : (n : ℕ) → r ≡ Stop n → (readFile f ≡ Outcome.refused n line) × Spoilt old u
@@ -187,3 +188,7 @@ module _ (f : List ℕ) (old t u : Lent) (c : Case) (at e line : ℕ) (i : Lines
       let p : Refused (lineRefusal (i .said) w) n old u = taken-as (Stop n) q in
       let x = lines-stop w (lines (drop (e + 1) f)) (i .said) line (p .not-zero) in
       (here ∙ x ∙ ap (λ (k : ℕ). Outcome.refused k line) (sym (p .number-is)), p .spoilt)
+
+  pub line-refused-long : (n : ℕ) → r ≡ Stop n → Long u
+  line-refused-long n q =
+      same-long old u (spoilt-lengths old u (line-refused n q .1)) (same-long t old back (i .long))

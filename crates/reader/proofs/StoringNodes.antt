@@ -21,7 +21,8 @@ use Rattle.logic.specs.Nodes.{nodes, joined}
 use Rattle.names.specs.Held.{Holds, FoundIn}
 use Rattle.grammar.specs.declared.formula.Parse.the-variants.{NoFormula}
 use Rattle.grammar.specs.Keyword.{nodeOf, pickNumber}
-use Rattle.grammar.specs.Sentence.{Sentence, Item, Items, isName, pickItems, withItem, withOne, withTwo, withForm, itemsOf}
+use Rattle.grammar.specs.Sentence.{Sentence, Item, Items, isName, itemsOf}
+use Rattle.grammar.specs.Sentence.{pickItems, withItem, withOne, withTwo, withForm}
 use Rattle.grammar.specs.Parsing.{beginsFormula, Parsed, closedAmong}
 use Rattle.grammar.proofs.Formulas.{end-closed, opening-closed, word-closed, Headed}
 use Rattle.reader.specs.Saying.{encoded}
@@ -245,8 +246,8 @@ module _ {l : List ℕ} {at : ℕ} {t : List ℕ} {count : ℕ} {u : List ℕ} {
     negation-put b z (FormFront.of-negation g o x y) =
         let few' : length xs + length (nodes (encoded ns (Sentence.negation g))) ≤ 128 = rw y at few in
         let d = p .pushed xs old q (omega arith) s in
-        let i = first .put ns namesOld g (Item.closing ∷ m) (xs ++ (k ∷ [])) old c held (known-operand (rw y at known)) x
-        (d .0) (simp length-append (omega arith)) (d .1) in
+        let i = first .put ns namesOld g (Item.closing ∷ m) (xs ++ (k ∷ [])) old c held
+        (known-operand (rw y at known)) x (d .0) (simp length-append (omega arith)) (d .1) in
         rw (y, ← z) (node-put b i)
 
     joined-put : {j' n' next : ℕ} {w' : List ℕ} → NodesStored l j t count w n j' n' w' → BehindClose l j' next

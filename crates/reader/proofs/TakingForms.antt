@@ -4,11 +4,8 @@ use mathlib.Core.Path.{_≡_, sym, subst, _∙_}
 use mathlib.Core.List.{List, [], _∷_}
 use Prim.Native.Nat.{ℕ, _≤_}
 use native.Mathlib.Omega.{arith}
-use lib.ListN.{length}
 use lib.Seq.{slice}
-use Rattle.logic.specs.Nodes.{nodes}
 use Rattle.program.specs.declared.case.Case.{Case}
-use Rattle.names.specs.Held.{Holds}
 use Rattle.grammar.specs.declared.line.Form.{Form}
 use Rattle.grammar.specs.declared.line.Form.the-variants.{Skipped, NoForm, Fact, Assumption, Rule, Never, Seen, Query}
 use Rattle.grammar.specs.Sentence.{Sentence}
@@ -17,7 +14,7 @@ use Rattle.grammar.specs.Parsing.{sizeOf, FormIs}
 use Rattle.grammar.proofs.Sizes.{first-formula-size}
 use Rattle.reader.specs.declared.store.Masks.{Masks}
 use Rattle.reader.specs.Lent.{Lent, lent, Long}
-use Rattle.reader.specs.Saying.{Said, saidBy, plainAtoms, negatedAtoms}
+use Rattle.reader.specs.Saying.{Said, saidBy}
 use Rattle.reader.specs.Held.{Held}
 use Rattle.reader.specs.Storing.{LiteralsKnown, MasksStored}
 use Rattle.reader.specs.Taking.{LineKnown, Allowed, PartsInside, StoredAs}

@@ -1,6 +1,6 @@
 -- Tables that hold what was read hold it with one clause, constraint, reading or query more, and with a line's names.
 -- Assumes nothing.
-use mathlib.Core.Path.{_≡_, sym, ap, ap₂, _∙_}
+use mathlib.Core.Path.{_≡_, sym, ap, _∙_}
 use mathlib.Core.Bool.{false}
 use mathlib.Core.List.{List, [], _∷_, _++_}
 use Prim.Native.Nat.{ℕ, _+_, _≤_, _<_}
@@ -9,7 +9,6 @@ use lib.Dec.{leb}
 use lib.ListN.{length, drop, length-append}
 use borrow.Author.Tests.{leb-false}
 use Rattle.text.specs.Tokens.{tokens}
-use Rattle.table.specs.Filled.{filled}
 use Rattle.table.proofs.Filled.{filled-length}
 use Rattle.logic.specs.Formula.{Formula}
 use Rattle.logic.specs.Nodes.{nodes}
@@ -21,11 +20,11 @@ use Rattle.grammar.specs.Sentence.{Sentence, Item, Items, itemsOf}
 use Rattle.grammar.specs.Line.{Literal}
 use Rattle.reader.specs.declared.store.Masks.{Masks}
 use Rattle.reader.specs.Lent.{Lent, lent, Long}
-use Rattle.reader.specs.Saying.{Said, ClauseRow, ConstraintRow, plainAtoms, negatedAtoms, encoded, orAtoms}
-use Rattle.reader.specs.Saying.{rowWith, pairWith, clauseRow, constraintRow, renamed}
+use Rattle.reader.specs.Saying.{Said, ClauseRow, ConstraintRow, plainAtoms, negatedAtoms, encoded}
+use Rattle.reader.specs.Saying.{clauseRow, constraintRow, renamed}
 use Rattle.reader.specs.Saying.{withClause, withConstraint, withObserved, withQuery}
 use Rattle.reader.specs.Reading.{clauseWords}
-use Rattle.reader.specs.Tables.{caseSaid, constraintWords, formulaNodes}
+use Rattle.reader.specs.Tables.{constraintWords, formulaNodes}
 use Rattle.reader.specs.Held.{Limits, Held, Spoilt}
 use Rattle.reader.specs.Storing.{Known, SentenceKnown}
 use Rattle.reader.specs.Taking.{withAtomCount, ClauseStored, ConstraintStored, ObservedStored, QueryStored}

@@ -10,7 +10,7 @@ use Rattle.text.specs.Tokens.{tokens}
 use Rattle.program.specs.declared.case.Case.{Case}
 use Rattle.names.specs.Names.{namesIn, someLong, atomOf, withNames}
 use Rattle.names.specs.Held.{LineInterned}
-use Rattle.names.proofs.Each.{Each, each-both, each-gives}
+use Rattle.names.proofs.Each.{each-both, each-gives}
 use Rattle.names.proofs.Adding.{each-found}
 use Rattle.names.proofs.LineNames.{no-zero}
 use Rattle.grammar.specs.declared.line.Form.{Form}

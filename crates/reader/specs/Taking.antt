@@ -6,7 +6,7 @@
 --   ClauseStored ..     storing a clause; ConstraintStored, ObservedStored, QueryStored are alike
 --   StoredAs ..         storing a form of a line
 use mathlib.Core.Path.{_≡_}
-use mathlib.Core.Bool.{Bool, true, false}
+use mathlib.Core.Bool.{false}
 use mathlib.Core.List.{List, [], _∷_, _++_}
 use Prim.Native.Nat.{ℕ, _+_, _≤_, _<_}
 use lib.ListN.{length, drop}

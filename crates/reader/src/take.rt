@@ -1,7 +1,5 @@
 // Taking a line: its checks, and what it adds to the record and the tables.
-ghost use mathlib.Core.Path.{_≡_};
-ghost use mathlib.Core.List.{List};
-ghost use Prim.Native.Nat.{ℕ, _≤_};
+ghost use Prim.Native.Nat.{_≤_};
 ghost use lib.ListN.{length};
 ghost use lib.Seq.{slice};
 ghost use Rattle.text.specs.Tokens.{tokens};
@@ -12,7 +10,6 @@ ghost use Rattle.reader.specs.Saying.{Said, renamed, saidBy};
 ghost use Rattle.reader.specs.Checks.{lineRefusal, formRefusal};
 ghost use Rattle.reader.specs.Reading.{saidAfter};
 ghost use Rattle.reader.specs.Held.{Held, Took};
-ghost use Rattle.reader.specs.Storing.{Known, LiteralsKnown};
 ghost use Rattle.reader.specs.Taking.{ClauseStored, ConstraintStored, ObservedStored, QueryStored, PartsInside, StoredAs};
 use crate::check::is_deep;
 use crate::check::is_no_form;

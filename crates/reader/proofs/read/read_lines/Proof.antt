@@ -8,7 +8,7 @@ use lib.ListN.{length}
 use borrow.Author.Needs.{needs}
 use borrow.Author.Tests.{not-true, not-false}
 use Rattle.reader.specs.Lent.{Lent, lent}
-use Rattle.reader.proofs.ReadingLines.{LinesTaken, no-lines-taken, line-taken, line-refused}
+use Rattle.reader.proofs.ReadingLines.{LinesTaken, no-lines-taken, line-taken, line-refused, line-refused-long}
 use Rattle.reader.proofs.ReadingEnds.{lines-read-lengths, refused-read, causes-countable}
 use Rattle.reader.proofs.ReadingEnds.{read-without-query, read-many-causes, read-case}
 use Rattle.reader.proofs.read.read_lines.Statement.{statement}
@@ -23,7 +23,7 @@ abbrev μ-loop : tie.MeasureT-loop
     length file + 1 - at
 
 zero-requires : tie.Need-zero-requires Inv-loop μ-loop
-zero-requires c κs = search needs
+zero-requires c κs = c .before .before .before .before .before .before .before .before .before .pre .0
 
 loop-holds : tie.Need-loop-holds Inv-loop μ-loop
 loop-holds c =
@@ -40,13 +40,13 @@ line-end-requires : tie.Need-line-end-requires Inv-loop μ-loop
 line-end-requires c κs = c .loop-test .taken
 
 sub-take-line : tie.Need-sub-take-line Inv-loop μ-loop
-sub-take-line c = search needs
+sub-take-line c = c .line-end .ensures .onward
 
 part-take-line-start : tie.Need-part-take-line-start Inv-loop μ-loop
-part-take-line-start c = search needs
+part-take-line-start c = c .line-end .ensures .onward
 
 part-take-line-end : tie.Need-part-take-line-end Inv-loop μ-loop
-part-take-line-end c = search needs
+part-take-line-end c = c .line-end .ensures .within
 
 take-line-requires : tie.Need-take-line-requires Inv-loop μ-loop
 take-line-requires c κs =
@@ -60,8 +60,7 @@ add-at : tie.Need-add-at Inv-loop μ-loop
 add-at c =
     let k = c .before .before .before .before .before .before .before .before .before .before .before in
     let e = k .before .before .before .before .before .before in
-    let l = e .before .before in
-    let z = l .before .before .before .before .before .before .before .before .before in
+    let z = e .before .before .before .before .before .before .before .before .before .before .before in
     let s = z .before .before .before .before .before .before .before .before .before .before in
     omega (arith, e .line-end .ensures .within, s .pre .1)
 
@@ -75,7 +74,10 @@ add-line c =
     omega (arith, l .loop .inv .counted, i .loop-test .taken, s .pre .1)
 
 loop-less : tie.Need-loop-less Inv-loop μ-loop
-loop-less c = search needs
+loop-less c =
+    let k = c .before .before .before .before .before .before .before .before .before .before .before in
+    let e = k .before .before .before .before .before .before in
+    omega (arith, e .line-end .ensures .onward, e .before .loop-test .taken)
 
 loop-again : tie.Need-loop-again Inv-loop μ-loop
 loop-again c =
@@ -85,8 +87,7 @@ loop-again c =
     let l = e .before .before in
     let z = l .before .before .before .before .before .before .before .before .before in
     let s = z .before .before .before .before .before .before .before .before .before .before in
-    let a = s .args in
-    let f : List ℕ = a .file .now in
+    let f : List ℕ = s .args .file .now in
     let o = z .zero .last in
     let old : Lent = lent (o .0) (o .1 .0) (o .1 .1 .0) (o .1 .1 .1 .0) in
     let h = l .loop in
@@ -95,17 +96,32 @@ loop-again c =
     let p = m .last .1 .1 in
     let u : Lent = lent (p .0) (p .1 .0) (p .1 .1 .0) (p .1 .1 .1 .0) in
     line-taken f old t u (h .c) (h .at) (e .line-end .result) (h .line) (h .inv) (e .line-end .ensures) (m .result)
-    (m .ensures (h .inv .said) old (h .inv .held))
-    (n .next .given .0 .0) (n .next .given .1)
+    (m .ensures (h .inv .said) old (h .inv .held)) (n .next .given .0 .0) (n .next .given .1)
 
 enum-known-number : tie.Need-enum-known-number Inv-loop μ-loop
 enum-known-number c = search needs
 
 zero-requires-2 : tie.Need-zero-requires-2 Inv-loop μ-loop
-zero-requires-2 c κs = search needs
+zero-requires-2 c κs =
+    let n = c .before .before .before .before .before in
+    let k = n .before .before .before .before .before .before .before .before .before .before in
+    let e = k .before .before .before .before .before .before in
+    let l = e .before .before in
+    let z = l .before .before .before .before .before .before .before .before .before in
+    let s = z .before .before .before .before .before .before .before .before .before .before in
+    let o = z .zero .last in
+    let old : Lent = lent (o .0) (o .1 .0) (o .1 .1 .0) (o .1 .1 .1 .0) in
+    let h = l .loop in
+    let t : Lent = lent (h .clauses) (h .constraints) (h .formula) (h .names) in
+    let m = k .take-line in
+    let p = m .last .1 .1 in
+    let u : Lent = lent (p .0) (p .1 .0) (p .1 .1 .0) (p .1 .1 .1 .0) in
+    line-refused-long (s .args .file .now) old t u (h .c) (h .at) (e .line-end .result) (h .line) (h .inv)
+    (e .line-end .ensures) (m .result) (m .ensures (h .inv .said) old (h .inv .held)) (n .number .given .0 .0)
+    (n .number .given .1)
 
 refused-requires : tie.Need-refused-requires Inv-loop μ-loop
-refused-requires c κs = search needs
+refused-requires c κs = tt
 
 returns : tie.Need-returns Inv-loop μ-loop
 returns c =
@@ -128,11 +144,12 @@ returns c =
     let u : Lent = lent (p .0) (p .1 .0) (p .1 .1 .0) (p .1 .1 .1 .0) in
     let y = w .zero2 .last in
     let v : Lent = lent (y .0) (y .1 .0) (y .1 .1 .0) (y .1 .1 .1 .0) in
+    let held = m .ensures (h .inv .said) old (h .inv .held) in
+    let b = n .number .given in
     let g =
-    line-refused f old t u (h .c) (h .at) (e .line-end .result) (h .line) (h .inv) (e .line-end .ensures)
-    (m .result) (m .ensures (h .inv .said) old (h .inv .held))
-    (n .number .given .0 .0) (n .number .given .1) in
-    refused-read f (n .number .given .0 .0) (h .line) t₀ old u v (c .refused .result) (g .0) (z .zero .ensures) (g .1)
+    line-refused f old t u (h .c) (h .at) (e .line-end .result) (h .line) (h .inv) (e .line-end .ensures) (m .result)
+    held (b .0 .0) (b .1) in
+    refused-read f (b .0 .0) (h .line) t₀ old u v (c .refused .result) (g .0) (z .zero .ensures) (g .1)
     (w .zero2 .ensures) (c .refused .ensures)
 
 same-length : tie.Need-same-length Inv-loop μ-loop
@@ -148,10 +165,10 @@ same-length-4 : tie.Need-same-length-4 Inv-loop μ-loop
 same-length-4 c = lines-read-lengths (returns c) .names-same
 
 zero-requires-3 : tie.Need-zero-requires-3 Inv-loop μ-loop
-zero-requires-3 c κs = search needs
+zero-requires-3 c κs = c .before .before .before .before .before .before .before .loop .inv .long
 
 refused-requires-2 : tie.Need-refused-requires-2 Inv-loop μ-loop
-refused-requires-2 c κs = search needs
+refused-requires-2 c κs = tt
 
 returns-2 : tie.Need-returns-2 Inv-loop μ-loop
 returns-2 c =
@@ -191,8 +208,7 @@ causes-few-requires c κs =
     let l = i .before .before .before in
     let z = l .before .before .before .before .before .before .before .before .before in
     let s = z .before .before .before .before .before .before .before .before .before .before in
-    let a = s .args in
-    let f : List ℕ = a .file .now in
+    let f : List ℕ = s .args .file .now in
     let o = z .zero .last in
     let old : Lent = lent (o .0) (o .1 .0) (o .1 .1 .0) (o .1 .1 .1 .0) in
     let h = l .loop in
@@ -200,10 +216,12 @@ causes-few-requires c κs =
     causes-countable f old t (h .c) (h .at) (h .line) (h .inv) (i .if1 .left)
 
 zero-requires-4 : tie.Need-zero-requires-4 Inv-loop μ-loop
-zero-requires-4 c κs = search needs
+zero-requires-4 c κs =
+    let l = c .before .before .before .before .before .before .before .before .before .before in
+    l .loop .inv .long
 
 refused-requires-3 : tie.Need-refused-requires-3 Inv-loop μ-loop
-refused-requires-3 c κs = search needs
+refused-requires-3 c κs = tt
 
 returns-3 : tie.Need-returns-3 Inv-loop μ-loop
 returns-3 c =

@@ -49,10 +49,13 @@ module _ (t : ℕ) where
       → let p = c .before .before .before .before .before .before .before .before .before .before .before .before in
       Headed (p .args .l .now) (p .args .at) (c .node-of .result) (c .before .before .a2 .given .0 .1 .0)
   head c =
-      headed _ _ _ _ _ _ (found-as (c .before .before .before .before .before .before .before .before .token .ensures) (c .before .before .before .before .before .before .i .given .1))
-      (found-as (c .before .before .before .before .token2 .ensures) (c .before .before .a2 .given .1)) (c .node-of .ensures)
+      let b = c .before .before in
+      let d = b .before .before .before .before in
+      headed _ _ _ _ _ _ (found-as (d .before .before .token .ensures) (d .i .given .1))
+      (found-as (b .before .before .token2 .ensures) (b .a2 .given .1)) (c .node-of .ensures)
 
-  number : (c : store-nodes-lts.After-node-of (callees t) (entered t) store-nodes.Post) → NodeNumber (c .node-of .result)
+  number : (c : store-nodes-lts.After-node-of (callees t) (entered t) store-nodes.Post)
+      → NodeNumber (c .node-of .result)
   number c = rw (c .node-of .ensures) (node-number _)
 
 pub +store-nodes-spec : {M : Type 1} → statement M
@@ -61,7 +64,8 @@ pub +store-nodes-spec : {M : Type 1} → statement M
     (λ c. search needs)
     (λ c. search needs)
     (λ c. search needs)
-    (λ c κs. let u = found-as (c .before .before .before .token .ensures) (c .before .a .given .1) in omega (arith, u .inside .1, u .inside .2))
+    (λ c κs. let u = found-as (c .before .before .before .token .ensures) (c .before .a .given .1) in
+    omega (arith, u .inside .1, u .inside .2))
     (λ c. omega (arith, c .before .find .ensures .at-most))
     (λ c κs. search needs)
     (λ c. search needs)
@@ -70,29 +74,47 @@ pub +store-nodes-spec : {M : Type 1} → statement M
     (λ c. search needs)
     (λ c. search needs)
     (λ c. search needs)
-    (λ c κs. let u = found-as (c .before .before .before .token2 .ensures) (c .before .a2 .given .1) in omega (arith, u .inside .1, u .inside .2))
+    (λ c κs. let u = found-as (c .before .before .before .token2 .ensures) (c .before .a2 .given .1) in
+    omega (arith, u .inside .1, u .inside .2))
     (λ c κs. search needs)
-    (λ c κs. let q = head t (c .before .before .before .before .before) in omega (arith, q .onward, q .within, c .before .before .before .push2 .ensures .len-kept))
+    (λ c κs. let q = head t (c .before .before .before .before .before) in
+    omega (arith, q .onward, q .within, c .before .before .before .push2 .ensures .len-kept))
     (λ c κs. search needs)
     (λ c. search needs)
-    (λ c. negation-stored (head t (c .before .before .before .before .before .before .before .before .before .before)) (c .before .before .before .before .before .before .before .before .push2 .ensures) (c .before .before .before .before .store-nodes .ensures)
-    (c .behind-close .ensures) (c .before .if1 .taken))
-    (λ c κs. let q = head t (c .before .before .before .before .before .before .before .before .before .before) in
-    let o = c .before .before .before .before .store-nodes .ensures in
-    let p = c .before .before .before .before .before .before .before .before .before .before .before .before .before .before .before .before .before .before .before .before .before .before .pre in
-    (omega (arith, q .onward, q .within, o .onward, p .0), (p .1 .0, p .1 .1, omega (arith, p .1 .2, c .before .before .before .before .before .before .before .before .push2 .ensures .len-kept, o .len-kept))))
+    (λ c. let b = c .before .before .before .before in
+    let d = b .before .before .before .before in
+    negation-stored (head t (d .before .before)) (d .push2 .ensures) (b .store-nodes .ensures) (c .behind-close .ensures)
+    (c .before .if1 .taken))
+    (λ c κs. let b = c .before .before .before .before in
+    let d = b .before .before .before .before in
+    let g = d .before .before .before .before .before .before .before .before .before .before .before .before .before .before in
+    let q = head t (d .before .before) in
+    let o = b .store-nodes .ensures in
+    let p = g .pre in (
+      omega (arith, q .onward, q .within, o .onward, p .0),
+      (p .1 .0, p .1 .1, omega (arith, p .1 .2, d .push2 .ensures .len-kept, o .len-kept)),
+    ))
     (λ c κs. search needs)
     (λ c. nothing-stored (end-parsed _ _ (found-as (c .before .before .token .ensures) (c .enum-told .given .1))))
-    (λ c. nothing-stored (closing-parsed _ _ _ (found-as (c .before .before .token .ensures) (c .enum-told2 .given .1))))
+    (λ c. nothing-stored
+    (closing-parsed _ _ _ (found-as (c .before .before .token .ensures) (c .enum-told2 .given .1))))
     (λ c. search needs)
-    (λ c. name-stored _ _ _ _ _ (found-as (c .before .before .before .before .before .before .before .before .token .ensures) (c .before .before .before .before .before .before .a .given .1))
-    (c .before .before .before .before .find .ensures) (c .before .before .push .ensures))
-    (λ c. nothing-stored (opening-end-parsed _ _ _ (found-as (c .before .before .before .before .before .before .token .ensures) (c .before .before .before .before .i .given .1))
+    (λ c. let b = c .before .before .before .before in
+    let d = b .before .before in
+    name-stored _ _ _ _ _ (found-as (d .before .before .token .ensures) (d .a .given .1)) (b .find .ensures)
+    (c .before .before .push .ensures))
+    (λ c. let b = c .before .before .before .before in
+    nothing-stored (opening-end-parsed _ _ _ (found-as (b .before .before .token .ensures) (b .i .given .1))
     (found-as (c .before .before .token2 .ensures) (c .enum-told3 .given .1))))
-    (λ c. nothing-stored (opening-opening-parsed _ _ _ (found-as (c .before .before .before .before .before .before .token .ensures) (c .before .before .before .before .i .given .1)) _
+    (λ c. let b = c .before .before .before .before in
+    nothing-stored (opening-opening-parsed _ _ _ (found-as (b .before .before .token .ensures) (b .i .given .1)) _
     (found-as (c .before .before .token2 .ensures) (c .enum-told4 .given .1))))
-    (λ c. nothing-stored (opening-closing-parsed _ _ _ (found-as (c .before .before .before .before .before .before .token .ensures) (c .before .before .before .before .i .given .1)) _
+    (λ c. let b = c .before .before .before .before in
+    nothing-stored (opening-closing-parsed _ _ _ (found-as (b .before .before .token .ensures) (b .i .given .1)) _
     (found-as (c .before .before .token2 .ensures) (c .enum-told5 .given .1))))
     (λ c. search needs)
-    (λ c. joined-stored (head t (c .before .before .before .before .before .before .before .before .before .before .before .before .before .before)) (c .before .before .before .before .before .before .before .before .before .before .before .before .push2 .ensures) (c .before .before .before .before .before .before .before .before .store-nodes .ensures)
-    (c .before .before .before .store-nodes2 .ensures) (c .behind-close2 .ensures) (c .before .before .before .before .before .if1 .left) (number t (c .before .before .before .before .before .before .before .before .before .before .before .before .before .before)))
+    (λ c. let b = c .before .before .before in
+    let d = b .before .before .before .before .before in
+    let g = d .before .before .before .before in
+    joined-stored (head t (g .before .before)) (g .push2 .ensures) (d .store-nodes .ensures) (b .store-nodes2 .ensures)
+    (c .behind-close2 .ensures) (b .before .before .if1 .left) (number t (g .before .before)))

@@ -164,8 +164,10 @@ returns-7 c =
     let many = sym (u .before .is-one-too-many .ensures l y st (f .ensures .form-is) (h .case-is)) ∙ u .if5 .left in
     let only = v .before .is-second-query .ensures l y st (f .ensures .form-is) (h .case-is) (h .limits) in
     let again = sym only ∙ v .if6 .left in
-    form-taken l (f .result) (a .c) t (i .result) (i .last .1 .0) (d .result) _ (f .ensures) (s .pre .2) (d .ensures) st
-    old h more (omega arith) form long deep many again
+    let w = d .last .1 .1 .1 .1 in
+    form-taken l (f .result) (a .c) t (i .result) (i .last .1 .0) (d .result)
+    (lent (w .0) (w .1 .0) (w .1 .1 .0) (i .last .1 .0)) (f .ensures) (s .pre .2) (d .ensures) st old h more
+    (omega arith) form long deep many again
 
 pub take-form-spec : {M : Type 1} → statement M
 take-form-spec =

@@ -54,8 +54,10 @@ returns-4 c =
     let b = q .before .all-allowed in
     let bytes = sym (b .ensures) ∙ not-false (b .result) (q .if3 .left) in
     let f = c .before .before .before .before .before .before .before .before .take-form in
+    let w = f .last .1 .1 in
+    let u = lent (w .0) (w .1 .0) (w .1 .1 .0) (w .1 .1 .1 .0) in
     λ st old h.
-    took-as _ _ _ _ (f .result) old _ (line-refused-as st l (omega arith) comment bytes) (line-says st l comment)
+    took-as _ _ _ _ (f .result) old u (line-refused-as st l (omega arith) comment bytes) (line-says st l comment)
     (f .ensures st old h)
 
 pub take-line-spec : {M : Type 1} → statement M
