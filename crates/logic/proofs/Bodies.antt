@@ -17,8 +17,8 @@ use Rattle.logic.specs.Value.{isTrue, isFalse}
 use Rattle.logic.specs.Formula.{Formula, valueOf, literal, andIf, literalsBelow, body}
 use Rattle.logic.specs.Interpretation.{valueAt, Disjoint}
 use Rattle.logic.specs.Order.{Leq, Contained}
-use Rattle.logic.proofs.Values.{true-lesser, false-lesser, true-negated, false-negated}
-use Rattle.logic.proofs.Order.{leq-refl, leq-antisym, negated-mono, lesser-mono}
+use Rattle.logic.proofs.Values.{value-ext, true-lesser, false-lesser, true-negated, false-negated}
+use Rattle.logic.proofs.Order.{leq-refl, negated-mono, lesser-mono}
 use Rattle.logic.proofs.Interpretations.{true-at, false-at}
 
 -- ---- by tests of each atom's literals
@@ -124,9 +124,28 @@ literals-mono v w p n (suc a) h =
 pub body-mono : (v w : ℕ → Value) → Contained v w → (p n : ℕ) → Leq (valueOf v (body p n)) (valueOf w (body p n))
 body-mono v w h p n = literals-mono v w p n 64 (λ a l. h a)
 
+-- where they agree on the atoms that the body names
+module _ (v w : ℕ → Value) (p n : ℕ) (e : (a : ℕ) → a < 64 → (has p a || has n a) ≡ true → v a ≡ w a) where
+  tests-same : (f g : Value → Bool) (a : ℕ) → a < 64
+      → (has p a && f (v a) || has n a && g (v a)) ≡ (has p a && f (w a) || has n a && g (w a))
+  tests-same f g a l = go (has p a) (has n a) (e a l)
+    where
+      go : (s t : Bool) → ((s || t) ≡ true → v a ≡ w a)
+          → (s && f (v a) || t && g (v a)) ≡ (s && f (w a) || t && g (w a))
+      go true t h = ap (λ (x : Value). f x || t && g x) (h refl)
+      go false true h = ap g (h refl)
+      go false false h = refl
+
+  pub body-same : valueOf v (body p n) ≡ valueOf w (body p n)
+  body-same =
+      value-ext _ _
+      (true-literals v p n 64
+      ∙ ap not
+      (any-ext 64 (missed v p n) (missed w p n) (tests-same (λ x. not (isTrue x)) (λ x. not (isFalse x))))
+      ∙ sym (true-literals w p n 64))
+      (false-literals v p n 64 ∙ any-ext 64 (opposed v p n) (opposed w p n) (tests-same isFalse isTrue)
+      ∙ sym (false-literals w p n 64))
+
 pub body-ext : (v w : ℕ → Value) (p n : ℕ) → ((a : ℕ) → a < 64 → v a ≡ w a)
     → valueOf v (body p n) ≡ valueOf w (body p n)
-body-ext v w p n e =
-    leq-antisym _ _
-    (literals-mono v w p n 64 (λ a l. rw (e a l) (leq-refl (w a))))
-    (literals-mono w v p n 64 (λ a l. rw (e a l) (leq-refl (w a))))
+body-ext v w p n e = body-same v w p n (λ a l h. e a l)

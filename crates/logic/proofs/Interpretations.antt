@@ -1,17 +1,17 @@
 -- Laws of interpretations: the values in one, the one of given values, and how the number of decided atoms grows.
 -- Assumes nothing.
 use mathlib.Core.Path.{_≡_, refl, sym, ap, ap₂, _∙_}
-use mathlib.Core.Bool.{Bool, true, false, not, _&&_, _||_, or-true, or-false, and-true, and-false}
+use mathlib.Core.Bool.{Bool, true, false, not, _&&_, _||_, or-true, or-false, and-true, and-false, true≢false}
 use mathlib.Core.Logic.{_⊎_, inl, inr, ⊎-elim}
 use Prim.Native.Nat.{ℕ, _-_, _^_, _≤_, _<_}
 use native.Mathlib.Omega.{arith}
 use lib.Dec.{eqb, lit<}
-use lib.Bits.{bitAnd, bitOr, and-lt}
+use lib.Bits.{bitAnd, bitOr, bitXor, and-lt, or-lt, xor-lt}
 use lib.Count.{ones}
 use borrow.Author.Tests.{eqb-true, eq-eqb, ne-eqb}
 use Rattle.words.specs.Bits.{has, word}
-use Rattle.words.proofs.Tests.{lt-or-le, and-true-l, and-true-r}
-use Rattle.words.proofs.Bits.{has-zero, has-above, has-and, has-ext}
+use Rattle.words.proofs.Tests.{lt-or-le, and-true-l, and-true-r, or-false-l, or-false-r}
+use Rattle.words.proofs.Bits.{has-zero, has-above, has-and, has-or, has-xor, differs, has-ext}
 use Rattle.words.proofs.Words.{word-lt, has-word, is-word, word-ext}
 use Rattle.words.proofs.Words.{has-or-one, or-one-lt, has-without-one, without-one-lt}
 use Rattle.words.proofs.Counts.{ones-grow, ones-apart}
@@ -142,6 +142,56 @@ module _ (q : Value → Bool) (v : ℕ → Value) (w : ℕ) (a : ℕ) (x : Value
       is-word 64 _ (λ b. q (assigned v a x b)) (without-one-lt 64 w a fits)
       (λ b m. has-without-one 64 w a b l m ∙ ap (λ (t : Bool). t && not (eqb b a)) (bits b)
       ∙ without-pick e (eqb b a) (v b))
+
+-- ---- the decided atoms
+pub decided-at : (i : Interpretation) → Disjoint i → (a : ℕ)
+    → has (bitOr (i .trues) (i .falses)) a ≡ (isTrue (valueAt i a) || isFalse (valueAt i a))
+decided-at i d a = has-or (i .trues) (i .falses) a ∙ sym (ap₂ _||_ (true-at i a) (false-at i d a))
+
+-- ---- the atoms whose values differ
+abbrev pub changed : Interpretation → Interpretation → ℕ
+changed i j = bitOr (bitXor (i .trues) (j .trues)) (bitXor (i .falses) (j .falses))
+
+module _ (i j : Interpretation) where
+  has-changed : (a : ℕ) → has (changed i j) a
+      ≡ (differs (has (i .trues) a) (has (j .trues) a) || differs (has (i .falses) a) (has (j .falses) a))
+  has-changed a =
+      has-or (bitXor (i .trues) (j .trues)) (bitXor (i .falses) (j .falses)) a
+      ∙ ap₂ _||_ (has-xor (i .trues) (j .trues) a) (has-xor (i .falses) (j .falses) a)
+
+  same-bits : (a b c d : Bool) → (differs a b || differs c d) ≡ false → among a c ≡ among b d
+  same-bits a b c d e =
+      ap₂ among {x = a} {y = b} {u = c} {v = d}
+      (same a b (or-false-l (differs a b) (differs c d) e)) (same c d (or-false-r (differs a b) (differs c d) e))
+    where
+      same : (s t : Bool) → differs s t ≡ false → s ≡ t
+      same true true h = refl
+      same true false h = absurd (true≢false h)
+      same false t h = sym h
+
+  pub unchanged-at : (a : ℕ) → has (changed i j) a ≡ false → valueAt i a ≡ valueAt j a
+  unchanged-at a e =
+      same-bits (has (i .trues) a) (has (j .trues) a) (has (i .falses) a) (has (j .falses) a) (sym (has-changed a) ∙ e)
+
+  module _ (g : Good i) (h : Good j) where
+    pub changed-lt : changed i j < 2 ^ 64
+    changed-lt =
+        or-lt 64 _ _ (xor-lt 64 _ _ (g .trues-fit) (h .trues-fit)) (xor-lt 64 _ _ (g .falses-fit) (h .falses-fit))
+
+    pub changed-none : changed i j ≡ 0 → i ≡ j
+    changed-none e =
+        sym (of-values-at i g)
+        ∙ values-ext (valueAt i) (valueAt j) (λ a l. unchanged-at a (ap (λ (w : ℕ). has w a) e ∙ has-zero a))
+        ∙ of-values-at j h
+
+pub changed-self : (i : Interpretation) → Good i → changed i i ≡ 0
+changed-self i g =
+    has-ext 64 _ 0 (changed-lt i i g g) (lit< tt)
+    (λ a l. has-changed i i a ∙ ap₂ _||_ (none (has (i .trues) a)) (none (has (i .falses) a)) ∙ sym (has-zero a))
+  where
+    none : (t : Bool) → differs t t ≡ false
+    none true = refl
+    none false = refl
 
 -- ---- the number of decided atoms
 pub decided-le : (m : ℕ) (i : Interpretation) → i .trues < 2 ^ m → i .falses < 2 ^ m → Disjoint i → decidedIn i ≤ m

@@ -1,6 +1,6 @@
 // Truth values and the connectives on them.
 ghost use mathlib.Core.Path.{_≡_};
-ghost use Rattle.logic.specs.Value.{rank, negated, lesser, greater, implies, equivalent};
+ghost use Rattle.logic.specs.Value.{rank, isTrue, negated, lesser, greater, implies, equivalent};
 
 // A truth value, in rising order.
 pub enum Value {
@@ -25,6 +25,16 @@ impl Value {
             Value::False => 0,
             Value::Unknown => 1,
             Value::True => 2,
+        }
+    }
+
+    pub fn is_true(self) -> bool
+        ensures { λ r. ⌜ r ≡ isTrue self ⌝ }
+    {
+        match self {
+            Value::False => false,
+            Value::Unknown => false,
+            Value::True => true,
         }
     }
 

@@ -44,6 +44,24 @@ pub all-false : (n : ℕ) (p : ℕ → Bool) → ((i : ℕ) → i < n → p i �
 all-false zero p e = refl
 all-false (suc n) p e = rw (all-false n p (λ i l. e i (omega arith))) (e n (omega arith))
 
+-- one that passes is enough
+pub any-true : (n : ℕ) (p : ℕ → Bool) (i : ℕ) → i < n → p i ≡ true → any n p ≡ true
+any-true n p i l e = go (any n p) refl
+  where
+    go : (b : Bool) → any n p ≡ b → any n p ≡ true
+    go true h = h
+    go false h = absurd (false≢true (sym (any-false n p h i l) ∙ e))
+
+pub any-or : (n : ℕ) (p q : ℕ → Bool) → any n (λ i. p i || q i) ≡ (any n p || any n q)
+any-or zero p q = refl
+any-or (suc n) p q = ap (λ (b : Bool). b || (p n || q n)) (any-or n p q) ∙ swap (any n p) (any n q) (p n) (q n)
+  where
+    swap : (a b c d : Bool) → ((a || b) || (c || d)) ≡ ((a || c) || (b || d))
+    swap true b c d = refl
+    swap false true true d = refl
+    swap false true false d = refl
+    swap false false c d = refl
+
 -- among the numbers below k, only i is tested
 pub any-at : (k : ℕ) (p : ℕ → Bool) (i : ℕ) → i < k → any k (λ j. p j && eqb j i) ≡ p i
 any-at zero p i l = absurd (not-suc-le-zero l)

@@ -9,7 +9,7 @@ use native.Mathlib.Omega.{arith}
 use lib.Dec.{eqb, eqb·zero-suc, eqb·suc-zero, eqb·suc-suc}
 use lib.Arith.{lt-one}
 use lib.Pow.{shr-shr, shl-exact, pow-mono}
-use lib.Bits.{bitAnd, bitOr, and-shr, or-shr, and-mod, or-mod}
+use lib.Bits.{bitAnd, bitOr, bitXor, and-shr, or-shr, xor-shr, and-mod, or-mod, xor-mod}
 use borrow.Author.Tests.{eqb-true, eqb-false, eq-eqb, ne-eqb}
 use Rattle.words.specs.Bits.{odd, has}
 
@@ -56,6 +56,15 @@ has-and = has-op bitAnd _&&_ and-shr and-mod (four (λ x y. eqb (bitAnd x y) 1 �
 
 pub has-or : (a b i : ℕ) → has (bitOr a b) i ≡ (has a i || has b i)
 has-or = has-op bitOr _||_ or-shr or-mod (four (λ x y. eqb (bitOr x y) 1 ≡ (eqb x 1 || eqb y 1)) refl refl refl refl)
+
+abbrev pub differs : Bool → Bool → Bool
+differs true b = not b
+differs false b = b
+
+pub has-xor : (a b i : ℕ) → has (bitXor a b) i ≡ differs (has a i) (has b i)
+has-xor =
+    has-op bitXor differs xor-shr xor-mod
+    (four (λ x y. eqb (bitXor x y) 1 ≡ differs (eqb x 1) (eqb y 1)) refl refl refl refl)
 
 -- ---- the complement in a word of k bits: what `!a` is at k = 64
 odd-not : (x y : ℕ) → x % 2 + y % 2 ≡ 1 → odd x ≡ not (odd y)

@@ -1,6 +1,6 @@
 -- The count of a word's bits, and how it grows with the word. Assumes nothing.
 use mathlib.Core.Path.{_≡_, refl, sym, ap, ap₂, _∙_, subst}
-use mathlib.Core.Bool.{Bool, true, false, not, _&&_, _||_}
+use mathlib.Core.Bool.{Bool, true, false, not, _&&_, _||_, false≢true}
 use mathlib.Core.Logic.{_⊎_, inl, inr, ⊎-elim}
 use Prim.Native.Nat.{ℕ, zero, suc, _+_, _-_, _*_, _/_, _%_, _^_, _≤_, _<_}
 use native.Mathlib.Nat.{pow-suc, le-of-suc-le-suc, eq-or-lt-of-le}
@@ -9,9 +9,10 @@ use lib.Dec.{eqb}
 use lib.Arith.{lt-one}
 use lib.Count.{ones, ones-step, ones-le}
 use lib.Bits.{bitAnd, bitOr}
+use lib.Pow.{pow-pos}
 use borrow.Author.Tests.{eqb-true, eq-eqb}
 use Rattle.words.specs.Bits.{odd, has}
-use Rattle.words.proofs.Bits.{has-low, has-half}
+use Rattle.words.proofs.Bits.{has-low, has-half, has-zero}
 
 -- each bit of a is one of b
 abbrev pub Within : ℕ → ℕ → ℕ → Type 0
@@ -38,6 +39,12 @@ ones-grow (suc k) a b h l s = go (ones-grow k (a / 2) (b / 2) (omega arith) (ome
     go : (a / 2 ≡ b / 2) ⊎ (ones (a / 2) < ones (b / 2)) → (a ≡ b) ⊎ (ones a < ones b)
     go (inl e) = ⊎-elim (λ (q : a % 2 ≡ b % 2). inl (omega arith)) (λ (q : a % 2 < b % 2). inr (omega (arith, ones-step a, ones-step b, ap ones e))) (eq-or-lt-of-le low)
     go (inr q) = inr (omega (arith, ones-step a, ones-step b, low))
+
+-- a word without bits is 0
+pub ones-none : (w : ℕ) → w < 2 ^ 64 → ones w ≡ 0 → w ≡ 0
+ones-none w h e =
+    ⊎-elim (λ (q : 0 ≡ w). sym q) (λ (q : ones 0 < ones w). absurd (omega arith))
+    (ones-grow 64 0 w (pow-pos 64) h (λ i l z. absurd (false≢true (sym (has-zero i) ∙ z))))
 
 low-apart : (a b : ℕ) → (odd a && odd b) ≡ false → a % 2 + b % 2 ≤ 1
 low-apart a b e = go (a % 2) (b % 2) refl refl

@@ -1,8 +1,9 @@
-// Words of 64 bits as sets of bit numbers: one bit, the lowest bits, the test of a bit, the count of ones.
+// Words of 64 bits as sets of bit numbers: one bit, the lowest bits, the test of a bit, the count of ones, a walk over
+// the bits.
 ghost use mathlib.Core.Path.{_≡_};
 ghost use Prim.Native.Nat.{_+_, _^_, _≤_, _<_};
 ghost use lib.Count.{ones};
-ghost use Rattle.words.specs.Bits.{has};
+ghost use Rattle.words.specs.Bits.{has, withoutBit, BitOf};
 
 // The word with bit i alone.
 pub fn single(i: u32) -> u64
@@ -34,4 +35,20 @@ pub fn count(w: u64) -> u32
     ensures { λ r. ⌜ r ≡ ones w ⌝ }
 {
     u64::count_ones(w)
+}
+
+// The number of the lowest bit of w.
+pub fn lowest_bit(w: u64) -> u32
+    requires { ⌜ (w ≡ 0 → ⊥) ⌝ }
+    ensures { λ r. ⌜ BitOf w r ⌝ }
+{
+    u64::trailing_zeros(w)
+}
+
+// The word w without bit i.
+pub fn without(w: u64, i: u32) -> u64
+    requires { ⌜ i < 64 ⌝ }
+    ensures { λ r. ⌜ r ≡ withoutBit w i ⌝ }
+{
+    w & !(1u64 << i)
 }
