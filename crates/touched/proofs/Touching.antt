@@ -1,0 +1,109 @@
+-- Two walks over a word's bits: over fresh atoms, gathering the heads they touch, and over atoms that are decided anew.
+-- What is done and what is left is always all. Assumes nothing.
+use mathlib.Core.Path.{_≡_, refl, sym, ap, ap₂, _∙_}
+use mathlib.Core.Bool.{Bool, true, false, _&&_, _||_, or-false, or-assoc}
+use mathlib.Core.List.{List}
+use Prim.Native.Nat.{ℕ, _^_, _<_}
+use lib.Bits.{bitOr, or-lt}
+use lib.Dec.{eqb, lit<}
+use lib.ListN.{getD}
+use borrow.Author.Tests.{eqb-true, eqb-false}
+use Rattle.words.specs.Below.{any}
+use Rattle.words.specs.Bits.{has, word, withoutBit, BitOf}
+use Rattle.words.proofs.Below.{all-false}
+use Rattle.words.proofs.Bits.{has-zero, has-or}
+use Rattle.words.proofs.Words.{is-word}
+use Rattle.words.proofs.BitWalks.{without-here, without-other, any-without}
+use Rattle.logic.specs.declared.value.Value.{Value}
+use Rattle.logic.specs.declared.interpretation.Interpretation.{Interpretation}
+use Rattle.logic.specs.Interpretation.{valueAt, ofValues, pickValue, assigned}
+use Rattle.logic.proofs.Interpretations.{Good, values-at, values-ext, values-good, of-values-at}
+use Rattle.logic.proofs.Interpretations.{assigned-same, assigned-other}
+use Rattle.touched.specs.Dependents.{touchedBy}
+use Rattle.touched.specs.Chains.{rulesValue}
+use Rattle.touched.specs.Prepared.{redone}
+
+-- ---- the heads that fresh atoms touch
+module _ (t : List ℕ) (fresh : ℕ) where
+  pub record Gathered (heads left : ℕ) : Type 0 where
+    pub fits : heads < 2 ^ 64
+    pub all : (a : ℕ) → (touchedBy t left a || has heads a) ≡ touchedBy t fresh a
+
+  pub gathered-start : Gathered 0 fresh
+  gathered-start = record {
+    fits = lit< tt;
+    all = λ a. ap (λ (b : Bool). touchedBy t fresh a || b) (has-zero a) ∙ or-false (touchedBy t fresh a);
+  }
+
+  pub gathered-next : (heads left i : ℕ) → Gathered heads left → BitOf left i → getD t i 0 < 2 ^ 64
+      → Gathered (bitOr heads (getD t i 0)) (withoutBit left i)
+  unfolding touchedBy
+  gathered-next heads left i g b l = record {
+    fits = or-lt 64 _ _ (g .fits) l;
+    all = λ a. ap (λ (s : Bool). touchedBy t (withoutBit left i) a || s) (has-or heads (getD t i 0) a)
+        ∙ swap (touchedBy t (withoutBit left i) a) (has heads a) (has (getD t i 0) a)
+        ∙ ap (λ (s : Bool). s || has heads a) (sym (any-without left i b (λ j. has (getD t j 0) a)))
+        ∙ g .all a;
+  }
+    where
+      swap : (x y z : Bool) → (x || (y || z)) ≡ ((x || z) || y)
+      swap true y z = refl
+      swap false true true = refl
+      swap false true false = refl
+      swap false false z = sym (or-false z)
+
+  pub gathered-end : (heads left : ℕ) → Gathered heads left → left ≡ 0 → heads ≡ word 64 (touchedBy t fresh)
+  unfolding touchedBy
+  gathered-end heads left g e =
+      is-word 64 heads (touchedBy t fresh) (g .fits)
+      (λ a l. ap (λ (s : Bool). s || has heads a) (sym (none a)) ∙ g .all a)
+    where
+      none : (a : ℕ) → touchedBy t left a ≡ false
+      none a =
+          all-false 64 (λ i. has left i && has (getD t i 0) a)
+          (λ i m. ap (λ (w : ℕ). has w i && has (getD t i 0) a) e ∙ ap (λ (s : Bool). s && has (getD t i 0) a) (has-zero i))
+
+-- ---- the atoms of d decided anew
+module _ (cl : List ℕ) (n : ℕ) (i : Interpretation) (d : ℕ) where
+  -- the value of the atom a in j, or what its rules are worth where it is in the word w
+  abbrev redoneIn : ℕ → Interpretation → ℕ → Value
+  redoneIn w j a = pickValue (has w a) (rulesValue (valueAt i) cl a n) (valueAt j a)
+
+  pub record Redoing (j : Interpretation) (left : ℕ) : Type 0 where
+    pub good : Good j
+    pub all : (a : ℕ) → a < 64 → redoneIn left j a ≡ redoneIn d i a
+
+  pub redoing-start : Good i → Redoing i d
+  redoing-start g = record { good = g; all = λ a l. refl }
+
+  pub redoing-next : (j k : Interpretation) (left b : ℕ) (x : Value) → Redoing j left → BitOf left b
+      → x ≡ rulesValue (valueAt i) cl b n → k ≡ ofValues (assigned (valueAt j) b x) → Redoing k (withoutBit left b)
+  redoing-next j k left b x r q e f = record {
+    good = rw f (values-good (assigned (valueAt j) b x));
+    all = λ a l. go a l (eqb a b) refl ∙ r .all a l;
+  }
+    where
+      value-is : (a : ℕ) → a < 64 → valueAt k a ≡ assigned (valueAt j) b x a
+      value-is a l = ap (λ (m : Interpretation). valueAt m a) f ∙ values-at (assigned (valueAt j) b x) a l
+
+      here : redoneIn (withoutBit left b) k b ≡ redoneIn left j b
+      here =
+          ap (λ (t : Bool). pickValue t (rulesValue (valueAt i) cl b n) (valueAt k b)) (without-here left b q)
+          ∙ value-is b (q .small) ∙ assigned-same (valueAt j) b x ∙ e
+          ∙ ap (λ (t : Bool). pickValue t (rulesValue (valueAt i) cl b n) (valueAt j b)) (sym (q .there))
+
+      go : (a : ℕ) → a < 64 → (t : Bool) → eqb a b ≡ t → redoneIn (withoutBit left b) k a ≡ redoneIn left j a
+      go a l true z = rw (eqb-true a b z) here
+      go a l false z =
+          let ne = eqb-false a b z in
+          ap₂ (λ (t : Bool) (y : Value). pickValue t (rulesValue (valueAt i) cl a n) y) (without-other left b q a l ne)
+          (value-is a l ∙ assigned-other (valueAt j) b x a ne)
+
+  pub redoing-end : (j : Interpretation) (left : ℕ) → Redoing j left → left ≡ 0 → j ≡ redone cl n i d
+  unfolding redone
+  redoing-end j left r e =
+      sym (of-values-at j (r .good))
+      ∙ values-ext (valueAt j) (redoneIn d i)
+      (λ a l. ap (λ (t : Bool). pickValue t (rulesValue (valueAt i) cl a n) (valueAt j a))
+      (sym (ap (λ (w : ℕ). has w a) e ∙ has-zero a))
+      ∙ r .all a l)

@@ -1,0 +1,39 @@
+-- Which heads a changed atom touches.
+--
+--   names cl k i          clause k names the atom i
+--   dependentsOf cl n i   the heads of those of the first n clauses that name i, bit a for atom a
+--   Dependents cl n t     the table t has the dependents of each atom
+--   Words t, Zeros t      the first 64 entries of t are words of 64 bits, are 0
+--   Spread t w h u        u is t with the head h added to the dependents of the atoms of w
+--   touchedBy t w a       the head a is among the dependents of some atom of w
+use mathlib.Core.Path.{_≡_}
+use mathlib.Core.Bool.{Bool, _&&_, _||_}
+use mathlib.Core.List.{List}
+use Prim.Native.Nat.{ℕ, _^_, _<_}
+use lib.Dec.{eqb}
+use lib.ListN.{length, getD}
+use Rattle.words.specs.Below.{any}
+use Rattle.words.specs.Bits.{has, word, withBit}
+use Rattle.program.specs.Case.{headAt, plainAt, negatedAt}
+
+abbrev pub names : List ℕ → ℕ → ℕ → Bool
+names cl k i = has (plainAt cl k) i || has (negatedAt cl k) i
+
+unfoldable pub dependentsOf : List ℕ → ℕ → ℕ → ℕ
+dependentsOf cl n i = word 64 (λ a. any n (λ k. eqb a (headAt cl k) && names cl k i))
+
+abbrev pub Dependents : List ℕ → ℕ → List ℕ → Type 0
+Dependents cl n t = (i : ℕ) → i < 64 → getD t i 0 ≡ dependentsOf cl n i
+
+abbrev pub Words : List ℕ → Type 0
+Words t = (i : ℕ) → i < 64 → getD t i 0 < 2 ^ 64
+
+abbrev pub Zeros : List ℕ → Type 0
+Zeros t = (i : ℕ) → i < 64 → getD t i 0 ≡ 0
+
+pub record Spread (t : List ℕ) (w h : ℕ) (u : List ℕ) : Type 0 where
+  pub size-is : length u ≡ 64
+  pub entry-is : (i : ℕ) → i < 64 → getD u i 0 ≡ withBit (has w i) (getD t i 0) h
+
+unfoldable pub touchedBy : List ℕ → ℕ → ℕ → Bool
+touchedBy t w a = any 64 (λ i. has w i && has (getD t i 0) a)

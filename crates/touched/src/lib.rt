@@ -1,0 +1,6 @@
+// Settling by touched heads: a round decides anew only the heads of rules that name an atom changed by the round before.
+pub mod chain;
+pub mod dependent;
+pub mod opening;
+pub mod rounds;
+pub mod table;

@@ -1,0 +1,44 @@
+// The first round, which is nearly the same for every set of causes.
+ghost use mathlib.Core.Path.{_≡_};
+ghost use Prim.Native.Nat.{_*_, _≤_};
+ghost use lib.ListN.{length};
+ghost use Rattle.program.specs.Program.{headsOf};
+ghost use Rattle.touched.specs.Opening.{openingOf, opened};
+use logic::interpretation::Interpretation;
+use program::cause::Additions;
+
+// The first round's true and false atoms where nothing is added, and the clauses' heads, bit i for atom i.
+pub struct Opening {
+    pub trues: u64,
+    pub falses: u64,
+    pub heads: u64,
+}
+
+impl Opening {
+    // The interpretation after the first round where a set's facts and assumptions are added.
+    pub fn with(self, added: Additions) -> Interpretation
+        ensures { λ r. ⌜ r ≡ opened self added ⌝ }
+    {
+        Interpretation {
+            trues: self.trues | added.facts,
+            falses: (self.falses | (added.assumptions & !self.heads)) & !added.facts,
+        }
+    }
+}
+
+// The opening of the first n clauses, whose heads are given.
+pub fn first_round(clauses: &[u64], n: usize, heads: u64) -> Opening
+    requires { ⌜ (n ≤ 256) × (3 * n ≤ length (now clauses)) × (heads ≡ headsOf (now clauses) n) ⌝ }
+    ensures { λ r. ⌜ r ≡ openingOf (now (clauses .entry)) n ⌝ }
+{
+    let none = Additions {
+        facts: 0,
+        assumptions: 0,
+    };
+    let first = settle::step::apply(Interpretation::nothing(), clauses, n, heads, none);
+    Opening {
+        trues: first.trues,
+        falses: first.falses,
+        heads,
+    }
+}
