@@ -1,6 +1,6 @@
 -- Laws of judging: what a case that is prepared gives the functions that judge a setting. Assumes nothing.
 use mathlib.Core.Path.{_≡_, refl, sym, ap, subst, _∙_}
-use mathlib.Core.Bool.{Bool, false, not}
+use mathlib.Core.Bool.{Bool, true, false, not}
 use mathlib.Core.List.{List}
 use mathlib.Core.Logic.{_⊎_, ⊎-elim}
 use Prim.Native.Nat.{ℕ, _*_, _≤_}
@@ -17,7 +17,9 @@ use Rattle.program.specs.declared.case.Case.{Case}
 use Rattle.program.specs.declared.cause.Additions.{Additions}
 use Rattle.program.specs.Case.{forbidden, forbiddenNot}
 use Rattle.program.specs.Program.{programWith, headsOf}
+use Rattle.program.specs.Cause.{causesOf}
 use Rattle.program.specs.Setting.{additionsOf}
+use Rattle.program.specs.Sound.{sound}
 use Rattle.program.proofs.Soundness.{full-clauses, full-constraints, sound-full}
 use Rattle.program.proofs.Soundness.{sound-atoms, sound-clauses, sound-constraints}
 use Rattle.settle.specs.declared.settle.Settled.{Settled}
@@ -39,40 +41,39 @@ untrue-tag True h = absurd (⊎-elim (λ (e : 2 ≡ 0). omega arith) (λ (e : 2 
 abbrev pub unbroken : List ℕ → (ℕ → Value) → ℕ → Bool
 unbroken co v k = not (isTrue (valueOf v (body (forbidden co k) (forbiddenNot co k))))
 
--- ---- a setting of a prepared case
+-- ---- a setting of a sound case
 abbrev pub judgedBy : Bool → Settled → Judged
 judgedBy b r = record { explains = b; interpretation = r .interpretation; rounds = r .rounds }
 
-module _ (c : Case) (cl co fo : List ℕ) (heads causes : ℕ) (p : Prepared c cl co fo heads causes) where
-  pub prepared-clauses : (c .clauses ≤ 256) × (3 * c .clauses ≤ length cl) × (heads ≡ headsOf cl (c .clauses))
-  prepared-clauses =
-      let l = sound-clauses c cl co fo (p .is-sound) in
-      let f = full-clauses cl co fo (sound-full c cl co fo (p .is-sound)) in
-      (l, omega arith, p .heads-are)
+-- what preparing the tables for settling asks
+pub prepared-clauses : (c : Case) (cl co fo : List ℕ) (heads causes : ℕ) → Prepared c cl co fo heads causes
+    → (c .clauses ≤ 256) × (3 * c .clauses ≤ length cl) × (heads ≡ headsOf cl (c .clauses))
+prepared-clauses c cl co fo heads causes p =
+    let l = sound-clauses c cl co fo (p .is-sound) in
+    let f = full-clauses cl co fo (sound-full c cl co fo (p .is-sound)) in
+    (l, omega arith, p .heads-are)
 
-  pub prepared-constraints : (c .constraints ≤ 32) × (64 ≤ length co)
-  prepared-constraints = (
-    sound-constraints c cl co fo (p .is-sound),
-    full-constraints cl co fo (sound-full c cl co fo (p .is-sound)),
-  )
+module _ (c : Case) (cl co fo : List ℕ) (h : sound c cl co fo ≡ true) where
+  pub sound-constraints-held : (c .constraints ≤ 32) × (64 ≤ length co)
+  sound-constraints-held =
+      (sound-constraints c cl co fo h, full-constraints cl co fo (sound-full c cl co fo h))
 
   module _ (s : ℕ) where
-    pub settled-setting : (x : Additions) (r : Settled) → x ≡ additionsOf causes s
-        → r ≡ settled (programWith cl (c .clauses) x) → r ≡ settled (programOf c cl s)
-    settled-setting x r e q =
+    pub settled-setting : (causes : ℕ) → causes ≡ causesOf c cl → (x : Additions) (r : Settled)
+        → x ≡ additionsOf causes s → r ≡ settled (programWith cl (c .clauses) x) → r ≡ settled (programOf c cl s)
+    settled-setting causes f x r e q =
         q
-        ∙ ap (λ (y : Additions). settled (programWith cl (c .clauses) y))
-        (e ∙ ap (λ (w : ℕ). additionsOf w s) (p .causes-are))
+        ∙ ap (λ (y : Additions). settled (programWith cl (c .clauses) y)) (e ∙ ap (λ (w : ℕ). additionsOf w s) f)
 
     pub settled-disjoint : (r : Settled) → r ≡ settled (programOf c cl s) → Disjoint (r .interpretation)
     settled-disjoint r e =
         subst (λ (x : Settled). Disjoint (x .interpretation)) (sym e)
-        (settled-least-model c cl co fo s (p .is-sound) .disjoint)
+        (settled-least-model c cl co fo s h .disjoint)
 
     settled-few : (r : Settled) → r ≡ settled (programOf c cl s) → r .rounds ≤ 64
     settled-few r e =
-        let m = round-count-least c cl co fo s (p .is-sound) .at-most in
-        let a = sound-atoms c cl co fo (p .is-sound) in
+        let m = round-count-least c cl co fo s h .at-most in
+        let a = sound-atoms c cl co fo h in
         omega (arith, ap (λ (x : Settled). x .rounds) e)
 
     pub judges : (r : Settled) (b : Bool) → r ≡ settled (programOf c cl s)

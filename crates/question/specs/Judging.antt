@@ -2,6 +2,7 @@
 -- the subsets of a setting by the bytes of the work area.
 --
 --   Prepared ..        the case is sound, and its heads and causes are at hand
+--   Tabled ..          the case is sound, and its causes and the tables for settling are at hand
 --   Judges ..          what settling a setting tells
 --   markedIn work t    byte t of the work area says that setting t explains
 --   markedBelow ..     and t is below a number
@@ -19,6 +20,8 @@ use Rattle.program.specs.Cause.{causesOf}
 use Rattle.program.specs.Sound.{sound}
 use Rattle.settle.specs.Rounds.{settled}
 use Rattle.settle.specs.Operation.{programOf}
+use Rattle.touched.specs.declared.opening.Opening.{Opening}
+use Rattle.touched.specs.Prepared as touched
 use Rattle.question.specs.declared.judge.Judged.{Judged}
 use Rattle.question.specs.Explanation.{explains}
 
@@ -26,6 +29,12 @@ pub record Prepared (c : Case) (cl co fo : List ℕ) (heads causes : ℕ) : Type
   pub is-sound : sound c cl co fo ≡ true
   pub heads-are : heads ≡ headsOf cl (c .clauses)
   pub causes-are : causes ≡ causesOf c cl
+
+pub record Tabled (c : Case) (cl co fo : List ℕ) (causes : ℕ) (o : Opening) (dependents last prev : List ℕ)
+    : Type 0 where
+  pub is-sound : sound c cl co fo ≡ true
+  pub causes-are : causes ≡ causesOf c cl
+  pub tables : touched.Prepared cl (c .clauses) o dependents last prev
 
 pub record Judges (c : Case) (cl co : List ℕ) (s : ℕ) (r : Judged) : Type 0 where
   pub explains-is : r .explains ≡ explains c cl co s

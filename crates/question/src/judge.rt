@@ -7,10 +7,11 @@ ghost use Rattle.logic.specs.Formula.{valueOf};
 ghost use Rattle.logic.specs.Nodes.{oneFormula, formulaOf};
 ghost use Rattle.logic.specs.Interpretation.{valueAt, Disjoint};
 ghost use Rattle.question.specs.Explanation.{noneBroken, explainsUnder};
-ghost use Rattle.question.specs.Judging.{Prepared, Judges};
+ghost use Rattle.question.specs.Judging.{Tabled, Judges};
 use logic::interpretation::Interpretation;
 use logic::value::Value;
 use program::case::Case;
+use touched::opening::Opening;
 
 // Whether a setting explains, its settled interpretation and its rounds.
 pub struct Judged {
@@ -52,15 +53,19 @@ pub fn judge(
     clauses: &[u64],
     constraints: &[u64],
     formula: &[u8],
-    heads: u64,
     causes: u64,
+    opening: Opening,
+    dependents: &[u64; 64],
+    last: &[usize; 64],
+    prev: &[usize; 256],
     setting: u64,
 ) -> Judged
-    requires { ⌜ Prepared c (now clauses) (now constraints) (now formula) heads causes ⌝ }
+    requires { ⌜ Tabled c (now clauses) (now constraints) (now formula) causes opening (now dependents) (now last)
+        (now prev) ⌝ }
     ensures { λ r. ⌜ Judges c (now (clauses .entry)) (now (constraints .entry)) setting r ⌝ }
 {
     let added = program::cause::added(causes, setting);
-    let s = settle::settle::run(clauses, c.clauses, heads, added);
+    let s = touched::rounds::run(clauses, c.clauses, opening, dependents, last, prev, added);
     let i = s.interpretation;
     Judged {
         explains: explains_under(i, c, constraints),

@@ -3,7 +3,7 @@ ghost use mathlib.Core.Path.{_≡_};
 ghost use mathlib.Core.List.{List};
 ghost use Prim.Native.Nat.{ℕ, _+_, _≤_, _<_, min};
 ghost use lib.ListN.{length, set};
-ghost use Rattle.question.specs.Judging.{Prepared};
+ghost use Rattle.question.specs.Judging.{Prepared, Tabled};
 ghost use Rattle.question.specs.Judge.{judgeOf};
 ghost use Rattle.question.specs.Operation.{choicesIn, settingsIn};
 ghost use Rattle.question.specs.Walking.{Walked, Ready};
@@ -12,6 +12,7 @@ use crate::judge::query_value;
 use crate::subset::some_proper;
 use crate::verdict::Verdict;
 use program::case::Case;
+use touched::opening::Opening;
 
 // What a walk has counted: minimal explanations, those written to the list, rounds, and the verdict over them.
 pub struct Tally {
@@ -39,15 +40,18 @@ fn visit(
     clauses: &[u64],
     constraints: &[u64],
     formula: &[u8],
-    heads: u64,
     causes: u64,
+    opening: Opening,
+    dependents: &[u64; 64],
+    last: &[usize; 64],
+    prev: &[usize; 256],
     setting: usize,
     t: Tally,
     list: &mut [u16],
     work: &mut [u8],
 ) -> Tally
-    requires { ⌜ Prepared c (now clauses) (now constraints) (now formula) heads causes
-        × Ready (settingsIn c (now clauses)) setting t (now list) (now work) ⌝ }
+    requires { ⌜ Tabled c (now clauses) (now constraints) (now formula) causes opening (now dependents) (now last)
+        (now prev) × Ready (settingsIn c (now clauses)) setting t (now list) (now work) ⌝ }
     ensures { λ r. ⌜ ((list₀ work₀ : List ℕ)
         → Walked (judgeOf c (now (clauses .entry)) (now (constraints .entry)) (now (formula .entry)))
         (choicesIn c (now (clauses .entry))) list₀ work₀ setting t (now (list .entry)) (now (work .entry))
@@ -59,8 +63,11 @@ fn visit(
         clauses,
         constraints,
         formula,
-        heads,
         causes,
+        opening,
+        dependents,
+        last,
+        prev,
         setting as u64,
     );
     let mut next = t;
@@ -86,20 +93,23 @@ fn visit(
     }
 }
 
-// Walks over the settings below end.
-pub fn walk(
+// Visits the settings below end in rising order.
+fn visit_all(
     c: Case,
     clauses: &[u64],
     constraints: &[u64],
     formula: &[u8],
-    heads: u64,
     causes: u64,
+    opening: Opening,
+    dependents: &[u64; 64],
+    last: &[usize; 64],
+    prev: &[usize; 256],
     end: usize,
     list: &mut [u16],
     work: &mut [u8],
 ) -> Tally
-    requires { ⌜ Prepared c (now clauses) (now constraints) (now formula) heads causes
-        × (end ≡ settingsIn c (now clauses)) × (end ≤ 59049) × (end ≤ length (now work)) ⌝ }
+    requires { ⌜ Tabled c (now clauses) (now constraints) (now formula) causes opening (now dependents) (now last)
+        (now prev) × (end ≡ settingsIn c (now clauses)) × (end ≤ 59049) × (end ≤ length (now work)) ⌝ }
     ensures { λ r. ⌜ Walked (judgeOf c (now (clauses .entry)) (now (constraints .entry)) (now (formula .entry)))
         (choicesIn c (now (clauses .entry))) (now (list .entry)) (now (work .entry)) end r (now (list .exit))
         (now (work .exit)) ⌝ }
@@ -117,8 +127,11 @@ pub fn walk(
             clauses,
             constraints,
             formula,
-            heads,
             causes,
+            opening,
+            dependents,
+            last,
+            prev,
             s,
             t,
             list,
@@ -127,4 +140,49 @@ pub fn walk(
         s += 1;
     }
     t
+}
+
+// Walks over the settings below end, with the tables for settling prepared once.
+pub fn walk(
+    c: Case,
+    clauses: &[u64],
+    constraints: &[u64],
+    formula: &[u8],
+    heads: u64,
+    causes: u64,
+    end: usize,
+    list: &mut [u16],
+    work: &mut [u8],
+) -> Tally
+    requires { ⌜ Prepared c (now clauses) (now constraints) (now formula) heads causes
+        × (end ≡ settingsIn c (now clauses)) × (end ≤ 59049) × (end ≤ length (now work)) ⌝ }
+    ensures { λ r. ⌜ Walked (judgeOf c (now (clauses .entry)) (now (constraints .entry)) (now (formula .entry)))
+        (choicesIn c (now (clauses .entry))) (now (list .entry)) (now (work .entry)) end r (now (list .exit))
+        (now (work .exit)) ⌝ }
+{
+    let mut dependents = [0u64; 64];
+    let mut last = [0usize; 64];
+    let mut prev = [0usize; 256];
+    let opening = touched::table::prepare(
+        clauses,
+        c.clauses,
+        heads,
+        &mut dependents,
+        &mut last,
+        &mut prev,
+    );
+    visit_all(
+        c,
+        clauses,
+        constraints,
+        formula,
+        causes,
+        opening,
+        &dependents,
+        &last,
+        &prev,
+        end,
+        list,
+        work,
+    )
 }

@@ -122,7 +122,8 @@ module _ (cl : List ℕ) (k : ℕ) where
       ∙ ap (lastOf cl a) (sym (add-one k))
 
   pub lasts-next : (last : List ℕ) (x : ℕ) → length last ≡ 64 → Lasts cl k last
-      → x ≡ orElse (leb 2 (kindAt cl k)) (k + 1) (getD last (headAt cl k) 0) → Lasts cl (k + 1) (set last (headAt cl k) x)
+      → x ≡ orElse (leb 2 (kindAt cl k)) (k + 1) (getD last (headAt cl k) 0)
+      → Lasts cl (k + 1) (set last (headAt cl k) x)
   lasts-next last x s g e a l =
       let h = headAt cl k in
       entry-set last h x (λ b. lastOf cl b (k + 1)) (omega (arith, head-lt cl k))

@@ -1,5 +1,5 @@
--- What a round need not look at: a decided atom stays as it is, and so does an atom none of whose clauses names a changed
--- atom. So the step on the touched, undecided atoms alone is the step. Assumes nothing.
+-- What a round need not look at: a decided atom stays as it is, and so does an atom none of whose clauses names a
+-- changed atom. So the step on the touched, undecided atoms alone is the step. Assumes nothing.
 use mathlib.Core.Path.{_≡_, refl, sym, ap, ap₂, _∙_}
 use mathlib.Core.Bool.{Bool, true, false, not, _&&_, _||_, and-true, true≢false}
 use mathlib.Core.List.{List}

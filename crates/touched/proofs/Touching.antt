@@ -61,7 +61,7 @@ module _ (t : List ℕ) (fresh : ℕ) where
       none : (a : ℕ) → touchedBy t left a ≡ false
       none a =
           all-false 64 (λ i. has left i && has (getD t i 0) a)
-          (λ i m. ap (λ (w : ℕ). has w i && has (getD t i 0) a) e ∙ ap (λ (s : Bool). s && has (getD t i 0) a) (has-zero i))
+          (λ i m. ap (λ (s : Bool). s && has (getD t i 0) a) (ap (λ (w : ℕ). has w i) e ∙ has-zero i))
 
 -- ---- the atoms of d decided anew
 module _ (cl : List ℕ) (n : ℕ) (i : Interpretation) (d : ℕ) where

@@ -1,7 +1,7 @@
 -- The rules of a head, from the last to the first.
 --
 --   ruleFor cl a k         clause k is a rule with the head a
---   lastOf cl a n          one more than the number of the last rule for a among the first n clauses, 0 if there is none
+--   lastOf cl a n          one more than the number of the last rule for a among the first n clauses, or 0
 --   Lasts cl n t           the table t has the last rule of each head
 --   Linked cl n t          the table t leads from each clause to the last rule before it with its head
 --   ruleValue v cl k       the value of the literals of clause k where v gives each atom's value

@@ -22,7 +22,8 @@ fn spread(dependents: &mut [u64; 64], w: u64, head: u32)
 
 // Fills the table of dependents of the first n clauses; its entries are 0 at first.
 pub fn fill(clauses: &[u64], n: usize, dependents: &mut [u64; 64])
-    requires { ⌜ (n ≤ 256) × (3 * n ≤ length (now clauses)) × (length (now dependents) ≡ 64) × Zeros (now dependents) ⌝ }
+    requires { ⌜ (n ≤ 256) × (3 * n ≤ length (now clauses)) × (length (now dependents) ≡ 64)
+        × Zeros (now dependents) ⌝ }
     ensures { λ r. ⌜ Dependents (now (clauses .entry)) n (now (dependents .exit)) ⌝ }
 {
     let mut k = 0;

@@ -19,7 +19,7 @@ use Rattle.words.proofs.Bits.{has-low, has-half}
 use Rattle.words.proofs.Words.{has-or-one, or-one-lt, has-without-one}
 
 -- ---- the lowest bit
--- k zeros below a bit of w, of k bits at most
+-- r is the number of one of the k bits of w
 abbrev Found : ℕ → ℕ → ℕ → Type 0
 Found k w r = (r < k) × (has w r ≡ true)
 
@@ -63,7 +63,8 @@ module _ (w i : ℕ) (b : BitOf w i) where
   pub without-less : withoutBit w i < w
   without-less =
       ⊎-elim
-      (λ (q : withoutBit w i ≡ w). absurd (true≢false (sym (b .there) ∙ ap (λ (x : ℕ). has x i) (sym q) ∙ without-here)))
+      (λ (q : withoutBit w i ≡ w).
+      absurd (true≢false (sym (b .there) ∙ ap (λ (x : ℕ). has x i) (sym q) ∙ without-here)))
       (λ q. q) (eq-or-lt-of-le (and-le-l w _))
 
   -- some bit of w passes a test: bit i, or one of the others

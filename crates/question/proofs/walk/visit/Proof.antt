@@ -124,13 +124,13 @@ cast-put c = search needs
 put-requires : tie.Need-put-requires
 put-requires c κs = search needs
 
-add-t17 : tie.Need-add-t17
-add-t17 c =
+add-t20 : tie.Need-add-t20
+add-t20 c =
     let r = entry (judged (searched (c .before .before .before .before))) .pre .1 in
     omega (arith, r .few, r .below, r .settings-few)
 
-add-t25 : tie.Need-add-t25
-add-t25 c =
+add-t28 : tie.Need-add-t28
+add-t28 c =
     let r = entry (judged (searched (c .before .before .before .before))) .pre .1 in
     omega (arith, r .listed-few, r .below, r .settings-few, c .before .before .before .before .put .ensures .0)
 
@@ -180,8 +180,8 @@ visit-spec =
     part-put-end
     cast-put
     put-requires
-    add-t17
-    add-t25
+    add-t20
+    add-t28
     query-value-requires
     with-requires
     same-length-3

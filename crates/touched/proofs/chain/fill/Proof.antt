@@ -1,5 +1,5 @@
--- `chain::fill` meets its contract. The loop's invariant: the tables keep their sizes and hold the chains of the clauses
--- passed. The measure is the number of clauses left. Assumes nothing.
+-- `chain::fill` meets its contract. The loop's invariant: the tables keep their sizes and hold the chains of the
+-- clauses passed. The measure is the number of clauses left. Assumes nothing.
 use mathlib.Core.Path.{_≡_, ap, _∙_}
 use Prim.Native.Nat.{_-_, _≤_}
 use native.Mathlib.Nat.{le-antisymm, not-suc-le-zero}

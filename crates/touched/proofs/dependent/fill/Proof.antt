@@ -63,7 +63,8 @@ loop-again : tie.Need-loop-again Inv-loop μ-loop
 loop-again c =
     let l = c .before .before .before .before .before .before .loop in
     let a = c .before .before .before .before .before .before .before .before .args in
-    (search needs, c .spread .ensures .size-is, dependents-next (a .clauses .now) (l .dependents) _ (l .k) (l .inv .2) (c .spread .ensures))
+    let s = c .spread .ensures in
+    (search needs, s .size-is, dependents-next (a .clauses .now) (l .dependents) _ (l .k) (l .inv .2) s)
 
 returns : tie.Need-returns Inv-loop μ-loop
 returns c =

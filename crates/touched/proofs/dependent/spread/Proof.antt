@@ -1,5 +1,5 @@
--- `spread` meets its contract: what is done and what is left of the word's bits is always all (`Spreading`). The measure is
--- the word that is left. Assumes nothing.
+-- `spread` meets its contract: what is done and what is left of the word's bits is always all (`Spreading`). The
+-- measure is the word that is left. Assumes nothing.
 use borrow.Author.Needs.{needs}
 use Rattle.words.proofs.BitWalks.{without-less}
 use Rattle.touched.proofs.Filling.{Spreading, spreading-start, spreading-next, spreading-end}
@@ -44,9 +44,10 @@ loop-less c = rw (c .without .ensures) (without-less _ _ (c .before .before .low
 
 loop-again : tie.Need-loop-again Inv-loop μ-loop
 loop-again c =
+    let l = c .before .before .before .before in
     rw (c .without .ensures)
-    (spreading-next _ _ _ _ _ _ _ (c .before .before .before .before .loop .inv) (c .before .before .lowest-bit .ensures)
-    (c .before .before .before .before .before .single .ensures))
+    (spreading-next _ _ _ _ _ _ _ (l .loop .inv) (c .before .before .lowest-bit .ensures)
+    (l .before .single .ensures))
 
 returns : tie.Need-returns Inv-loop μ-loop
 returns c = spreading-end _ _ _ _ _ (c .before .loop .inv) (c .loop-test .left)

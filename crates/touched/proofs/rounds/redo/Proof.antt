@@ -1,5 +1,5 @@
--- `redo` meets its contract: the atoms decided and those left are always all (`Redoing`). The measure is the word that is
--- left. Assumes nothing.
+-- `redo` meets its contract: the atoms decided and those left are always all (`Redoing`). The measure is the word that
+-- is left. Assumes nothing.
 use native.Mathlib.Omega.{arith}
 use borrow.Author.Needs.{needs}
 use Rattle.words.proofs.BitWalks.{without-less}

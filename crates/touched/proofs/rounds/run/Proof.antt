@@ -1,7 +1,7 @@
 -- `rounds::run` meets its contract: the loop's interpretation is reached by as many rounds as it counts, each of which
--- changed something, and the next one is one round further (`Turn`). The loop keeps the set that is added only in its first
--- interpretation, so the invariant holds for every set that makes it. The measure is what is left of 64 decided atoms.
--- Assumes nothing.
+-- changed something, and the next one is one round further (`Turn`). The added set does not stand in the loop, so the
+-- invariant speaks of every set that makes the first round what it was. The measure is what is left of 64 decided
+-- atoms. Assumes nothing.
 use mathlib.Core.Path.{_≡_, sym, ap, _∙_}
 use Prim.Native.Nat.{_-_}
 use native.Mathlib.Omega.{arith}
@@ -27,19 +27,21 @@ Inv-loop clauses n dependents last prev interpretation₀ next₀ rounds₀ inte
     (x : Additions) → next₀ ≡ step (programWith clauses n x) nothing → Turn clauses n x interpretation next rounds
 
 abbrev μ-loop : tie.MeasureT-loop
-μ-loop clauses n dependents last prev interpretation₀ next₀ rounds₀ interpretation next rounds = 64 - decidedIn interpretation
+μ-loop clauses n dependents last prev interpretation₀ next₀ rounds₀ interpretation next rounds =
+    64 - decidedIn interpretation
 
 -- the loop stands so for the set that is added
 turn : (c : tie.At-loop Inv-loop μ-loop) → let a = c .before .before .before .before .args in
     Turn (a .clauses .now) (a .n) (a .added) (c .loop .interpretation) (c .loop .next) (c .loop .rounds)
 turn c =
     let b = c .before .before .before .before in
-    let o = b .pre .opening-is in
-    c .loop .inv (b .args .added)
-    (c .before .with .ensures ∙ ap (λ (o : Opening). opened o (b .args .added)) o ∙ opened-step _ _ _ (omega arith) (omega arith))
+    let x = b .args .added in
+    let prepared = ap (λ (o : Opening). opened o x) (b .pre .opening-is) in
+    c .loop .inv x (c .before .with .ensures ∙ prepared ∙ opened-step _ _ x (omega arith) (omega arith))
 
 -- an atom is fresh where the loop goes on
-is-fresh : (c : tie.Else1 Inv-loop μ-loop) → ones (changed (c .before .before .before .before .before .before .loop .next) (c .before .before .before .before .before .before .loop .interpretation)) ≡ 0 → ⊥
+is-fresh : (c : tie.Else1 Inv-loop μ-loop) → let l = c .before .before .before .before .before .before .loop in
+    ones (changed (l .next) (l .interpretation)) ≡ 0 → ⊥
 is-fresh c e = c .if1 .left (c .before .count .ensures ∙ e)
 
 nothing-requires : tie.Need-nothing-requires Inv-loop μ-loop
