@@ -2,7 +2,7 @@
 use mathlib.Core.Path.{_≡_, refl, sym, ap, ap₂, _∙_}
 use mathlib.Core.Bool.{Bool, true, false, _&&_, _||_}
 use mathlib.Core.List.{List}
-use Prim.Native.Nat.{ℕ, zero, suc, _+_, _^_, _<_}
+use Prim.Native.Nat.{ℕ, suc, _+_, _^_, _<_}
 use native.Mathlib.Omega.{arith}
 use native.Mathlib.Numerals.{add-one}
 use lib.Bits.{bitOr}
@@ -12,14 +12,14 @@ use lib.Pow.{pow-pos}
 use lib.Seq.{getD-set-same, getD-set-other}
 use borrow.Author.Tests.{eqb-true, eqb-false, eq-eqb, ne-eqb}
 use Rattle.words.specs.Below.{any, orElse}
-use Rattle.words.specs.Bits.{has, word, withBit, withoutBit, BitOf}
+use Rattle.words.specs.Bits.{has, withBit, withoutBit, BitOf}
 use Rattle.words.proofs.Bits.{has-zero, has-or}
 use Rattle.words.proofs.Words.{word-lt, has-word, is-word}
 use Rattle.words.proofs.BitWalks.{has-with, with-lt, without-here, without-other}
 use Rattle.program.specs.Case.{headAt, kindAt, plainAt, negatedAt}
 use Rattle.program.proofs.Heads.{head-lt}
 use Rattle.touched.specs.Dependents.{names, dependentsOf, Words, Dependents, Spread}
-use Rattle.touched.specs.Chains.{ruleFor, lastOf, Lasts, Linked}
+use Rattle.touched.specs.Chains.{lastOf, Lasts, Linked}
 
 -- an entry written at i: f i there, what it was elsewhere
 entry-set : (t : List ℕ) (i x : ℕ) (f : ℕ → ℕ) → i < length t → x ≡ f i

@@ -14,13 +14,13 @@ use Rattle.logic.specs.declared.interpretation.Interpretation.{Interpretation}
 use Rattle.logic.specs.Value.{isTrue, isFalse, greater}
 use Rattle.logic.specs.Formula.{Formula, valueOf, anyOf}
 use Rattle.logic.specs.Interpretation.{nothing, valueAt, pickValue}
-use Rattle.logic.proofs.Values.{greater-false-r, greater-true-r}
+use Rattle.logic.proofs.Values.{greater-true-r}
 use Rattle.logic.proofs.Interpretations.{interpretation-eq}
 use Rattle.program.specs.declared.cause.Additions.{Additions}
 use Rattle.program.specs.Program.{clausesOf, addedBy, programWith, headed, headsOf}
 use Rattle.program.proofs.Heads.{heads-lt, heads-has}
 use Rattle.settle.specs.Step.{bodiesOf, hasSome, nextValue, step}
-use Rattle.settle.proofs.Definitions.{defines, bodiesValue, defines-append, defines-clauses, defines-added}
+use Rattle.settle.proofs.Definitions.{bodiesValue, defines-append, defines-clauses, defines-added}
 use Rattle.settle.proofs.Definitions.{bodies-value-append, bodies-value-added}
 use Rattle.touched.specs.declared.opening.Opening.{Opening}
 use Rattle.touched.specs.Opening.{noAdditions, openingOf, opened}

@@ -1,7 +1,7 @@
 -- What a round need not look at: a decided atom stays as it is, and so does an atom none of whose clauses names a
 -- changed atom. So the step on the touched, undecided atoms alone is the step. Assumes nothing.
 use mathlib.Core.Path.{_≡_, refl, sym, ap, ap₂, _∙_}
-use mathlib.Core.Bool.{Bool, true, false, not, _&&_, _||_, and-true, true≢false}
+use mathlib.Core.Bool.{Bool, true, false, not, _&&_, _||_, and-true}
 use mathlib.Core.List.{List}
 use mathlib.Core.Logic.{⊎-elim}
 use Prim.Native.Nat.{ℕ, _+_, _-_, _^_, _<_}
@@ -17,7 +17,6 @@ use Rattle.words.proofs.Below.{any-gives, any-found, any-true, any-false}
 use Rattle.words.proofs.Bits.{has-and, has-not}
 use Rattle.words.proofs.Words.{has-word}
 use Rattle.words.proofs.Counts.{ones-none}
-use Rattle.logic.specs.declared.value.Value.{Value}
 use Rattle.logic.specs.declared.interpretation.Interpretation.{Interpretation}
 use Rattle.logic.specs.Value.{isTrue, isFalse}
 use Rattle.logic.specs.Interpretation.{valueAt, pickValue, decidedIn}
@@ -31,7 +30,7 @@ use Rattle.program.specs.Program.{Clause, clausesOf, addedBy, programWith, head
 use Rattle.settle.specs.Step.{nextValue, step}
 use Rattle.settle.proofs.Steady.{program-steady, next-mono}
 use Rattle.settle.proofs.Reached.{Reached, step-good, reached-good, rounds-rise, onwards, again}
-use Rattle.settle.proofs.Definitions.{defines, bodiesValue, defines-append, defines-clauses}
+use Rattle.settle.proofs.Definitions.{defines, defines-append, defines-clauses}
 use Rattle.touched.specs.Dependents.{names, Dependents, touchedBy}
 use Rattle.touched.specs.Chains.{rulesValue}
 use Rattle.touched.specs.Prepared.{redone}

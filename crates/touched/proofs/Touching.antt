@@ -1,14 +1,13 @@
 -- Two walks over a word's bits: over fresh atoms, gathering the heads they touch, and over atoms that are decided anew.
 -- What is done and what is left is always all. Assumes nothing.
 use mathlib.Core.Path.{_≡_, refl, sym, ap, ap₂, _∙_}
-use mathlib.Core.Bool.{Bool, true, false, _&&_, _||_, or-false, or-assoc}
+use mathlib.Core.Bool.{Bool, true, false, _&&_, _||_, or-false}
 use mathlib.Core.List.{List}
 use Prim.Native.Nat.{ℕ, _^_, _<_}
 use lib.Bits.{bitOr, or-lt}
 use lib.Dec.{eqb, lit<}
 use lib.ListN.{getD}
 use borrow.Author.Tests.{eqb-true, eqb-false}
-use Rattle.words.specs.Below.{any}
 use Rattle.words.specs.Bits.{has, word, withoutBit, BitOf}
 use Rattle.words.proofs.Below.{all-false}
 use Rattle.words.proofs.Bits.{has-zero, has-or}

@@ -1,5 +1,4 @@
 -- `newest` meets its contract: the branch is the test. Assumes nothing.
-use mathlib.Core.Path.{sym}
 use borrow.Author.Tests.{le-leb, lt-leb}
 use Rattle.touched.proofs.chain.newest.Statement.{statement}
 use Rattle.touched.proofs.chain.newest.Tie as tie

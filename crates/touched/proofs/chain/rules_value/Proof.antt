@@ -1,6 +1,6 @@
 -- `rules_value` meets its contract: the walk goes along the head's rules (`Along`). The measure is the place in the
 -- chain. Assumes nothing.
-use mathlib.Core.Path.{_≡_, sym, _∙_}
+use mathlib.Core.Path.{sym, _∙_}
 use Prim.Native.Nat.{_-_}
 use native.Mathlib.Omega.{arith}
 use borrow.Author.Needs.{needs}
