@@ -163,7 +163,7 @@ pub fn walk(
     let mut dependents = [0u64; 64];
     let mut last = [0usize; 64];
     let mut prev = [0usize; 256];
-    let opening = touched::table::prepare(
+    let opening = touched::prepared::prepare(
         clauses,
         c.clauses,
         heads,

@@ -2,5 +2,5 @@
 pub mod chain;
 pub mod dependent;
 pub mod opening;
+pub mod prepared;
 pub mod rounds;
-pub mod table;
