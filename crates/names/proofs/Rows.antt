@@ -4,12 +4,12 @@ use mathlib.Core.List.{List, [], _∷_, _++_, append-nil, append-assoc}
 use Prim.Native.Nat.{ℕ, zero, suc, _+_, _*_, _-_, _≤_, _<_}
 use native.Mathlib.Nat.{not-suc-le-zero, le-of-suc-le-suc, suc-mul}
 use native.Mathlib.Omega.{arith}
-use lib.ListN.{length, take, getD, length-append}
+use lib.ListN.{length, take, drop, getD, length-append}
 use lib.Seq.{slice, sets, take-take, take-at, take-append-le, take-append-add, drop-append-add}
 use borrow.Author.Tests.{ne-eqb}
 use Rattle.text.specs.Bytes.{sameBytes}
 use Rattle.table.specs.Filled.{filled, padded}
-use Rattle.table.proofs.Filled.{filled-length, filled-pushes, filled-take, padded-length, padded-append}
+use Rattle.table.proofs.Filled.{filled-length, filled-pushes, filled-take, padded-length, padded-append, padded-none, padded-split}
 use Rattle.names.specs.Names.{rowsOf}
 use Rattle.names.specs.Held.{NoZero, Named, AllNamed, Holds}
 
@@ -43,6 +43,36 @@ rows-at (n ∷ ns) zero h = take-at (padded 16 n) (rowsOf ns) 16 (padded-length 
 rows-at (n ∷ ns) (suc i) h =
     row-shift (padded 16 n) (rowsOf ns) i (padded-length 16 n) ∙ rows-at ns i (le-of-suc-le-suc h)
 
+-- the first row of a table, and the others
+table-none : (n : ℕ) → padded (16 * suc n) [] ≡ padded 16 [] ++ padded (16 * n) []
+table-none n = let e : 16 * suc n ≡ 16 + 16 * n = omega arith in rw e (padded-none 16 (16 * n))
+
+table-row : (n : ℕ) (w l : List ℕ) → padded (16 * suc n) (padded 16 w ++ l) ≡ padded 16 w ++ padded (16 * n) l
+table-row n w l =
+    let e : 16 * suc n ≡ 16 + 16 * n = omega arith in
+    rw e (padded-append 16 (16 * n) (padded 16 w) l (padded-length 16 w))
+
+row-first : (w l : List ℕ) → take 16 (padded 16 w ++ l) ≡ padded 16 w
+row-first w l = take-at (padded 16 w) l 16 (padded-length 16 w)
+
+row-behind : (w l : List ℕ) (i : ℕ) → take 16 (drop (16 * suc i) (padded 16 w ++ l)) ≡ take 16 (drop (16 * i) l)
+row-behind w l i =
+    let e : 16 * suc i ≡ length (padded 16 w) + 16 * i = omega (arith, padded-length 16 w) in
+    rw (e, drop-append-add)
+
+-- a table of n rows, where those past the names are zero
+pub rows-padded : (n : ℕ) (ns : List (List ℕ)) (i : ℕ) → i < n
+    → take 16 (drop (16 * i) (padded (16 * n) (rowsOf ns))) ≡ padded 16 (getD ns i [])
+unfolding rowsOf
+rows-padded zero ns i h = absurd (not-suc-le-zero h)
+rows-padded (suc n) [] zero h = rw (table-none n) (row-first [] (padded (16 * n) []))
+rows-padded (suc n) [] (suc i) h =
+    rw (table-none n) (row-behind [] (padded (16 * n) []) i ∙ rows-padded n [] i (le-of-suc-le-suc h) ∙ refl)
+rows-padded (suc n) (w ∷ ns) zero h = rw (table-row n w (rowsOf ns)) (row-first w (padded (16 * n) (rowsOf ns)))
+rows-padded (suc n) (w ∷ ns) (suc i) h =
+    rw (table-row n w (rowsOf ns))
+    (row-behind w (padded (16 * n) (rowsOf ns)) i ∙ rows-padded n ns i (le-of-suc-le-suc h))
+
 -- Named
 
 pub all-named-at : {ns : List (List ℕ)} → AllNamed ns → (i : ℕ) → i < length ns → Named (getD ns i [])
@@ -73,12 +103,8 @@ same-padded (suc k) a b (NoZero.more x c) (NoZero.more y d) =
 filled-front : (n k : ℕ) (l old : List ℕ) → n ≤ length old → length l ≤ n → k ≤ length l
     → take k (filled n l old) ≡ take k l
 filled-front n k l old h m p =
-    let e : length l + (n - length l) ≡ n = omega arith in
-    let f : padded n l ≡ l ++ padded (n - length l) [] =
-    rw (e, append-nil) at (padded-append (length l) (n - length l) l [] refl)
-    in
     sym (take-take k n (filled n l old) (omega arith))
-    ∙ ap (take k) (filled-take n l old h ∙ f)
+    ∙ ap (take k) (filled-take n l old h ∙ padded-split n l m)
     ∙ take-append-le k l (padded (n - length l) []) p
 
 module _ (ns : List (List ℕ)) (old t : List ℕ) (h : Holds ns old t) where

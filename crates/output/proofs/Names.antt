@@ -28,6 +28,13 @@ unfolding beforeZero
 before-zero-more zero l n = absurd (n refl)
 before-zero-more (suc b) l n = refl
 
+-- a list that has no first byte, or begins with a zero
+pub before-zero-none : (l : List ℕ) → getD l 0 0 ≡ 0 → beforeZero l ≡ []
+unfolding beforeZero
+before-zero-none [] e = refl
+before-zero-none (zero ∷ l) e = refl
+before-zero-none (suc b ∷ l) e = absurd (omega arith)
+
 -- nameIn
 
 abbrev pub rowOf : List ℕ → ℕ → List ℕ

@@ -1,13 +1,13 @@
--- The atoms of a word are as many as its ones. Assumes nothing.
+-- The atoms of a word are as many as its ones, and below 64. Assumes nothing.
 use mathlib.Core.Path.{_≡_, refl, sym, ap, _∙_}
 use mathlib.Core.Bool.{Bool, true, false}
 use mathlib.Core.List.{List}
-use Prim.Native.Nat.{ℕ, zero, suc, _*_, _/_, _%_, _^_, _<_}
-use native.Mathlib.Nat.{pow-suc, div-one}
+use Prim.Native.Nat.{ℕ, zero, suc, _+_, _*_, _/_, _%_, _^_, _≤_, _<_}
+use native.Mathlib.Nat.{not-suc-le-zero, le-of-suc-le-suc, pow-suc, div-one}
 use native.Mathlib.Numerals.{add-one}
 use native.Mathlib.Omega.{arith}
 use lib.Count.{ones, ones-step, ones-le}
-use lib.ListN.{length}
+use lib.ListN.{length, getD}
 use lib.Pow.{shr-shr}
 use borrow.Author.Tests.{eqb-true, eqb-false}
 use Rattle.words.specs.Bits.{odd, has}
@@ -31,3 +31,20 @@ atoms-count w a (suc n) h =
 
 pub atoms-length : (w : ℕ) → w < 2 ^ 64 → length (atomsIn w) ≡ ones w
 atoms-length w h = atoms-count w 0 64 (rw div-one h) ∙ ap ones (div-one w)
+
+-- with a in front, where the test holds, all are still below m
+cons-below : (t : Bool) (a m : ℕ) (l : List ℕ) → a < m → ((i : ℕ) → i < length l → getD l i 0 < m)
+    → (i : ℕ) → i < length (consIf t a l) → getD (consIf t a l) i 0 < m
+cons-below true a m l h k zero p = h
+cons-below true a m l h k (suc i) p = k i (le-of-suc-le-suc p)
+cons-below false a m l h k i p = k i p
+
+-- the atoms of a word are among those that are gone through
+atoms-among : (w a n m : ℕ) → a + n ≤ m → (i : ℕ) → i < length (atomsFrom w a n) → getD (atomsFrom w a n) i 0 < m
+unfolding atomsFrom
+atoms-among w a zero m h i p = absurd (not-suc-le-zero p)
+atoms-among w a (suc n) m h i p =
+    cons-below (has w a) a m (atomsFrom w (suc a) n) (omega arith) (atoms-among w (suc a) n m (omega arith)) i p
+
+pub atoms-below : (w i : ℕ) → i < length (atomsIn w) → getD (atomsIn w) i 0 < 64
+atoms-below w i h = atoms-among w 0 64 64 (omega arith) i h

@@ -1,6 +1,7 @@
 -- Laws of `causesAmong`, the word of the atoms that are no head. Assumes nothing.
-use mathlib.Core.Path.{_≡_, ap, ap₂, _∙_}
+use mathlib.Core.Path.{_≡_, refl, ap, ap₂, _∙_}
 use mathlib.Core.Bool.{Bool, not, _&&_}
+use mathlib.Core.List.{List}
 use Prim.Native.Nat.{ℕ, _+_, _-_, _^_, _≤_, _<_}
 use native.Mathlib.Nat.{lt-of-le-of-lt, lt-of-lt-of-le}
 use native.Mathlib.Omega.{arith}
@@ -11,7 +12,9 @@ use borrow.Author.Tests.{le-ltb}
 use Rattle.words.specs.Bits.{has}
 use Rattle.words.proofs.Bits.{has-and, has-not}
 use Rattle.words.proofs.Words.{word-lt, has-word, is-word, has-lowest, lt-of-bits}
-use Rattle.program.specs.Cause.{causesAmong}
+use Rattle.program.specs.declared.case.Case.{Case}
+use Rattle.program.specs.Program.{headsOf}
+use Rattle.program.specs.Cause.{causesAmong, causesOf}
 
 -- atom a is one of the n, and no head
 abbrev isCause : ℕ → ℕ → ℕ → Bool
@@ -26,6 +29,11 @@ unfolding causesAmong
 causes-lt n heads h =
     lt-of-bits 64 n (causesAmong n heads) h (word-lt 64 (isCause n heads))
     (λ a l m. causes-has n heads a m ∙ ap (λ (b : Bool). b && not (has heads a)) (le-ltb a n l))
+
+-- the causes of a case
+pub causes-of : (c : Case) (cl : List ℕ) → causesOf c cl ≡ causesAmong (c .atoms) (headsOf cl (c .clauses))
+unfolding causesOf
+causes-of c cl = refl
 
 -- the lowest n bits without the heads
 pub causes-masked : (n top heads : ℕ) → n ≤ 64 → top + 1 ≡ 2 ^ n → heads < 2 ^ 64

@@ -22,7 +22,7 @@ power-few : (k : ℕ) → k ≤ 10 → 3 ^ k ≤ 59049
 power-few k h = pow-le-pow-right (zero-lt-suc 2) h
 
 module _ (c : Case) (cl co fo : List ℕ) (h : sound c cl co fo ≡ true) where
-  causes-fit : causesOf c cl < 2 ^ 64
+  pub causes-fit : causesOf c cl < 2 ^ 64
   unfolding causesOf
   causes-fit =
       let l = sound-atoms c cl co fo h .1 in

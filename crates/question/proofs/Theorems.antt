@@ -2,20 +2,16 @@
 use mathlib.Core.Path.{_≡_, refl, sym, ap, _∙_}
 use mathlib.Core.Bool.{Bool, true, false, true≢false}
 use mathlib.Core.List.{List}
-use Prim.Native.Nat.{ℕ, zero, suc, _*_, _^_, _≤_, _<_}
-use native.Mathlib.Nat.{suc-mul, lt-of-lt-of-le}
+use Prim.Native.Nat.{ℕ, zero, suc, _*_, _≤_}
+use native.Mathlib.Nat.{suc-mul}
 use native.Mathlib.Omega.{arith}
-use lib.Pow.{pow-mono}
 use Rattle.logic.specs.Interpretation.{valueAt}
 use Rattle.program.specs.declared.case.Case.{Case}
 use Rattle.program.specs.declared.cause.Additions.{Additions}
-use Rattle.program.specs.Program.{headsOf}
 use Rattle.program.specs.Cause.{causesOf}
 use Rattle.program.specs.Setting.{additionsOf}
 use Rattle.program.specs.Sound.{sound}
-use Rattle.program.proofs.Causes.{causes-lt}
 use Rattle.program.proofs.Settings.{settings-product}
-use Rattle.program.proofs.Soundness.{sound-atoms}
 use Rattle.settle.specs.declared.settle.Settled.{Settled}
 use Rattle.settle.proofs.Theorems.{round-count-least}
 use Rattle.question.specs.Explanation.{explainsUnder, setExplains}
@@ -25,6 +21,7 @@ use Rattle.question.specs.Walk.{minimalsBelow, roundsBelow}
 use Rattle.question.specs.Operation.{settingsIn, choicesIn}
 use Rattle.question.specs.Claims.{SetOf, BothMeansFact, UnexplainedExact}
 use Rattle.question.specs.Claims.{ExplanationsHaveMinimal, ListExact, SomeMinimal, VerdictsExact, RoundsBounded}
+use Rattle.question.proofs.Bounds.{causes-fit}
 use Rattle.question.proofs.Minimals.{minimal-explains, explanation-minimal}
 use Rattle.question.proofs.Listed.{minimals-listed}
 use Rattle.question.proofs.ListedVerdicts.{verdict-listed}
@@ -51,12 +48,6 @@ explanations-have-minimal c cl co fo s h l e =
 
 -- ---- "unexplained"
 module _ (c : Case) (cl co fo : List ℕ) (h : sound c cl co fo ≡ true) where
-  causes-fit : causesOf c cl < 2 ^ 64
-  unfolding causesOf
-  causes-fit =
-      let n = sound-atoms c cl co fo h .1 in
-      lt-of-lt-of-le (causes-lt (c .atoms) (headsOf cl (c .clauses)) n) (pow-mono n)
-
   abbrev Some : Type 0
   Some = SomeMinimal (judgeOf c cl co fo) (choicesIn c cl) (settingsIn c cl)
 
@@ -79,7 +70,7 @@ module _ (c : Case) (cl co fo : List ℕ) (h : sound c cl co fo ≡ true) where
   no-minimal f m =
       true≢false
       (sym (minimal-explains (judgeOf c cl co fo) (choicesIn c cl) (m .0) (m .2))
-      ∙ f (additionsOf (causesOf c cl) (m .0)) (additions-set (causesOf c cl) (m .0) causes-fit))
+      ∙ f (additionsOf (causesOf c cl) (m .0)) (additions-set (causesOf c cl) (m .0) (causes-fit c cl co fo h)))
 
 pub unexplained-exact : UnexplainedExact
 unexplained-exact c cl co fo h =

@@ -17,6 +17,7 @@
 -- Cases: what makes a case sound.
 -- Passing: lines that pass their checks.
 -- FirstBad: the first bad line.
+-- Numbered: the number of a refusal is never 0.
 -- Right: what was read is right.
 -- Added: what was read stays right.
 -- Sound: a right reading is a sound case.
@@ -40,6 +41,7 @@ pub mod ReadingEarly
 pub mod Cases
 pub mod Passing
 pub mod FirstBad
+pub mod Numbered
 pub mod Right
 pub mod Added
 pub mod Sound

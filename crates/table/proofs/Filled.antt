@@ -1,13 +1,13 @@
 -- Laws of tables whose first entries are filled, and of padded rows; and a loop that zeroes a table's first entries.
 -- Assumes nothing.
-use mathlib.Core.Path.{_≡_, refl, ap, _∙_}
+use mathlib.Core.Path.{_≡_, refl, sym, ap, _∙_}
 use mathlib.Core.List.{List, [], _∷_, _++_, append-assoc, append-nil}
-use Prim.Native.Nat.{ℕ, zero, suc, _+_, _≤_, _<_}
+use Prim.Native.Nat.{ℕ, zero, suc, _+_, _-_, _≤_, _<_}
 use native.Mathlib.Nat.{not-suc-le-zero, le-of-suc-le-suc, le-antisymm, suc-add, zero-add}
 use native.Mathlib.Numerals.{add-one}
 use native.Mathlib.Omega.{arith}
 use lib.ListN.{length, take, drop, getD, set, length-append, length-set}
-use lib.Seq.{sets}
+use lib.Seq.{sets, take-all}
 use Rattle.table.specs.Filled.{filled, padded}
 
 -- filled
@@ -62,6 +62,12 @@ filled-take (suc n) l [] h = absurd (not-suc-le-zero h)
 filled-take (suc n) [] (o ∷ old) h = rw (filled-take n [] old (le-of-suc-le-suc h))
 filled-take (suc n) (x ∷ l) (o ∷ old) h = rw (filled-take n l old (le-of-suc-le-suc h))
 
+-- a table that is lent with exactly its size
+pub filled-exact : (n : ℕ) (l old : List ℕ) → length old ≡ n → filled n l old ≡ padded n l
+filled-exact n l old e =
+    let k : length (filled n l old) ≤ n = omega (arith, filled-length n l old) in
+    sym (take-all n (filled n l old) k) ∙ filled-take n l old (omega arith)
+
 -- the entries from n on are kept
 pub filled-drop : (n : ℕ) (l old : List ℕ) → drop n (filled n l old) ≡ drop n old
 unfolding filled
@@ -86,6 +92,17 @@ padded-at (suc n) [] (suc i) h = padded-at n [] i (le-of-suc-le-suc h)
 padded-at (suc n) (x ∷ l) zero h = refl
 padded-at (suc n) (x ∷ l) (suc i) h = padded-at n l i (le-of-suc-le-suc h)
 
+-- only zeros
+pub padded-none : (k n : ℕ) → padded (k + n) [] ≡ padded k [] ++ padded n []
+unfolding padded
+padded-none zero n = rw (zero-add n)
+padded-none (suc k) n = rw (suc-add, padded-none k n)
+
+pub padded-first : (n : ℕ) → getD (padded n []) 0 0 ≡ 0
+unfolding padded
+padded-first zero = refl
+padded-first (suc n) = refl
+
 padded-own : (l : List ℕ) → padded (length l) l ≡ l
 unfolding padded
 padded-own [] = refl
@@ -102,6 +119,11 @@ padded-behind n (x ∷ l) m = rw (suc-add, padded-behind n l m)
 -- only what stands behind the first k entries is padded
 pub padded-append : (k n : ℕ) (l m : List ℕ) → length l ≡ k → padded (k + n) (l ++ m) ≡ l ++ padded n m
 padded-append k n l m h = rw (← h) (padded-behind n l m)
+
+pub padded-split : (n : ℕ) (l : List ℕ) → length l ≤ n → padded n l ≡ l ++ padded (n - length l) []
+padded-split n l h =
+    let e : length l + (n - length l) ≡ n = omega arith in
+    rw (e, append-nil) at (padded-behind (n - length l) l [])
 
 -- one entry more is zeroed
 pub filled-zero : (n : ℕ) (old : List ℕ) → n < length old → set (filled n [] old) n 0 ≡ filled (suc n) [] old

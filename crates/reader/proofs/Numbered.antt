@@ -1,0 +1,44 @@
+-- The number of a refusal of reading is never 0. Assumes nothing.
+use mathlib.Core.Path.{_≡_}
+use mathlib.Core.Bool.{Bool, true, false, not}
+use mathlib.Core.List.{List, [], _∷_}
+use Prim.Native.Nat.{ℕ, zero, suc}
+use native.Mathlib.Omega.{arith}
+use lib.Dec.{leb}
+use lib.ListN.{length}
+use Rattle.text.specs.Lines.{lines}
+use Rattle.program.specs.Sound.{fewCauses}
+use Rattle.reader.specs.Saying.{Said, nothingSaid}
+use Rattle.reader.specs.Checks.{lineRefusal}
+use Rattle.reader.specs.Reading.{Outcome, saidAfter, clauseWords, refuseEnd, ending, orElse}
+use Rattle.reader.specs.Reading.{readLines, readFile}
+
+abbrev pub Numbered : Outcome → Type 0
+Numbered (Outcome.case st) = Unit {0}
+Numbered (Outcome.refused n k) = n ≡ 0 → ⊥
+
+end-numbered : (t : Bool) (n : ℕ) (o : Outcome) → Numbered o → Numbered (refuseEnd t (suc n) o)
+end-numbered true n o h = λ e. omega arith
+end-numbered false n o h = h
+
+line-numbered : (r k : ℕ) (o : Outcome) → Numbered o → Numbered (orElse r k o)
+line-numbered zero k o h = h
+line-numbered (suc n) k o h = λ e. omega arith
+
+ending-numbered : (st : Said) → Numbered (ending st)
+unfolding ending
+ending-numbered st =
+    let few = fewCauses (length (st .names)) (clauseWords (st .clauses)) (length (st .clauses)) in
+    end-numbered (leb (length (st .queries)) 0) 10 (refuseEnd (not few) 12 (Outcome.case st))
+    (end-numbered (not few) 11 (Outcome.case st) tt)
+
+lines-numbered : (ls : List (List ℕ)) (st : Said) (k : ℕ) → Numbered (readLines ls st k)
+unfolding readLines
+lines-numbered [] st k = ending-numbered st
+lines-numbered (l ∷ ls) st k =
+    line-numbered (lineRefusal st l) k (readLines ls (saidAfter st l) (suc k))
+    (lines-numbered ls (saidAfter st l) (suc k))
+
+pub file-numbered : (f : List ℕ) → Numbered (readFile f)
+unfolding readFile
+file-numbered f = lines-numbered (lines f) nothingSaid 1

@@ -1,0 +1,156 @@
+-- What is known of an accepted file: its case is sound, its names are names, and its question is answered. Assumes
+-- nothing.
+use mathlib.Core.Path.{_≡_, refl, sym, ap, _∙_}
+use mathlib.Core.Bool.{true}
+use mathlib.Core.List.{List, [], _++_}
+use mathlib.Core.Logic.{⊎-elim}
+use Prim.Native.Nat.{ℕ, _*_, _≤_, _<_, min}
+use native.Mathlib.Nat.{mul-le-mul}
+use native.Mathlib.Omega.{arith}
+use lib.ListN.{length, getD, take, drop, length-take, length-append}
+use lib.Seq.{take-all, take-length, take-at, length-take-le}
+use Rattle.words.proofs.Tests.{lt-or-le}
+use Rattle.table.specs.Filled.{filled, padded}
+use Rattle.table.proofs.Filled.{filled-exact, padded-length}
+use Rattle.program.specs.Cause.{atomsIn}
+use Rattle.program.specs.Sound.{sound}
+use Rattle.program.proofs.Soundness.{sound-full, sound-atoms, sound-few}
+use Rattle.program.proofs.Theorems.{causes-counted}
+use Rattle.names.specs.Names.{rowsOf}
+use Rattle.names.specs.Held.{Named}
+use Rattle.names.proofs.LineNames.{no-zero}
+use Rattle.question.specs.declared.operation.Answer.{Answer}
+use Rattle.question.specs.Operation.{settingsIn, choicesIn, questionRefusal, unlessRefused, Asked}
+use Rattle.question.proofs.Answers.{refusal-none}
+use Rattle.question.proofs.Bounds.{causes-fit, settings-few}
+use Rattle.question.proofs.Listed.{minimals-le}
+use Rattle.question.proofs.Theorems.{rounds-bounded}
+use Rattle.reader.specs.Lent.{Lent, lent, Long}
+use Rattle.reader.specs.Saying.{Said}
+use Rattle.reader.specs.Reading.{Outcome, readFile, clauseWords}
+use Rattle.reader.specs.Tables.{caseSaid, constraintWords, formulaNodes}
+use Rattle.reader.proofs.Theorems.{accepted-sound, accepted-names}
+use Rattle.output.specs.Writing.{nameIn}
+use Rattle.wording.specs.Text.{answerText}
+use Rattle.report.specs.Report.{clausesOf, constraintsOf, formulaTable, causesIn, judgeIn, minimalsOf, roundsOf}
+use Rattle.report.specs.Report.{verdictIn, nameOf, saidText, listLength}
+use Rattle.wording.proofs.Naming.{every-named, table-name, answer-alike}
+use Rattle.wording.proofs.Lengths.{answer-length}
+
+-- A list whose first slots, as many as there are, are written
+
+front-take : (n : ℕ) (l : List ℕ) → take (min (length l) n) l ≡ take n l
+front-take n l =
+    ⊎-elim
+    (λ (h : n < length l). let e : min (length l) n ≡ n = omega arith in rw e)
+    (λ (h : length l ≤ n). let e : min (length l) n ≡ length l = omega arith in rw (e, take-length l, take-all n l h))
+    (lt-or-le n (length l))
+
+module _ (l old : List ℕ) (n : ℕ) where
+  abbrev k : ℕ
+  k = min (length l) n
+
+  front-length : length (take k l) ≡ k
+  front-length = length-take-le k l (omega arith)
+
+  front-written : take k (take k l ++ drop k old) ≡ take n l
+  front-written = take-at (take k l) (drop k old) k front-length ∙ front-take n l
+
+  front-fits : length old ≡ n → k ≤ length (take k l ++ drop k old)
+  front-fits h = omega (arith, length-append (take k l) (drop k old), front-length)
+
+-- An accepted file
+
+-- tables of zeros, exactly of their sizes
+zeros : Lent
+zeros = lent (padded 768 []) (padded 64 []) (padded 128 []) (padded 1024 [])
+
+zeros-long : Long zeros
+unfolding zeros
+zeros-long = record {
+  clauses-long = omega (arith, padded-length 768 []);
+  constraints-long = omega (arith, padded-length 64 []);
+  formula-long = omega (arith, padded-length 128 []);
+  names-long = omega (arith, padded-length 1024 []);
+}
+
+module _ (f : List ℕ) (st : Said) (e : readFile f ≡ Outcome.case st) where
+  pub said-sound : sound (caseSaid st) (clausesOf st) (constraintsOf st) (formulaTable st) ≡ true
+  unfolding zeros
+  said-sound =
+      rw (
+        filled-exact 768 (clauseWords (st .clauses)) (padded 768 []) (padded-length 768 []),
+        filled-exact 64 (constraintWords (st .constraints)) (padded 64 []) (padded-length 64 []),
+        filled-exact 128 (formulaNodes (st .queries)) (padded 128 []) (padded-length 128 []),
+      )
+      at (accepted-sound f st zeros zeros-long e)
+
+  pub said-named : (a : ℕ) → Named (nameOf st a)
+  said-named = every-named (st .names) (λ a h.
+      let n = accepted-names f st e .are-names a h in
+      record { short = n .short; no-zero = no-zero (nameOf st a) (n .word-bytes) })
+
+  pub said-table : (a : ℕ) → a < 64 → nameIn (padded 1024 (rowsOf (st .names))) a ≡ nameOf st a
+  said-table = table-name (st .names) (λ a h. said-named a)
+
+  pub said-settings : settingsIn (caseSaid st) (clausesOf st) ≤ 59049
+  said-settings = settings-few (caseSaid st) (clausesOf st) (constraintsOf st) (formulaTable st) said-sound
+
+  pub said-causes : length (atomsIn (causesIn st)) ≤ 10
+  said-causes =
+      rw (causes-counted (causesIn st) (causes-fit (caseSaid st) _ _ _ said-sound)) (sound-few (caseSaid st) _ _ _ said-sound)
+
+  pub said-rounds : roundsOf st ≤ 3779136
+  said-rounds =
+      let a = sound-atoms (caseSaid st) _ _ _ said-sound .1 in
+      omega (arith, rounds-bounded (caseSaid st) _ _ _ said-sound, mul-le-mul said-settings a)
+
+  pub said-minimals : length (minimalsOf st) ≤ 59049
+  said-minimals =
+      let l = minimals-le (judgeIn st) (choicesIn (caseSaid st) (clausesOf st)) (settingsIn (caseSaid st) (clausesOf st)) in
+      omega (arith, said-settings)
+
+  pub said-length : length (saidText st) ≤ 264252
+  unfolding saidText
+  said-length =
+      let l : length (take listLength (minimalsOf st)) ≤ 1024 = omega (arith, length-take listLength (minimalsOf st)) in
+      answer-length (nameOf st) (λ a. said-named a .short) (causesIn st) said-causes (verdictIn st) (roundsOf st)
+      (length (minimalsOf st)) (take listLength (minimalsOf st)) (omega (arith, said-rounds)) (omega (arith, said-minimals)) l
+
+-- What is answered for it, with a list of 1,024 slots and a work area of 59,049 bytes
+
+module _ (f : List ℕ) (st : Said) (e : readFile f ≡ Outcome.case st) (list work : List ℕ) (full : length list ≡ 1024)
+    (room : length work ≡ 59049) (r : Answer) (listAfter workAfter : List ℕ)
+    (h : Asked (caseSaid st) (clausesOf st) (constraintsOf st) (formulaTable st) list work r listAfter workAfter) where
+  none : questionRefusal (caseSaid st) (clausesOf st) (constraintsOf st) (formulaTable st) (length work) ≡ 0
+  none =
+      let s = said-sound f st e in
+      refusal-none (caseSaid st) _ _ _ (length work) (sound-full (caseSaid st) _ _ _ s) s
+      (omega (arith, said-settings f st e))
+
+  verdict-is : r .verdict ≡ verdictIn st
+  verdict-is = rw none at (h .verdict-is)
+
+  rounds-are : r .rounds ≡ roundsOf st
+  rounds-are = rw none at (h .rounds-are)
+
+  minimal-is : r .minimal ≡ length (minimalsOf st)
+  minimal-is = rw none at (h .minimal-is)
+
+  written-is : r .written ≡ min (length (minimalsOf st)) 1024
+  written-is = rw (none, full) at (h .written-is)
+
+  list-is : listAfter
+      ≡ take (min (length (minimalsOf st)) 1024) (minimalsOf st) ++ drop (min (length (minimalsOf st)) 1024) list
+  list-is = rw (none, full) at (h .list-is)
+
+  pub asked-fits : r .written ≤ length listAfter
+  asked-fits = rw (written-is, list-is) (front-fits (minimalsOf st) list 1024 full)
+
+  pub asked-text : (names : List ℕ) (causes : ℕ) → names ≡ padded 1024 (rowsOf (st .names)) → causes ≡ causesIn st
+      → answerText (nameIn names) causes (r .verdict) (r .rounds) (r .minimal) (take (r .written) listAfter) ≡ saidText st
+  unfolding saidText
+  asked-text names causes n c =
+      rw (n, c, verdict-is, rounds-are, minimal-is, written-is, list-is, front-written (minimalsOf st) list 1024)
+      (answer-alike (nameIn (padded 1024 (rowsOf (st .names)))) (nameOf st) (said-table f st e) (causesIn st) (verdictIn st)
+      (roundsOf st) (length (minimalsOf st)) (take listLength (minimalsOf st)))

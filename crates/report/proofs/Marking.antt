@@ -1,0 +1,39 @@
+-- The ten marked files, by computation. Assumes nothing.
+use mathlib.Core.Path.{_≡_, refl}
+use lib.Count.{ones, onesIn}
+use Rattle.words.specs.Bits.{has, word}
+use Rattle.logic.specs.Formula.{valueOf, literalsBelow}
+use Rattle.logic.specs.Nodes.{nodes, withNode, spelled, formulaOf}
+use Rattle.program.specs.Program.{clauseAt, clausesOf, addedBelow, headsOf}
+use Rattle.program.specs.Cause.{causesAmong, causesOf, atomsFrom}
+use Rattle.program.specs.Setting.{choicesFor, product, digits, digitOf, settingsOf, additionsOf}
+use Rattle.program.specs.Sound.{fewCauses}
+use Rattle.settle.specs.Step.{bodiesOf, someTrue, allFalse, nextValue, step}
+use Rattle.settle.specs.Rounds.{rounds, roundCount, settled}
+use Rattle.question.specs.Explanation.{observedTrue, noneBroken, explainsUnder, setExplains}
+use Rattle.question.specs.Subset.{subsetOf, properOf, someProper, minimal}
+use Rattle.question.specs.Walk.{minimalsBelow, roundsBelow, allTrue, verdictOf}
+use Rattle.question.specs.Walk as walk
+use Rattle.text.specs.Bytes.{isWordByte, isAllowed, allOf, sameBytes}
+use Rattle.text.specs.Lines.{linesFrom, isComment}
+use Rattle.text.specs.Tokens.{tokensFrom}
+use Rattle.table.specs.Filled.{padded}
+use Rattle.names.specs.Names.{namesFrom, someLong, atomOf, withName, withNames, rowsOf}
+use Rattle.grammar.specs.Keyword.{nodeOf, kindOf}
+use Rattle.grammar.specs.Sentence.{isName, depthOf, withForm, itemsOf}
+use Rattle.grammar.specs.Line.{literalsOf, lineOf}
+use Rattle.reader.specs.Saying.{someOn, plainAtoms, negatedAtoms, encoded, saidBy}
+use Rattle.reader.specs.Checks.{formRefusal, lineRefusal}
+use Rattle.reader.specs.Reading.{saidAfter, clauseWords, ending, readLines, readFile}
+use Rattle.reader.specs.Tables.{constraintWords, formulaNodes}
+use Rattle.report.specs.Marked.{MarkedRows}
+
+pub marked-rows : MarkedRows
+unfolding ones onesIn has word valueOf literalsBelow nodes withNode spelled formulaOf clauseAt clausesOf addedBelow headsOf causesAmong causesOf
+    atomsFrom choicesFor product digits digitOf settingsOf additionsOf fewCauses bodiesOf someTrue allFalse nextValue
+    step rounds roundCount settled observedTrue noneBroken explainsUnder setExplains subsetOf properOf someProper
+    minimal minimalsBelow roundsBelow allTrue walk.allFalse verdictOf isWordByte isAllowed allOf sameBytes linesFrom
+    isComment tokensFrom padded namesFrom someLong atomOf withName withNames rowsOf nodeOf kindOf isName depthOf
+    withForm itemsOf literalsOf lineOf someOn plainAtoms negatedAtoms encoded saidBy formRefusal lineRefusal saidAfter
+    clauseWords ending readLines readFile constraintWords formulaNodes
+marked-rows = refl

@@ -1,0 +1,167 @@
+-- Laws of the report of a file that was read into tables of exactly their sizes: its text where reading refuses, and
+-- what the tables hold where it does not. Assumes nothing.
+use mathlib.Core.Path.{_≡_, refl, sym, ap, _∙_}
+use mathlib.Core.Bool.{Bool, true}
+use mathlib.Core.List.{List}
+use mathlib.Core.Logic.{⊎-elim}
+use Prim.Native.Nat.{ℕ, _*_, _≤_, _<_}
+use native.Mathlib.Omega.{arith}
+use lib.ListN.{length, take}
+use borrow.Author.Tests.{lt-ltb, le-ltb}
+use Rattle.words.proofs.Tests.{lt-or-le}
+use Rattle.table.specs.Filled.{filled, padded}
+use Rattle.table.proofs.Filled.{filled-exact, padded-length}
+use Rattle.program.specs.Cause.{causesOf}
+use Rattle.program.specs.Sound.{sound}
+use Rattle.program.proofs.Soundness.{clauses-held, sound-full, sound-limits}
+use Rattle.names.specs.Names.{rowsOf}
+use Rattle.question.specs.declared.operation.Answer as question
+use Rattle.question.specs.Operation.{Asked}
+use Rattle.reader.specs.declared.read.Answer.{Answer}
+use Rattle.reader.specs.Lent.{Lent}
+use Rattle.reader.specs.Saying.{Said}
+use Rattle.reader.specs.Reading.{Outcome, readFile, clauseWords}
+use Rattle.reader.specs.Tables.{caseSaid, constraintWords, formulaNodes, refusalOf, lineOfRefusal, earlyRefusal}
+use Rattle.reader.specs.Operation.{ReadAs}
+use Rattle.reader.proofs.Cases.{tables-full}
+use Rattle.reader.proofs.ReadingEarly.{Full, early-none, early-file-long}
+use Rattle.reader.proofs.Numbered.{Numbered, file-numbered}
+use Rattle.output.specs.Writing.{Room, nameIn}
+use Rattle.wording.specs.Text.{answerText, refusalText}
+use Rattle.report.specs.Report.{clausesOf, constraintsOf, formulaTable, causesIn, saidText, outcomeText}
+use Rattle.report.specs.Report.{unlessLong, reportText}
+use Rattle.report.proofs.Accepted.{said-sound, said-length, asked-fits, asked-text}
+
+report-long : (f : List ℕ) → 32768 < length f → reportText f ≡ refusalText 2 0
+unfolding reportText
+report-long f h = ap (λ (b : Bool). unlessLong b (outcomeText (readFile f))) (lt-ltb 32768 (length f) h)
+
+report-read : (f : List ℕ) → length f ≤ 32768 → reportText f ≡ outcomeText (readFile f)
+unfolding reportText
+report-read f h = ap (λ (b : Bool). unlessLong b (outcomeText (readFile f))) (le-ltb 32768 (length f) h)
+
+refused-text : (o : Outcome) → (refusalOf o ≡ 0 → ⊥) → refusalText (refusalOf o) (lineOfRefusal o) ≡ outcomeText o
+refused-text (Outcome.case st) h = absurd (h refl)
+refused-text (Outcome.refused n k) h = refl
+
+-- the tables have exactly their sizes
+pub record Exact (t : Lent) : Type 0 where
+  pub clauses-exact : length (t .clauses) ≡ 768
+  pub constraints-exact : length (t .constraints) ≡ 64
+  pub formula-exact : length (t .formula) ≡ 128
+  pub names-exact : length (t .names) ≡ 1024
+
+-- what was read of an accepted file f: what it says, the answer's record, and the tables u
+pub record Accepted (f : List ℕ) (u : Lent) (r : Answer) : Type 0 where
+  pub said : Said
+  pub read-is : readFile f ≡ Outcome.case said
+  pub text-is : reportText f ≡ saidText said
+  pub case-is : r .found ≡ caseSaid said
+  pub clauses-are : u .clauses ≡ clausesOf said
+  pub constraints-are : u .constraints ≡ constraintsOf said
+  pub formula-is : u .formula ≡ formulaTable said
+  pub names-are : u .names ≡ padded 1024 (rowsOf (said .names))
+
+module _ (f : List ℕ) (t u : Lent) (r : Answer) (x : Exact t) (h : ReadAs f t u r) where
+  is-full : Full f t true
+  is-full =
+      tables-full (t .clauses) (t .constraints) (t .formula) (omega (arith, x .clauses-exact))
+      (omega (arith, x .constraints-exact)) (omega (arith, x .formula-exact))
+
+  is-early : 32768 < length f → earlyRefusal f t ≡ 2
+  is-early l = early-file-long f t is-full (omega (arith, x .names-exact)) l
+
+  not-early : length f ≤ 32768 → earlyRefusal f t ≡ 0
+  not-early l = early-none f t is-full (omega (arith, x .names-exact)) l
+
+  pub refused-report : (r .refusal ≡ 0 → ⊥) → refusalText (r .refusal) (r .line) ≡ reportText f
+  refused-report k = ⊎-elim long short (lt-or-le 32768 (length f))
+    where
+      long : 32768 < length f → refusalText (r .refusal) (r .line) ≡ reportText f
+      long l = rw (h .refusal-is, h .line-is, is-early l, report-long f l)
+
+      short : length f ≤ 32768 → refusalText (r .refusal) (r .line) ≡ reportText f
+      short l =
+          let n : r .refusal ≡ refusalOf (readFile f) = rw (not-early l) at (h .refusal-is) in
+          let m : r .line ≡ lineOfRefusal (readFile f) = rw (not-early l) at (h .line-is) in
+          rw (n, m, report-read f l) (refused-text (readFile f) (λ z. k (n ∙ z)))
+
+  accepted-case : (st : Said) → readFile f ≡ Outcome.case st → length f ≤ 32768 → Accepted f u r
+  accepted-case st e l =
+      let n = not-early l in
+      record {
+        said = st;
+        read-is = e;
+        text-is = report-read f l ∙ ap outcomeText e;
+        case-is = rw (n, e) at (h .case-is);
+        clauses-are = rw (n, e) at (h .clauses-are) ∙ filled-exact 768 _ (t .clauses) (x .clauses-exact);
+        constraints-are = rw (n, e) at (h .constraints-are) ∙ filled-exact 64 _ (t .constraints) (x .constraints-exact);
+        formula-is = rw (n, e) at (h .formula-is) ∙ filled-exact 128 _ (t .formula) (x .formula-exact);
+        names-are = rw (n, e) at (h .names-are) ∙ filled-exact 1024 _ (t .names) (x .names-exact);
+      }
+
+  accepted-by : (o : Outcome) → readFile f ≡ o → Numbered o → refusalOf o ≡ 0 → length f ≤ 32768 → Accepted f u r
+  accepted-by (Outcome.case st) e n k l = accepted-case st e l
+  accepted-by (Outcome.refused m i) e n k l = absurd (n k)
+
+  pub accepted-report : r .refusal ≡ 0 → Accepted f u r
+  accepted-report k = ⊎-elim long short (lt-or-le 32768 (length f))
+    where
+      long : 32768 < length f → Accepted f u r
+      long l = let n : r .refusal ≡ 2 = rw (is-early l) at (h .refusal-is) in absurd (omega arith)
+
+      short : length f ≤ 32768 → Accepted f u r
+      short l =
+          let n : r .refusal ≡ refusalOf (readFile f) = rw (not-early l) at (h .refusal-is) in
+          accepted-by (readFile f) refl (file-numbered f) (sym n ∙ k) l
+
+-- An accepted file, and what its question answers, with a list of 1,024 slots and a work area of 59,049 bytes
+
+abbrev textOf : Lent → ℕ → question.Answer → List ℕ → List ℕ
+textOf u causes q list =
+    answerText (nameIn (u .names)) causes (q .verdict) (q .rounds) (q .minimal) (take (q .written) list)
+
+-- what the report shows of the answer q and its list, with the tables u
+pub record Answered (f : List ℕ) (u : Lent) (causes : ℕ) (q : question.Answer) (list : List ℕ) : Type 0 where
+  pub names-fit : 1024 ≤ length (u .names)
+  pub list-fits : q .written ≤ length list
+  pub text-fits : Room (textOf u causes q list) 0
+  pub text-is : textOf u causes q list ≡ reportText f
+
+module _ (f : List ℕ) (u : Lent) (r : Answer) (a : Accepted f u r) where
+  pub accepted-sound : sound (r .found) (u .clauses) (u .constraints) (u .formula) ≡ true
+  accepted-sound =
+      rw (a .case-is, a .clauses-are, a .constraints-are, a .formula-is) (said-sound f (a .said) (a .read-is))
+
+  pub accepted-held : let n = r .found .atoms in
+      (1 ≤ n) × (n ≤ 64) × (r .found .clauses ≤ 256) × (3 * r .found .clauses ≤ length (u .clauses))
+  accepted-held =
+      clauses-held (r .found) (u .clauses) (u .constraints) (u .formula)
+      (sound-full (r .found) (u .clauses) (u .constraints) (u .formula) accepted-sound)
+      (sound-limits (r .found) (u .clauses) (u .constraints) (u .formula) accepted-sound)
+
+  pub accepted-clauses : length (u .clauses) ≡ 768
+  accepted-clauses = ap length (a .clauses-are) ∙ padded-length 768 (clauseWords (a .said .clauses))
+
+  pub accepted-constraints : length (u .constraints) ≡ 64
+  accepted-constraints = ap length (a .constraints-are) ∙ padded-length 64 (constraintWords (a .said .constraints))
+
+  module _ (list work : List ℕ) (full : length list ≡ 1024) (room : length work ≡ 59049) (q : question.Answer)
+      (listAfter workAfter : List ℕ)
+      (h : Asked (r .found) (u .clauses) (u .constraints) (u .formula) list work q listAfter workAfter) where
+    asked-said : let st = a .said in
+        Asked (caseSaid st) (clausesOf st) (constraintsOf st) (formulaTable st) list work q listAfter workAfter
+    asked-said = rw (a .case-is, a .clauses-are, a .constraints-are, a .formula-is) at h
+
+    pub accepted-answered : (causes : ℕ) → causes ≡ causesOf (r .found) (u .clauses) → Answered f u causes q listAfter
+    accepted-answered causes c =
+        let st = a .said in
+        let e : causes ≡ causesIn st = rw (a .case-is, a .clauses-are) at c in
+        let t = asked-text f st (a .read-is) list work full room q listAfter workAfter asked-said (u .names) causes
+        (a .names-are) e in
+        record {
+          names-fit = omega (arith, ap length (a .names-are), padded-length 1024 (rowsOf (st .names)));
+          list-fits = asked-fits f st (a .read-is) list work full room q listAfter workAfter asked-said;
+          text-fits = rw t (omega (arith, said-length f st (a .read-is)));
+          text-is = t ∙ sym (a .text-is);
+        }

@@ -1,0 +1,13 @@
+-- What is claimed of reports beyond the contract of *report*. Proved in proofs/Theorems.antt.
+use mathlib.Core.List.{List}
+use Prim.Native.Nat.{ℕ, _≤_}
+use lib.ListN.{length}
+use Rattle.report.specs.Report.{reportText}
+
+-- the longest report that there can be: the first three lines, and 1,024 settings of ten causes with names of 16 bytes
+abbrev pub reportLimit : ℕ
+reportLimit = 264252
+
+-- an output of that many bytes is long enough for the report of any file
+abbrev pub ReportFits : Type 0
+ReportFits = (f : List ℕ) → length (reportText f) ≤ reportLimit

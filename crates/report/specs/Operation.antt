@@ -1,0 +1,30 @@
+-- What the operation *report* answers and leaves in the lent output, on every input.
+-- From: document 01, "The program `causes`" and "What each operation refuses" ("For operations and tables that come later").
+--
+--   reportRefusal      0, or 19 the lent output is shorter than the text
+--   Shown              the answer and the output at exit, for a text
+--   Reported           the same for the report of a file
+use mathlib.Core.Path.{_≡_}
+use mathlib.Core.Bool.{Bool, true, false}
+use mathlib.Core.List.{List, _++_}
+use Prim.Native.Nat.{ℕ, zero, suc}
+use lib.Dec.{leb}
+use lib.ListN.{length, drop}
+use Rattle.settle.specs.Operation.{unless}
+use Rattle.question.specs.Operation.{unlessRefused}
+use Rattle.report.specs.declared.operation.Answer.{Answer}
+use Rattle.report.specs.Report.{reportText}
+
+-- t is the text, n the length of the output
+unfoldable pub reportRefusal : List ℕ → ℕ → ℕ
+reportRefusal t n = unless (leb (length t) n) 19 0
+
+-- the text t, the output at entry and at exit
+pub record Shown (t out : List ℕ) (r : Answer) (outAfter : List ℕ) : Type 0 where
+  pub refusal-is : r .refusal ≡ reportRefusal t (length out)
+  pub length-is : r .length ≡ unlessRefused (reportRefusal t (length out)) (length t) 0
+  pub out-is : outAfter ≡ unlessRefused (reportRefusal t (length out)) (t ++ drop (length t) out) out
+
+-- the file f, the output at entry and at exit
+abbrev pub Reported : List ℕ → List ℕ → Answer → List ℕ → Type 0
+Reported f out r outAfter = Shown (reportText f) out r outAfter

@@ -1,0 +1,73 @@
+-- From the bytes of a file to the bytes of its report.
+-- From: document 01, "The program `causes`".
+--
+--   listLength             the slots of the program's list
+--   judgeIn st             the judge of what a file says
+--   causesIn st            its causes; minimalsOf st its minimal settings; roundsOf st the rounds over all settings
+--   verdictIn st           its verdict
+--   outcomeText o          the report of an outcome of reading
+--   reportText f           the report of the file f
+use mathlib.Core.Bool.{Bool, true, false}
+use mathlib.Core.List.{List, [], _∷_, _++_}
+use Prim.Native.Nat.{ℕ, zero, suc}
+use lib.Dec.{ltb}
+use lib.ListN.{length, getD, take}
+use Rattle.table.specs.Filled.{padded}
+use Rattle.program.specs.Cause.{causesOf}
+use Rattle.question.specs.declared.verdict.Verdict.{Verdict}
+use Rattle.question.specs.Judge.{Judge, judgeOf}
+use Rattle.question.specs.Walk.{roundsBelow, verdictOf}
+use Rattle.question.specs.Operation.{settingsIn, minimalsIn}
+use Rattle.reader.specs.Saying.{Said}
+use Rattle.reader.specs.Reading.{Outcome, readFile, clauseWords}
+use Rattle.reader.specs.Tables.{caseSaid, constraintWords, formulaNodes}
+use Rattle.wording.specs.Text.{answerText, refusalText}
+
+-- the program's list has 1,024 slots
+abbrev pub listLength : ℕ
+listLength = 1024
+
+-- the tables that hold what a file says, in their sizes
+abbrev pub clausesOf : Said → List ℕ
+clausesOf st = padded 768 (clauseWords (st .clauses))
+
+abbrev pub constraintsOf : Said → List ℕ
+constraintsOf st = padded 64 (constraintWords (st .constraints))
+
+abbrev pub formulaTable : Said → List ℕ
+formulaTable st = padded 128 (formulaNodes (st .queries))
+
+abbrev pub causesIn : Said → ℕ
+causesIn st = causesOf (caseSaid st) (clausesOf st)
+
+abbrev pub judgeIn : Said → Judge
+judgeIn st = judgeOf (caseSaid st) (clausesOf st) (constraintsOf st) (formulaTable st)
+
+abbrev pub minimalsOf : Said → List ℕ
+minimalsOf st = minimalsIn (caseSaid st) (clausesOf st) (constraintsOf st) (formulaTable st)
+
+abbrev pub roundsOf : Said → ℕ
+roundsOf st = roundsBelow (judgeIn st) (settingsIn (caseSaid st) (clausesOf st))
+
+abbrev pub verdictIn : Said → Verdict
+verdictIn st = verdictOf (judgeIn st) (minimalsOf st)
+
+-- the name of an atom
+abbrev pub nameOf : Said → ℕ → List ℕ
+nameOf st a = getD (st .names) a []
+
+unfoldable pub saidText : Said → List ℕ
+saidText st =
+    answerText (nameOf st) (causesIn st) (verdictIn st) (roundsOf st) (length (minimalsOf st)) (take listLength (minimalsOf st))
+
+abbrev pub outcomeText : Outcome → List ℕ
+outcomeText (Outcome.case st) = saidText st
+outcomeText (Outcome.refused n k) = refusalText n k
+
+-- the file is over 32,768 bytes, where the test holds: refusal 2
+abbrev pub unlessLong : Bool → List ℕ → List ℕ
+unlessLong true t = refusalText 2 0
+unlessLong false t = t
+
+unfoldable pub reportText : List ℕ → List ℕ
+reportText f = unlessLong (ltb 32768 (length f)) (outcomeText (readFile f))

@@ -1,0 +1,15 @@
+-- What the inner function of the report asks of what it is lent.
+--
+--   FullSizes ..        the lent tables, the list and the work area have exactly their sizes
+use mathlib.Core.Path.{_≡_}
+use mathlib.Core.List.{List}
+use Prim.Native.Nat.{ℕ}
+use lib.ListN.{length}
+
+pub record FullSizes (clauses constraints formula names list work : List ℕ) : Type 0 where
+  pub clauses-full : length clauses ≡ 768
+  pub constraints-full : length constraints ≡ 64
+  pub formula-full : length formula ≡ 128
+  pub names-full : length names ≡ 1024
+  pub list-full : length list ≡ 1024
+  pub work-full : length work ≡ 59049

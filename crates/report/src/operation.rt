@@ -1,0 +1,126 @@
+// The operation *report*.
+ghost use mathlib.Core.Path.{_≡_};
+ghost use Prim.Native.Nat.{_≤_};
+ghost use lib.ListN.{length, take};
+ghost use Rattle.wording.specs.Text.{answerText, refusalText};
+ghost use Rattle.report.specs.Operation.{Shown, Reported};
+ghost use Rattle.output.specs.Writing.{Room, nameIn};
+ghost use Rattle.report.specs.Sizes.{FullSizes};
+use wording::answer_text;
+use wording::refusal_text;
+
+// What the report answers: 0 and the length of the text, or a refusal's number and 0.
+pub struct Answer {
+    pub refusal: u32,
+    pub length: usize,
+}
+
+// Writes the text of a refusal, unless the output is too short.
+fn show_refusal(number: u32, line: u32, out: &mut [u8]) -> Answer
+    ensures { λ r. ⌜ Shown (refusalText number line) (now (out .entry)) r (now (out .exit)) ⌝ }
+{
+    let mut spare = [0u8; 1];
+    let length = refusal_text(&mut spare, number, line);
+    if out.len() < length {
+        return Answer {
+            refusal: 19,
+            length: 0,
+        };
+    }
+    refusal_text(out, number, line);
+    Answer { refusal: 0, length }
+}
+
+// Writes the text of an answer, unless the output is too short.
+fn show_answer(
+    a: question::operation::Answer,
+    names: &[u8],
+    causes: u64,
+    list: &[u16],
+    out: &mut [u8],
+) -> Answer
+    requires { ⌜ (1024 ≤ length (now names)) × (a .written ≤ length (now list))
+        × Room (answerText (nameIn (now names)) causes (a .verdict) (a .rounds) (a .minimal) (take (a .written) (now list))) 0 ⌝ }
+    ensures { λ r. ⌜ Shown
+        (answerText (nameIn (now (names .entry))) causes (a .verdict) (a .rounds) (a .minimal) (take (a .written) (now (list .entry))))
+        (now (out .entry)) r (now (out .exit)) ⌝ }
+{
+    let verdict = a.verdict;
+    let mut spare = [0u8; 1];
+    let length = answer_text(
+        &mut spare,
+        verdict,
+        a.rounds,
+        a.minimal,
+        a.written,
+        names,
+        causes,
+        list,
+    );
+    if out.len() < length {
+        return Answer {
+            refusal: 19,
+            length: 0,
+        };
+    }
+    answer_text(
+        out,
+        verdict,
+        a.rounds,
+        a.minimal,
+        a.written,
+        names,
+        causes,
+        list,
+    );
+    Answer { refusal: 0, length }
+}
+
+// Reads a file into lent tables of exactly their sizes, answers its question with a list of 1,024 slots and a work area
+// of 59,049 bytes, and writes the report.
+pub fn report_in(
+    file: &[u8],
+    clauses: &mut [u64],
+    constraints: &mut [u64],
+    formula: &mut [u8],
+    names: &mut [u8],
+    list: &mut [u16],
+    work: &mut [u8],
+    out: &mut [u8],
+) -> Answer
+    requires { ⌜ FullSizes (now clauses) (now constraints) (now formula) (now names) (now list) (now work) ⌝ }
+    ensures { λ r. ⌜ Reported (now (file .entry)) (now (out .entry)) r (now (out .exit)) ⌝ }
+{
+    let found = reader::read::read(file, clauses, constraints, formula, names);
+    if found.refusal != 0 {
+        return show_refusal(found.refusal, found.line, out);
+    }
+    let c = found.found;
+    let a = question::operation::ask(c, clauses, constraints, formula, list, work);
+    let heads = program::cause::heads(clauses, c.clauses);
+    let causes = program::cause::causes(c.atoms, heads);
+    show_answer(a, names, causes, list, out)
+}
+
+// Writes the report of a file's bytes to a lent output, and answers its length. Refuses with 19 an output shorter than
+// the report, and then touches nothing.
+pub fn report(file: &[u8], out: &mut [u8]) -> Answer
+    ensures { λ r. ⌜ Reported (now (file .entry)) (now (out .entry)) r (now (out .exit)) ⌝ }
+{
+    let mut clauses = [0u64; 768];
+    let mut constraints = [0u64; 64];
+    let mut formula = [0u8; 128];
+    let mut names = [0u8; 1024];
+    let mut list = [0u16; 1024];
+    let mut work = [0u8; 59049];
+    report_in(
+        file,
+        &mut clauses,
+        &mut constraints,
+        &mut formula,
+        &mut names,
+        &mut list,
+        &mut work,
+        out,
+    )
+}

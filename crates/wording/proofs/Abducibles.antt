@@ -1,0 +1,83 @@
+-- How what a setting adds is written, atom by atom: what is written so far, and what is left of the setting from the
+-- next atom on, make up the whole. Assumes nothing.
+use mathlib.Core.Path.{_≡_, refl, ap, _∙_}
+use mathlib.Core.Bool.{Bool, true, false}
+use mathlib.Core.List.{List, [], _++_}
+use Prim.Native.Nat.{ℕ, suc, _+_, _-_, _/_, _%_, _≤_, _<_}
+use native.Mathlib.Omega.{arith}
+use Rattle.words.specs.Bits.{has}
+use Rattle.program.specs.Cause.{consIf, atomsFrom, atomsIn}
+use Rattle.program.specs.Setting.{choicesFor, digits}
+use Rattle.output.specs.Writing.{Writes, Room}
+use Rattle.wording.specs.Forms.{spaced}
+use Rattle.wording.specs.Text.{withAbducible, abducibles}
+use Rattle.wording.proofs.Progress.{Underway, underway-start, underway-room, underway-more, underway-end}
+use Rattle.wording.proofs.LineTexts.{abducible-text}
+
+-- what setting s of the causes l adds, as it is written
+abbrev settingText : (ℕ → List ℕ) → List ℕ → ℕ → List ℕ
+settingText name l s = spaced (abducibles name l (digits (choicesFor l) s))
+
+-- the same, where the causes are those of w from atom a on
+abbrev leftText : (ℕ → List ℕ) → ℕ → ℕ → ℕ → List ℕ
+leftText name w a s = settingText name (atomsFrom w a (64 - a)) s
+
+module _ (name : ℕ → List ℕ) (w a s : ℕ) (l : a < 64) where
+  -- the same, where atom a is a cause as t says
+  abbrev splitText : Bool → List ℕ
+  splitText t = settingText name (consIf t a (atomsFrom w (a + 1) (64 - (a + 1)))) s
+
+  left-split : leftText name w a s ≡ splitText (has w a)
+  unfolding atomsFrom
+  left-split =
+      let e : 64 - a ≡ suc (64 - suc a) = omega arith in
+      let f : suc a ≡ a + 1 = omega arith in
+      ap (λ (n : ℕ). settingText name (atomsFrom w a n) s) e
+      ∙ ap (λ (k : ℕ). settingText name (consIf (has w a) a (atomsFrom w k (64 - k))) s) f
+
+  left-cause : has w a ≡ true
+      → leftText name w a s ≡ spaced (withAbducible (s % 3) (name a) []) ++ leftText name w (a + 1) (s / 3)
+  unfolding choicesFor digits abducibles
+  left-cause e = left-split ∙ ap splitText e ∙ abducible-text (s % 3) (name a) _
+
+  left-other : has w a ≡ false → leftText name w a s ≡ leftText name w (a + 1) s
+  left-other e = left-split ∙ ap splitText e
+
+left-none : (name : ℕ → List ℕ) (w s : ℕ) → leftText name w 64 s ≡ []
+unfolding spaced atomsFrom choicesFor digits abducibles
+left-none name w s = refl
+
+-- ---- the walk over the atoms
+-- setting s of the causes w is written to out from place at on; what is left of it from atom a on is rest, and comes
+-- to out₁ from place m on
+pub record AtAtom (name : ℕ → List ℕ) (w s : ℕ) (out : List ℕ) (at a rest m : ℕ) (out₁ : List ℕ) : Type 0 where
+  pub within : a ≤ 64
+  pub underway : Underway (settingText name (atomsIn w) s) out at (leftText name w a rest) m out₁
+
+pub atom-start : (name : ℕ → List ℕ) (w s : ℕ) (out : List ℕ) (at : ℕ) → AtAtom name w s out at 0 s at out
+atom-start name w s out at = record { within = omega arith; underway = underway-start _ _ _ }
+
+module _ {name : ℕ → List ℕ} {w s at a rest m : ℕ} {out out₁ : List ℕ}
+    (h : AtAtom name w s out at a rest m out₁) (l : a < 64) where
+  pub atom-room : has w a ≡ true → Room (settingText name (atomsIn w) s) at
+      → Room (spaced (withAbducible (rest % 3) (name a) [])) m
+  atom-room e r =
+      underway-room (h .underway) (spaced (withAbducible (rest % 3) (name a) [])) (leftText name w (a + 1) (rest / 3))
+      (left-cause name w a rest l e) r
+
+  pub atom-cause : {r : ℕ} {out₂ : List ℕ} → has w a ≡ true
+      → Writes (spaced (withAbducible (rest % 3) (name a) [])) out₁ m r out₂
+      → AtAtom name w s out at (a + 1) (rest / 3) r out₂
+  atom-cause e k = record {
+    within = omega arith;
+    underway = underway-more (h .underway) (left-cause name w a rest l e) k;
+  }
+
+  pub atom-other : has w a ≡ false → AtAtom name w s out at (a + 1) rest m out₁
+  atom-other e = record { within = omega arith; underway = rw (left-other name w a rest l e) at (h .underway) }
+
+pub atom-end : {name : ℕ → List ℕ} {w s at a rest m : ℕ} {out out₁ : List ℕ} → AtAtom name w s out at a rest m out₁
+    → 64 ≤ a → Writes (settingText name (atomsIn w) s) out at m out₁
+atom-end {name} {w} {s} {at} {a} {rest} h l =
+    let e : a ≡ 64 = omega arith in
+    underway-end (h .underway) (ap (λ (k : ℕ). leftText name w k rest) e ∙ left-none name w rest)

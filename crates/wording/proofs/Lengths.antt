@@ -1,0 +1,104 @@
+-- Laws of the length of a report's lines. Assumes nothing.
+use mathlib.Core.Path.{_≡_}
+use mathlib.Core.List.{List, [], _∷_, _++_}
+use Prim.Native.Nat.{ℕ, zero, suc, _+_, _*_, _^_, _≤_, _<_}
+use native.Mathlib.Omega.{arith}
+use lib.ListN.{length, length-append}
+use Rattle.program.specs.Cause.{atomsIn}
+use Rattle.program.specs.Setting.{digitsOf}
+use Rattle.question.specs.declared.verdict.Verdict.{Verdict}
+use Rattle.question.specs.declared.verdict.Verdict.the-variants.{Unexplained, Follows, Denied, Open}
+use Rattle.output.specs.Decimal.{decimal}
+use Rattle.output.proofs.Decimals.{decimal-length, decimal-short}
+use Rattle.wording.specs.Forms.{spaced, form, line}
+use Rattle.wording.specs.Text.{verdictWord, verdictLine, roundsLine, minimalLine, withAbducible, abducibles}
+use Rattle.wording.specs.Text.{causeLine, causeLines, answerText, refusalText}
+
+-- Forms
+
+spaced-more : (p : List ℕ) (ps : List (List ℕ)) → length (spaced (p ∷ ps)) ≡ 1 + length p + length (spaced ps)
+unfolding spaced
+spaced-more p ps = omega (arith, length-append p (spaced ps))
+
+spaced-one : (p : List ℕ) → length (spaced (p ∷ [])) ≡ 1 + length p
+unfolding spaced
+spaced-one p = omega (arith, length-append p [])
+
+spaced-two : (p q : List ℕ) → length (spaced (p ∷ (q ∷ []))) ≡ 2 + length p + length q
+spaced-two p q = omega (arith, spaced-more p (q ∷ []), spaced-one q)
+
+form-length : (w : List ℕ) (ps : List (List ℕ)) → length (form w ps) ≡ 2 + length w + length (spaced ps)
+unfolding form
+form-length w ps = omega (arith, length-append w (spaced ps ++ (41 ∷ [])), length-append (spaced ps) (41 ∷ []))
+
+line-length : (w : List ℕ) (ps : List (List ℕ)) → length (line w ps) ≡ 3 + length w + length (spaced ps)
+unfolding line
+line-length w ps = omega (arith, length-append (form w ps) (10 ∷ []), form-length w ps)
+
+-- Lines
+
+verdict-word-length : (v : Verdict) → length (verdictWord v) ≤ 11
+verdict-word-length Unexplained = omega arith
+verdict-word-length Follows = omega arith
+verdict-word-length Denied = omega arith
+verdict-word-length Open = omega arith
+
+pub verdict-line-length : (v : Verdict) → length (verdictLine v) ≤ 22
+unfolding verdictLine
+verdict-line-length v = rw (line-length, spaced-one) (omega (arith, verdict-word-length v))
+
+pub rounds-line-length : (n : ℕ) → n < 10 ^ 7 → length (roundsLine n) ≤ 17
+unfolding roundsLine
+rounds-line-length n h = rw (line-length, spaced-one) (omega (arith, decimal-short 6 n h))
+
+pub minimal-line-length : (m w : ℕ) → m < 10 ^ 5 → w < 10 ^ 4 → length (minimalLine m w) ≤ 21
+unfolding minimalLine
+minimal-line-length m w h k =
+    rw (line-length, spaced-two) (omega (arith, decimal-short 4 m h, decimal-short 3 w k))
+
+pub refusal-length : (n k : ℕ) → length (refusalText n k) ≤ 52
+unfolding refusalText
+refusal-length n k = rw (line-length, spaced-two) (omega (arith, decimal-length n, decimal-length k))
+
+-- Settings, with names of at most 16 bytes
+
+with-abducible-length : (d : ℕ) (w : List ℕ) (ps : List (List ℕ)) → length w ≤ 16
+    → length (spaced (withAbducible d w ps)) ≤ 25 + length (spaced ps)
+with-abducible-length zero w ps h = omega arith
+with-abducible-length (suc zero) w ps h = rw (spaced-more, form-length, spaced-one) (omega arith)
+with-abducible-length (suc (suc d)) w ps h = rw (spaced-more, form-length, spaced-one) (omega arith)
+
+module _ (name : ℕ → List ℕ) (short : (a : ℕ) → length (name a) ≤ 16) where
+  abducibles-length : (l ds : List ℕ) → length (spaced (abducibles name l ds)) ≤ 25 * length l
+  unfolding abducibles spaced
+  abducibles-length [] ds = omega arith
+  abducibles-length (a ∷ l) [] = omega arith
+  abducibles-length (a ∷ l) (d ∷ ds) =
+      omega (arith, with-abducible-length d (name a) (abducibles name l ds) (short a), abducibles-length l ds)
+
+  module _ (w : ℕ) (few : length (atomsIn w) ≤ 10) where
+    cause-line-length : (s : ℕ) → length (causeLine name w s) ≤ 258
+    unfolding causeLine
+    cause-line-length s = rw line-length (omega (arith, abducibles-length (atomsIn w) (digitsOf w s)))
+
+    pub cause-lines-length : (l : List ℕ) → length (causeLines name w l) ≤ 258 * length l
+    unfolding causeLines
+    cause-lines-length [] = omega arith
+    cause-lines-length (s ∷ l) =
+        omega
+        (arith, length-append (causeLine name w s) (causeLines name w l), cause-line-length s, cause-lines-length l)
+
+    pub answer-length : (v : Verdict) (n m : ℕ) (l : List ℕ) → n < 10 ^ 7 → m < 10 ^ 5 → length l ≤ 1024
+        → length (answerText name w v n m l) ≤ 264252
+    unfolding answerText
+    answer-length v n m l h k f =
+        omega (
+          arith,
+          length-append (verdictLine v) (roundsLine n ++ (minimalLine m (length l) ++ causeLines name w l)),
+          length-append (roundsLine n) (minimalLine m (length l) ++ causeLines name w l),
+          length-append (minimalLine m (length l)) (causeLines name w l),
+          verdict-line-length v,
+          rounds-line-length n h,
+          minimal-line-length m (length l) k (omega arith),
+          cause-lines-length l,
+        )

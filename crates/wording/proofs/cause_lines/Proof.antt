@@ -1,0 +1,73 @@
+-- `wording::cause_lines` meets its contract. The loop's invariant: what is written so far, and the lines from the
+-- next setting on, make up the whole. Assumes nothing.
+use borrow.Author.Needs.{needs}
+use Prim.Native.Nat.{_-_}
+use native.Mathlib.Omega.{arith}
+use Rattle.output.specs.Writing.{nameIn}
+use Rattle.output.proofs.Laying.{writes-length}
+use Rattle.wording.proofs.Listings.{AtSetting, setting-start, setting-room, setting-more, setting-end}
+use Rattle.wording.proofs.cause_lines.Statement.{statement}
+use Rattle.wording.proofs.cause_lines.Tie as tie
+
+abbrev Inv-loop : tie.InvT-loop
+Inv-loop out₀ at names causes list n place₀ k₀ out place k = AtSetting (nameIn names) causes list n out₀ at k place out
+
+abbrev μ-loop : tie.MeasureT-loop
+μ-loop out₀ at names causes list n place₀ k₀ out place k = n - k
+
+loop-holds : tie.Need-loop-holds Inv-loop μ-loop
+loop-holds c = setting-start _ _ _ _ _ _
+
+mul-cause-line : tie.Need-mul-cause-line Inv-loop μ-loop
+mul-cause-line c = search needs
+
+shared-slice-read-cause-line : tie.Need-shared-slice-read-cause-line Inv-loop μ-loop
+shared-slice-read-cause-line c = search needs
+
+cast-cause-line : tie.Need-cast-cause-line Inv-loop μ-loop
+cast-cause-line c = omega (arith, c .shared-slice-known3 .given (c .before .before .before .loop .k))
+
+cause-line-requires : tie.Need-cause-line-requires Inv-loop μ-loop
+cause-line-requires c κs =
+    let t = c .before .before in
+    let p = t .before .before .before .before .before .pre in
+    (p .0, setting-room (t .before .loop .inv) (p .1) (t .loop-test .taken) (p .2))
+
+add-k : tie.Need-add-k Inv-loop μ-loop
+add-k c = search needs
+
+loop-less : tie.Need-loop-less Inv-loop μ-loop
+loop-less c = search needs
+
+loop-again : tie.Need-loop-again Inv-loop μ-loop
+loop-again c =
+    let t = c .before .before .before .before .before in
+    let p = t .before .before .before .before .before .pre in
+    setting-more (t .before .loop .inv) (p .1) (t .loop-test .taken) (c .before .before .cause-line .ensures)
+
+same-length : tie.Need-same-length Inv-loop μ-loop
+same-length c =
+    let p = c .before .before .before .before .before .pre in
+    writes-length (setting-end (c .before .loop .inv) (p .1) (c .loop-test .left))
+
+returns : tie.Need-returns Inv-loop μ-loop
+returns c =
+    let p = c .before .before .before .before .before .pre in
+    setting-end (c .before .loop .inv) (p .1) (c .loop-test .left)
+
+pub cause-lines-spec : {M : Type 1} → statement M
+cause-lines-spec =
+    tie.close
+    (tie.spec
+    Inv-loop
+    μ-loop
+    loop-holds
+    mul-cause-line
+    shared-slice-read-cause-line
+    cast-cause-line
+    cause-line-requires
+    add-k
+    loop-less
+    loop-again
+    same-length
+    returns)

@@ -1,0 +1,162 @@
+// The wording of a report: the lines of an answer and of a refusal.
+ghost use mathlib.Core.Path.{_≡_};
+ghost use mathlib.Core.List.{[], _∷_, _++_};
+ghost use Prim.Native.Nat.{_+_, _*_, _≤_, _<_};
+ghost use lib.ListN.{length, take};
+ghost use Rattle.program.specs.Cause.{atomsIn};
+ghost use Rattle.program.specs.Setting.{digitsOf};
+ghost use Rattle.output.specs.Decimal.{decimal};
+ghost use Rattle.wording.specs.Forms.{spaced};
+ghost use Rattle.wording.specs.Text.{withAbducible, abducibles, causeLine, causeLines};
+ghost use Rattle.wording.specs.Text.{verdictLine, roundsLine, answerText, refusalText};
+ghost use Rattle.output.specs.Writing.{Writes, Room, nameIn};
+use output::put;
+use output::put_decimal;
+use output::put_name;
+use output::put_text;
+use question::verdict::Verdict;
+
+// Writes the line of a verdict.
+fn verdict_line(out: &mut [u8], at: usize, v: Verdict) -> usize
+    requires { ⌜ Room (verdictLine v) at ⌝ }
+    ensures { λ r. ⌜ Writes (verdictLine v) (now (out .entry)) at r (now (out .exit)) ⌝ }
+{
+    match v {
+        Verdict::Unexplained => put_text(out, at, b"(verdict unexplained)\n"),
+        Verdict::Follows => put_text(out, at, b"(verdict follows)\n"),
+        Verdict::Denied => put_text(out, at, b"(verdict denied)\n"),
+        Verdict::Open => put_text(out, at, b"(verdict open)\n"),
+    }
+}
+
+// Writes the line of the rounds.
+fn rounds_line(out: &mut [u8], at: usize, n: u64) -> usize
+    requires { ⌜ Room (roundsLine n) at ⌝ }
+    ensures { λ r. ⌜ Writes (roundsLine n) (now (out .entry)) at r (now (out .exit)) ⌝ }
+{
+    let number = put_text(out, at, b"(rounds ");
+    let end = put_decimal(out, number, n);
+    put_text(out, end, b")\n")
+}
+
+// Writes a line with two numbers behind its opening: a bracket, a word and a space.
+fn pair_line(out: &mut [u8], at: usize, opening: &[u8], x: u64, y: u64) -> usize
+    requires { ⌜ Room (now opening ++ (decimal x ++ (32 ∷ (decimal y ++ (41 ∷ (10 ∷ [])))))) at ⌝ }
+    ensures { λ r. ⌜ Writes (now (opening .entry) ++ (decimal x ++ (32 ∷ (decimal y ++ (41 ∷ (10 ∷ [])))))) (now (out .entry)) at r
+        (now (out .exit)) ⌝ }
+{
+    let first = put_text(out, at, opening);
+    let space = put_decimal(out, first, x);
+    let second = put(out, space, b' ');
+    let end = put_decimal(out, second, y);
+    put_text(out, end, b")\n")
+}
+
+// Writes a form with an atom's name behind its opening: a space, a bracket, a word and a space.
+fn put_form(out: &mut [u8], at: usize, opening: &[u8], names: &[u8], atom: usize) -> usize
+    requires { ⌜ (16 * atom + 16 ≤ length (now names)) × Room (now opening ++ (nameIn (now names) atom ++ (41 ∷ []))) at ⌝ }
+    ensures { λ r. ⌜ Writes (now (opening .entry) ++ (nameIn (now (names .entry)) atom ++ (41 ∷ []))) (now (out .entry)) at r
+        (now (out .exit)) ⌝ }
+{
+    let name = put_text(out, at, opening);
+    let end = put_name(out, name, names, atom);
+    put(out, end, b')')
+}
+
+// Writes what a digit adds for an atom: 0 nothing, 1 a fact, 2 an assumption.
+fn put_abducible(out: &mut [u8], at: usize, names: &[u8], atom: usize, digit: u64) -> usize
+    requires { ⌜ (16 * atom + 16 ≤ length (now names)) × Room (spaced (withAbducible digit (nameIn (now names) atom) [])) at ⌝ }
+    ensures { λ r. ⌜ Writes (spaced (withAbducible digit (nameIn (now (names .entry)) atom) [])) (now (out .entry)) at r
+        (now (out .exit)) ⌝ }
+{
+    if digit == 0 {
+        return at;
+    }
+    if digit == 1 {
+        return put_form(out, at, b" (true ", names, atom);
+    }
+    put_form(out, at, b" (false ", names, atom)
+}
+
+// Writes what a setting adds, digit by digit, lowest first, a digit for each cause in atom order.
+fn put_abducibles(out: &mut [u8], at: usize, names: &[u8], causes: u64, setting: u64) -> usize
+    requires { ⌜ (1024 ≤ length (now names))
+        × Room (spaced (abducibles (nameIn (now names)) (atomsIn causes) (digitsOf causes setting))) at ⌝ }
+    ensures { λ r. ⌜ Writes (spaced (abducibles (nameIn (now (names .entry))) (atomsIn causes) (digitsOf causes setting)))
+        (now (out .entry)) at r (now (out .exit)) ⌝ }
+{
+    let mut place = at;
+    let mut rest = setting;
+    let mut atom: u32 = 0;
+    while atom < 64 {
+        if words::test(causes, atom) {
+            place = put_abducible(out, place, names, atom as usize, rest % 3);
+            rest = rest / 3;
+        }
+        atom += 1;
+    }
+    place
+}
+
+// Writes the line of a setting.
+fn cause_line(out: &mut [u8], at: usize, names: &[u8], causes: u64, setting: u64) -> usize
+    requires { ⌜ (1024 ≤ length (now names)) × Room (causeLine (nameIn (now names)) causes setting) at ⌝ }
+    ensures { λ r. ⌜ Writes (causeLine (nameIn (now (names .entry))) causes setting) (now (out .entry)) at r (now (out .exit)) ⌝ }
+{
+    let first = put_text(out, at, b"(cause");
+    let end = put_abducibles(out, first, names, causes, setting);
+    put_text(out, end, b")\n")
+}
+
+// Writes the lines of the first n settings of a list.
+fn cause_lines(
+    out: &mut [u8],
+    at: usize,
+    names: &[u8],
+    causes: u64,
+    list: &[u16],
+    n: usize,
+) -> usize
+    requires { ⌜ (1024 ≤ length (now names)) × (n ≤ length (now list))
+        × Room (causeLines (nameIn (now names)) causes (take n (now list))) at ⌝ }
+    ensures { λ r. ⌜ Writes (causeLines (nameIn (now (names .entry))) causes (take n (now (list .entry)))) (now (out .entry)) at r
+        (now (out .exit)) ⌝ }
+{
+    let mut place = at;
+    let mut k: usize = 0;
+    while k < n {
+        place = cause_line(out, place, names, causes, list[k] as u64);
+        k += 1;
+    }
+    place
+}
+
+// Writes the text of an answer from the output's first byte on: verdict, rounds, how many minimal explanations there
+// are, and the first n settings of the list. Answers the text's length.
+pub fn answer_text(
+    out: &mut [u8],
+    verdict: Verdict,
+    rounds: u64,
+    minimal: u64,
+    n: usize,
+    names: &[u8],
+    causes: u64,
+    list: &[u16],
+) -> usize
+    requires { ⌜ (1024 ≤ length (now names)) × (n ≤ length (now list))
+        × Room (answerText (nameIn (now names)) causes verdict rounds minimal (take n (now list))) 0 ⌝ }
+    ensures { λ r. ⌜ Writes (answerText (nameIn (now (names .entry))) causes verdict rounds minimal (take n (now (list .entry))))
+        (now (out .entry)) 0 r (now (out .exit)) ⌝ }
+{
+    let second = verdict_line(out, 0, verdict);
+    let third = rounds_line(out, second, rounds);
+    let fourth = pair_line(out, third, b"(minimal ", minimal, n as u64);
+    cause_lines(out, fourth, names, causes, list, n)
+}
+
+// Writes the text of a refusal from the output's first byte on. Answers the text's length.
+pub fn refusal_text(out: &mut [u8], number: u32, line: u32) -> usize
+    ensures { λ r. ⌜ Writes (refusalText number line) (now (out .entry)) 0 r (now (out .exit)) ⌝ }
+{
+    pair_line(out, 0, b"(refused ", number as u64, line as u64)
+}
