@@ -9,7 +9,8 @@ use lib.Seq.{slice, sets, take-take, take-at, take-append-le, take-append-add, d
 use borrow.Author.Tests.{ne-eqb}
 use Rattle.text.specs.Bytes.{sameBytes}
 use Rattle.table.specs.Filled.{filled, padded}
-use Rattle.table.proofs.Filled.{filled-length, filled-pushes, filled-take, padded-length, padded-append, padded-none, padded-split}
+use Rattle.table.proofs.Filled.{filled-length, filled-pushes, filled-take}
+use Rattle.table.proofs.Filled.{padded-length, padded-append, padded-none, padded-split}
 use Rattle.names.specs.Names.{rowsOf}
 use Rattle.names.specs.Held.{NoZero, Named, AllNamed, Holds}
 

@@ -1,16 +1,16 @@
 -- What is known of an accepted file: its case is sound, its names are names, and its question is answered. Assumes
 -- nothing.
-use mathlib.Core.Path.{_≡_, refl, sym, ap, _∙_}
+use mathlib.Core.Path.{_≡_, _∙_}
 use mathlib.Core.Bool.{true}
 use mathlib.Core.List.{List, [], _++_}
 use mathlib.Core.Logic.{⊎-elim}
-use Prim.Native.Nat.{ℕ, _*_, _≤_, _<_, min}
+use Prim.Native.Nat.{ℕ, _≤_, _<_, min}
 use native.Mathlib.Nat.{mul-le-mul}
 use native.Mathlib.Omega.{arith}
-use lib.ListN.{length, getD, take, drop, length-take, length-append}
+use lib.ListN.{length, take, drop, length-take, length-append}
 use lib.Seq.{take-all, take-length, take-at, length-take-le}
 use Rattle.words.proofs.Tests.{lt-or-le}
-use Rattle.table.specs.Filled.{filled, padded}
+use Rattle.table.specs.Filled.{padded}
 use Rattle.table.proofs.Filled.{filled-exact, padded-length}
 use Rattle.program.specs.Cause.{atomsIn}
 use Rattle.program.specs.Sound.{sound}
@@ -20,7 +20,7 @@ use Rattle.names.specs.Names.{rowsOf}
 use Rattle.names.specs.Held.{Named}
 use Rattle.names.proofs.LineNames.{no-zero}
 use Rattle.question.specs.declared.operation.Answer.{Answer}
-use Rattle.question.specs.Operation.{settingsIn, choicesIn, questionRefusal, unlessRefused, Asked}
+use Rattle.question.specs.Operation.{settingsIn, choicesIn, questionRefusal, Asked}
 use Rattle.question.proofs.Answers.{refusal-none}
 use Rattle.question.proofs.Bounds.{causes-fit, settings-few}
 use Rattle.question.proofs.Listed.{minimals-le}
@@ -47,17 +47,17 @@ front-take n l =
     (lt-or-le n (length l))
 
 module _ (l old : List ℕ) (n : ℕ) where
-  abbrev k : ℕ
-  k = min (length l) n
+  abbrev used : ℕ
+  used = min (length l) n
 
-  front-length : length (take k l) ≡ k
-  front-length = length-take-le k l (omega arith)
+  front-length : length (take used l) ≡ used
+  front-length = length-take-le used l (omega arith)
 
-  front-written : take k (take k l ++ drop k old) ≡ take n l
-  front-written = take-at (take k l) (drop k old) k front-length ∙ front-take n l
+  front-written : take used (take used l ++ drop used old) ≡ take n l
+  front-written = take-at (take used l) (drop used old) used front-length ∙ front-take n l
 
-  front-fits : length old ≡ n → k ≤ length (take k l ++ drop k old)
-  front-fits h = omega (arith, length-append (take k l) (drop k old), front-length)
+  front-fits : length old ≡ n → used ≤ length (take used l ++ drop used old)
+  front-fits h = omega (arith, length-append (take used l) (drop used old), front-length)
 
 -- An accepted file
 
@@ -98,7 +98,8 @@ module _ (f : List ℕ) (st : Said) (e : readFile f ≡ Outcome.case st) where
 
   pub said-causes : length (atomsIn (causesIn st)) ≤ 10
   said-causes =
-      rw (causes-counted (causesIn st) (causes-fit (caseSaid st) _ _ _ said-sound)) (sound-few (caseSaid st) _ _ _ said-sound)
+      rw (causes-counted (causesIn st) (causes-fit (caseSaid st) _ _ _ said-sound))
+      (sound-few (caseSaid st) _ _ _ said-sound)
 
   pub said-rounds : roundsOf st ≤ 3779136
   said-rounds =
@@ -107,15 +108,17 @@ module _ (f : List ℕ) (st : Said) (e : readFile f ≡ Outcome.case st) where
 
   pub said-minimals : length (minimalsOf st) ≤ 59049
   said-minimals =
-      let l = minimals-le (judgeIn st) (choicesIn (caseSaid st) (clausesOf st)) (settingsIn (caseSaid st) (clausesOf st)) in
+      let n = settingsIn (caseSaid st) (clausesOf st) in
+      let l = minimals-le (judgeIn st) (choicesIn (caseSaid st) (clausesOf st)) n in
       omega (arith, said-settings)
 
   pub said-length : length (saidText st) ≤ 264252
   unfolding saidText
   said-length =
-      let l : length (take listLength (minimalsOf st)) ≤ 1024 = omega (arith, length-take listLength (minimalsOf st)) in
+      let l = minimalsOf st in
+      let few = length-take listLength l in
       answer-length (nameOf st) (λ a. said-named a .short) (causesIn st) said-causes (verdictIn st) (roundsOf st)
-      (length (minimalsOf st)) (take listLength (minimalsOf st)) (omega (arith, said-rounds)) (omega (arith, said-minimals)) l
+      (length l) (take listLength l) (omega (arith, said-rounds)) (omega (arith, said-minimals)) (omega arith)
 
 -- What is answered for it, with a list of 1,024 slots and a work area of 59,049 bytes
 
@@ -148,9 +151,10 @@ module _ (f : List ℕ) (st : Said) (e : readFile f ≡ Outcome.case st) (list w
   asked-fits = rw (written-is, list-is) (front-fits (minimalsOf st) list 1024 full)
 
   pub asked-text : (names : List ℕ) (causes : ℕ) → names ≡ padded 1024 (rowsOf (st .names)) → causes ≡ causesIn st
-      → answerText (nameIn names) causes (r .verdict) (r .rounds) (r .minimal) (take (r .written) listAfter) ≡ saidText st
+      → answerText (nameIn names) causes (r .verdict) (r .rounds) (r .minimal) (take (r .written) listAfter)
+      ≡ saidText st
   unfolding saidText
   asked-text names causes n c =
       rw (n, c, verdict-is, rounds-are, minimal-is, written-is, list-is, front-written (minimalsOf st) list 1024)
-      (answer-alike (nameIn (padded 1024 (rowsOf (st .names)))) (nameOf st) (said-table f st e) (causesIn st) (verdictIn st)
-      (roundsOf st) (length (minimalsOf st)) (take listLength (minimalsOf st)))
+      (answer-alike (nameIn (padded 1024 (rowsOf (st .names)))) (nameOf st) (said-table f st e) (causesIn st)
+      (verdictIn st) (roundsOf st) (length (minimalsOf st)) (take listLength (minimalsOf st)))

@@ -9,7 +9,7 @@ use native.Mathlib.Omega.{arith}
 use lib.ListN.{length, take}
 use borrow.Author.Tests.{lt-ltb, le-ltb}
 use Rattle.words.proofs.Tests.{lt-or-le}
-use Rattle.table.specs.Filled.{filled, padded}
+use Rattle.table.specs.Filled.{padded}
 use Rattle.table.proofs.Filled.{filled-exact, padded-length}
 use Rattle.program.specs.Cause.{causesOf}
 use Rattle.program.specs.Sound.{sound}
@@ -21,7 +21,7 @@ use Rattle.reader.specs.declared.read.Answer.{Answer}
 use Rattle.reader.specs.Lent.{Lent}
 use Rattle.reader.specs.Saying.{Said}
 use Rattle.reader.specs.Reading.{Outcome, readFile, clauseWords}
-use Rattle.reader.specs.Tables.{caseSaid, constraintWords, formulaNodes, refusalOf, lineOfRefusal, earlyRefusal}
+use Rattle.reader.specs.Tables.{caseSaid, constraintWords, refusalOf, lineOfRefusal, earlyRefusal}
 use Rattle.reader.specs.Operation.{ReadAs}
 use Rattle.reader.proofs.Cases.{tables-full}
 use Rattle.reader.proofs.ReadingEarly.{Full, early-none, early-file-long}

@@ -3,11 +3,15 @@
 use mathlib.Core.Path.{_≡_, ap, _∙_}
 use mathlib.Core.Bool.{Bool}
 use mathlib.Core.List.{List, _++_}
+use mathlib.Core.Logic.{⊎-elim}
 use Prim.Native.Nat.{ℕ, _≤_, _<_}
 use native.Mathlib.Nat.{zero-add}
-use lib.ListN.{length, drop}
+use native.Mathlib.Omega.{arith}
+use lib.ListN.{length, drop, length-append}
 use borrow.Author.Tests.{le-leb, lt-leb}
+use Rattle.words.proofs.Tests.{lt-or-le}
 use Rattle.settle.specs.Operation.{unless}
+use Rattle.question.specs.Operation.{unlessRefused}
 use Rattle.output.specs.Writing.{Writes}
 use Rattle.output.proofs.Laying.{laid-all}
 use Rattle.report.specs.declared.operation.Answer.{Answer}
@@ -44,3 +48,15 @@ module _ (t out : List ℕ) {spare spareAfter : List ℕ} {n : ℕ} (w : Writes 
       let l : length t ≤ length out = rw length-is at h in
       let k = refusal-none t (length out) l in
       record { refusal-is = rw k; length-is = rw k length-is; out-is = rw k (v .out-is ∙ laid-all t out l) }
+
+-- what is answered as the length lies within the output
+pub shown-within : {t out u : List ℕ} {r : Answer} → Shown t out r u → r .length ≤ length u
+shown-within {t} {out} s =
+    ⊎-elim
+    (λ h. rw (s .length-is ∙ ap (λ (n : ℕ). unlessRefused n (length t) 0) (refusal-short t (length out) h)) (omega arith))
+    (λ h.
+    let k = refusal-none t (length out) h in
+    rw (s .length-is ∙ ap (λ (n : ℕ). unlessRefused n (length t) 0) k)
+    (rw (s .out-is ∙ ap (λ (n : ℕ). unlessRefused n (t ++ drop (length t) out) out) k, length-append t (drop (length t) out))
+    (omega arith)))
+    (lt-or-le (length out) (length t))

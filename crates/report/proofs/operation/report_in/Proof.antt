@@ -50,14 +50,16 @@ exact c =
       names-exact = s .names-full;
     }
 
-accepted : (c : tie.Else1) → let q = reading (c .before) in Accepted (entry q .args .file .now) (filled q) (q .read .result)
+accepted : (c : tie.Else1) → let q = reading (c .before) in
+    Accepted (entry q .args .file .now) (filled q) (q .read .result)
 accepted c =
     let q = reading (c .before) in
     accepted-report (entry q .args .file .now) (tables q) (filled q) (q .read .result) (exact q) (q .read .ensures)
     (c .if1 .left)
 
 held : (c : tie.Else1) → let r = reading (c .before) .read .result .found in
-    (1 ≤ r .atoms) × (r .atoms ≤ 64) × (r .clauses ≤ 256) × (3 * r .clauses ≤ length (filled (reading (c .before)) .clauses))
+    let u = filled (reading (c .before)) in
+    (1 ≤ r .atoms) × (r .atoms ≤ 64) × (r .clauses ≤ 256) × (3 * r .clauses ≤ length (u .clauses))
 held c =
     let q = reading (c .before) in
     accepted-held (entry q .args .file .now) (filled q) (q .read .result) (accepted c)

@@ -1,0 +1,2 @@
+-- Input: what reading the input gives.
+pub mod Input
