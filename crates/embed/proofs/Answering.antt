@@ -1,0 +1,13 @@
+-- Laws of words in front of lent ones. Assumes nothing.
+use mathlib.Core.Path.{_≡_, _∙_}
+use mathlib.Core.List.{List, [], _∷_, _++_}
+use Prim.Native.Nat.{ℕ, _≤_}
+use native.Mathlib.Nat.{zero-add}
+use lib.ListN.{length}
+use lib.Seq.{sets, sets-eq}
+use Rattle.embed.specs.Words.{answered}
+
+-- what storing the words from the first place on leaves
+pub stored-answered : (ws old : List ℕ) → length ws ≤ length old → sets old 0 ws ≡ answered ws old
+unfolding answered
+stored-answered ws old h = rw (zero-add (length ws)) at (sets-eq ws old 0 (rw (zero-add (length ws)) h))

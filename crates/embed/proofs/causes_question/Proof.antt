@@ -1,0 +1,60 @@
+-- `embed::causes_question` meets its contract: the words are too few, or what `ask` answers is put to words.
+-- Assumes nothing.
+use borrow.Author.Needs.{needs}
+use mathlib.Core.Path.{_≡_, refl, sym, _∙_}
+use native.Mathlib.Omega.{arith}
+use Rattle.embed.specs.Operation.{QuestionOut}
+use Rattle.embed.proofs.causes_question.Statement.{statement}
+use Rattle.embed.proofs.causes_question.Tie as tie
+
+returns : tie.Need-returns
+returns c = QuestionOut.short-record (omega arith) refl refl refl refl
+
+returns-2 : tie.Need-returns-2
+returns-2 c = QuestionOut.short (omega arith) refl refl refl refl
+
+case-in-requires : tie.Need-case-in-requires
+case-in-requires c κs = search needs
+
+ask-requires : tie.Need-ask-requires
+ask-requires c κs = search needs
+
+verdict-number-requires : tie.Need-verdict-number-requires
+verdict-number-requires c κs = search needs
+
+slice-aggregate-put-words : tie.Need-slice-aggregate-put-words
+slice-aggregate-put-words c = search needs
+
+put-words-requires : tie.Need-put-words-requires
+put-words-requires c κs = search needs
+
+same-length : tie.Need-same-length
+same-length c = search needs
+
+same-length-2 : tie.Need-same-length-2
+same-length-2 c = search needs
+
+same-length-3 : tie.Need-same-length-3
+same-length-3 c = search needs
+
+returns-3 : tie.Need-returns-3
+returns-3 c =
+    let told = rw (c .before .before .before .before .before .before .before .before .before .before .before .before .before .case-in .ensures) at (c .before .before .before .before .before .before .before .before .before .before .ask .ensures) in
+    let number = c .before .before .before .before .before .verdict-number .ensures in
+    QuestionOut.done (omega arith) (omega arith) _ told refl (rw number at (c .before .before .put-words .ensures))
+
+pub causes-question-spec : {M : Type 1} → statement M
+causes-question-spec =
+    tie.close
+    (tie.spec
+    returns
+    returns-2
+    case-in-requires
+    ask-requires
+    verdict-number-requires
+    slice-aggregate-put-words
+    put-words-requires
+    same-length
+    same-length-2
+    same-length-3
+    returns-3)

@@ -1,0 +1,25 @@
+-- Records and answers as words, for callers in C and Rust.
+--
+--   caseWords c       the six words of a case record
+--   caseIn w          the case record in the first six of the words w
+--   answered ws old   lent words old with ws in front, the rest kept
+use mathlib.Core.List.{List, [], _∷_, _++_}
+use Prim.Native.Nat.{ℕ}
+use lib.ListN.{length, drop, getD}
+use Rattle.program.specs.declared.case.Case.{Case}
+
+abbrev pub caseWords : Case → List ℕ
+caseWords c = c .atoms ∷ c .clauses ∷ c .constraints ∷ c .nodes ∷ c .plain ∷ c .negated ∷ []
+
+abbrev pub caseIn : List ℕ → Case
+caseIn w = record {
+  atoms = getD w 0 0;
+  clauses = getD w 1 0;
+  constraints = getD w 2 0;
+  nodes = getD w 3 0;
+  plain = getD w 4 0;
+  negated = getD w 5 0;
+}
+
+unfoldable pub answered : List ℕ → List ℕ → List ℕ
+answered ws old = ws ++ drop (length ws) old

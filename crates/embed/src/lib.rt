@@ -1,0 +1,159 @@
+// The operations for C and Rust to link: numbers and slices only. Each answers the number of the refusal, 0 for none, and
+// writes the rest of its answer to lent words. A lent record or answer with too few words is refused with 1, and nothing
+// is touched.
+ghost use mathlib.Core.Path.{_≡_};
+ghost use Prim.Native.Nat.{_≤_};
+ghost use lib.ListN.{length};
+ghost use Rattle.question.specs.Walk.{verdictNumber};
+ghost use Rattle.reader.specs.Lent.{lent};
+ghost use Rattle.embed.specs.Words.{caseWords, caseIn, answered};
+ghost use Rattle.embed.specs.Operation.{ReadOut, SettleOut, QuestionOut, ReportOut};
+use program::case::Case;
+use question::verdict::Verdict;
+
+// The case record in six words.
+fn case_in(fields: &[u64]) -> Case
+    requires { ⌜ 6 ≤ length (now fields) ⌝ }
+    ensures { λ r. ⌜ r ≡ caseIn (now (fields .entry)) ⌝ }
+{
+    Case {
+        atoms: fields[0] as usize,
+        clauses: fields[1] as usize,
+        constraints: fields[2] as usize,
+        nodes: fields[3] as usize,
+        plain: fields[4],
+        negated: fields[5],
+    }
+}
+
+// The number of a verdict.
+fn verdict_number(v: Verdict) -> u64
+    ensures { λ r. ⌜ r ≡ verdictNumber v ⌝ }
+{
+    match v {
+        Verdict::Unexplained => 0,
+        Verdict::Follows => 1,
+        Verdict::Denied => 2,
+        Verdict::Open => 3,
+    }
+}
+
+// Puts words in front of lent ones.
+fn put_words(answer: &mut [u64], words: &[u64])
+    requires { ⌜ length (now words) ≤ length (now answer) ⌝ }
+    ensures { λ _. ⌜ now (answer .exit) ≡ answered (now (words .entry)) (now (answer .entry)) ⌝ }
+{
+    let mut i: usize = 0;
+    while i < words.len() {
+        answer[i] = words[i];
+        i += 1;
+    }
+}
+
+// Reads a case file into four lent tables. Answer: the line of a refusal, then the six words of the case record.
+#[no_mangle]
+pub extern "C" fn causes_read(
+    file: &[u8],
+    clauses: &mut [u64],
+    constraints: &mut [u64],
+    formula: &mut [u8],
+    names: &mut [u8],
+    answer: &mut [u64],
+) -> u32
+    ensures { λ r. ⌜ ReadOut (now (file .entry))
+        (lent (now (clauses .entry)) (now (constraints .entry)) (now (formula .entry)) (now (names .entry)))
+        (lent (now (clauses .exit)) (now (constraints .exit)) (now (formula .exit)) (now (names .exit)))
+        (now (answer .entry)) r (now (answer .exit)) ⌝ }
+{
+    if answer.len() < 7 {
+        return 1;
+    }
+    let a = reader::read::read(file, clauses, constraints, formula, names);
+    let c = a.found;
+    let words = [
+        a.line as u64,
+        c.atoms as u64,
+        c.clauses as u64,
+        c.constraints as u64,
+        c.nodes as u64,
+        c.plain,
+        c.negated,
+    ];
+    put_words(answer, &words);
+    a.refusal
+}
+
+// Settles one setting of a case. Answer: the true atoms, the false atoms, the rounds.
+#[no_mangle]
+pub extern "C" fn causes_settle(
+    fields: &[u64],
+    clauses: &[u64],
+    constraints: &[u64],
+    formula: &[u8],
+    setting: u64,
+    answer: &mut [u64],
+) -> u32
+    ensures { λ r. ⌜ SettleOut (now (fields .entry)) (now (clauses .entry)) (now (constraints .entry)) (now (formula .entry))
+        setting (now (answer .entry)) r (now (answer .exit)) ⌝ }
+{
+    if fields.len() < 6 {
+        return 1;
+    }
+    if answer.len() < 3 {
+        return 1;
+    }
+    let c = case_in(fields);
+    let a = settle::operation::settle_one(c, clauses, constraints, formula, setting);
+    let words = [a.trues, a.falses, a.rounds as u64];
+    put_words(answer, &words);
+    a.refusal
+}
+
+// Answers the question of a case, with a lent list and work area. Answer: the verdict's number, the number of minimal
+// explanations, how many are listed, the rounds over all settings.
+#[no_mangle]
+pub extern "C" fn causes_question(
+    fields: &[u64],
+    clauses: &[u64],
+    constraints: &[u64],
+    formula: &[u8],
+    list: &mut [u16],
+    work: &mut [u8],
+    answer: &mut [u64],
+) -> u32
+    ensures { λ r. ⌜ QuestionOut (now (fields .entry)) (now (clauses .entry)) (now (constraints .entry)) (now (formula .entry))
+        (now (list .entry)) (now (work .entry)) (now (answer .entry)) r (now (list .exit)) (now (work .exit)) (now (answer .exit)) ⌝ }
+{
+    if fields.len() < 6 {
+        return 1;
+    }
+    if answer.len() < 4 {
+        return 1;
+    }
+    let c = case_in(fields);
+    let a = question::operation::ask(c, clauses, constraints, formula, list, work);
+    let verdict = a.verdict;
+    let words = [
+        verdict_number(verdict),
+        a.minimal,
+        a.written as u64,
+        a.rounds,
+    ];
+    put_words(answer, &words);
+    a.refusal
+}
+
+// Writes the report of a file's bytes to a lent output. Answer: the length of the text.
+#[no_mangle]
+pub extern "C" fn causes_report(file: &[u8], out: &mut [u8], answer: &mut [u64]) -> u32
+    ensures { λ r. ⌜ ReportOut (now (file .entry)) (now (out .entry)) (now (answer .entry)) r (now (out .exit))
+        (now (answer .exit)) ⌝ }
+{
+    if answer.len() < 1 {
+        return 1;
+    }
+    let a = report::operation::report(file, out);
+    let words = [a.length as u64];
+    put_words(answer, &words);
+    a.refusal
+}
