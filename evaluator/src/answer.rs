@@ -1,0 +1,55 @@
+//! The text that `causes` should write for a file.
+//!
+//! From: document 01, The program `causes`.
+
+use crate::file::{read, Refusal};
+use crate::question::{ask, digits, Findings, Verdict};
+
+/// The slots of the program's list.
+pub const LIST_SLOTS: usize = 1_024;
+
+/// What a file should get: the text, and for the summary of a run the refusal, or the verdict and the number m.
+pub struct Answer {
+    pub text: String,
+    pub result: Result<(Verdict, usize), Refusal>,
+}
+
+/// What the file `bytes` should get.
+pub fn answer(bytes: &[u8]) -> Answer {
+    match read(bytes) {
+        Err(refusal) => {
+            let text = format!("(refused {} {})\n", refusal.number, refusal.line);
+            Answer { text, result: Err(refusal) }
+        }
+        Ok(case) => {
+            let names = case.names.clone();
+            let findings = ask(case);
+            Answer { text: text(&findings, &names), result: Ok((findings.verdict, findings.minimal.len())) }
+        }
+    }
+}
+
+/// The lines that give `findings`, with atoms named by `names`.
+fn text(findings: &Findings, names: &[String]) -> String {
+    let verdict = match findings.verdict {
+        Verdict::Unexplained => "unexplained",
+        Verdict::Follows => "follows",
+        Verdict::Denied => "denied",
+        Verdict::Open => "open",
+    };
+    let found = findings.minimal.len();
+    let listed = found.min(LIST_SLOTS);
+    let mut text = format!("(verdict {verdict})\n(rounds {})\n(minimal {found} {listed})\n", findings.rounds);
+    for setting in &findings.minimal[..listed] {
+        text.push_str("(cause");
+        for (cause, digit) in findings.causes.iter().zip(digits(*setting, 3, findings.causes.len())) {
+            match digit {
+                1 => text.push_str(&format!(" (true {})", names[*cause])),
+                2 => text.push_str(&format!(" (false {})", names[*cause])),
+                _ => (),
+            }
+        }
+        text.push_str(")\n");
+    }
+    text
+}

@@ -1,0 +1,114 @@
+//! One test: a program's run on a stored or generated file, compared with what is expected.
+
+use crate::answer::{answer, Answer};
+use crate::compare::{differing, shown, unmeant};
+use crate::run::{bad_end, run, Fault, Input};
+use crate::sample::sample;
+use std::panic::catch_unwind;
+use std::path::{Path, PathBuf};
+use std::sync::atomic::{AtomicUsize, Ordering};
+use std::time::Duration;
+
+/// After so many runs past the time limit the program is not started again.
+const TIMEOUTS: usize = 3;
+
+/// Of so many generated files one is written to the program in two parts.
+const HALVED: u64 = 500;
+
+/// A test: a stored file, or the generated file of a seed.
+pub enum Test {
+    Stored(PathBuf),
+    Generated(u64),
+}
+
+/// What a test gave: the evaluator's answer, and the complaint if it failed.
+pub struct Outcome {
+    pub own: Option<Answer>,
+    pub complaint: Option<String>,
+}
+
+/// What all tests share: the program, its time limit, and the count of runs past that.
+pub struct Bench {
+    program: PathBuf,
+    limit: Duration,
+    timeouts: AtomicUsize,
+}
+
+impl Test {
+    /// The path or the seed.
+    pub fn name(&self) -> String {
+        match self {
+            Test::Stored(path) => path.display().to_string(),
+            Test::Generated(seed) => format!("seed {seed}"),
+        }
+    }
+}
+
+/// The evaluator's answer to `bytes`, or the complaint that a check within it failed.
+fn evaluated(bytes: &[u8]) -> Result<Answer, String> {
+    catch_unwind(|| answer(bytes)).map_err(|_| String::from("the evaluator contradicts itself"))
+}
+
+impl Bench {
+    /// The bench for `program`, each run of which may take `limit`.
+    pub fn new(program: &Path, limit: Duration) -> Bench {
+        Bench { program: program.to_path_buf(), limit, timeouts: AtomicUsize::new(0) }
+    }
+
+    /// The program's standard output on `input`, or the complaint on how it ended.
+    fn output(&self, input: Input) -> Result<Vec<u8>, String> {
+        if self.timeouts.load(Ordering::Relaxed) >= TIMEOUTS {
+            return Err(format!("not run after {TIMEOUTS} runs past the time limit"));
+        }
+        let ran = run(&self.program, input, self.limit).map_err(|fault| match fault {
+            Fault::NotStarted(why) => format!("cannot be started: {why}"),
+            Fault::TimedOut => {
+                self.timeouts.fetch_add(1, Ordering::Relaxed);
+                format!("no end within {} s", self.limit.as_secs())
+            }
+        })?;
+        if let Some(end) = bad_end(ran.status) {
+            return Err(format!("{end}, standard error {}", shown(&ran.stderr)));
+        }
+        if !ran.stderr.is_empty() {
+            return Err(format!("standard error {}", shown(&ran.stderr)));
+        }
+        Ok(ran.stdout)
+    }
+
+    /// Compares the program's output on `input` with each of `expected`, given with its source.
+    fn compared(&self, input: Input, expected: &[(&str, &[u8])]) -> Result<(), String> {
+        let got = self.output(input)?;
+        let complaint = expected.iter().find_map(|(source, bytes)| differing(source, bytes, &got));
+        complaint.map_or(Ok(()), Err)
+    }
+
+    /// Runs the stored file `path`, beside which its answer stands.
+    fn stored(&self, path: &Path) -> Result<Outcome, String> {
+        let bytes = std::fs::read(path).map_err(|e| format!("cannot be read: {e}"))?;
+        let kept = std::fs::read(path.with_extension("out")).map_err(|e| format!("no stored answer: {e}"))?;
+        let own = evaluated(&bytes)?;
+        let expected = [("stored answer", kept.as_slice()), ("evaluator", own.text.as_bytes())];
+        let complaint = self.compared(Input::Stored(path.to_path_buf()), &expected).err();
+        Ok(Outcome { own: Some(own), complaint })
+    }
+
+    /// Runs the generated file of `seed`.
+    fn generated(&self, seed: u64) -> Result<Outcome, String> {
+        let made = sample(seed);
+        let own = evaluated(&made.bytes)?;
+        let input = if seed % HALVED == 2 { Input::Halved(made.bytes) } else { Input::Piped(made.bytes) };
+        let expected = [("evaluator", own.text.as_bytes())];
+        let complaint = unmeant(made.due, &own).or_else(|| self.compared(input, &expected).err());
+        Ok(Outcome { own: Some(own), complaint })
+    }
+
+    /// Runs `test`.
+    pub fn outcome(&self, test: &Test) -> Outcome {
+        let outcome = match test {
+            Test::Stored(path) => self.stored(path),
+            Test::Generated(seed) => self.generated(*seed),
+        };
+        outcome.unwrap_or_else(|complaint| Outcome { own: None, complaint: Some(complaint) })
+    }
+}

@@ -1,0 +1,32 @@
+//! What a case file says, with atoms as numbers.
+//!
+//! From: document 01, Interpretations and the step; Causes, settings, explanations.
+
+use crate::formula::{Formula, Literal};
+
+/// The body of a clause: that of a fact, that of an assumption, or the literals of a rule.
+pub enum Body {
+    True,
+    False,
+    All(Vec<Literal<usize>>),
+}
+
+/// A clause: its head and its body.
+pub struct Clause {
+    pub head: usize,
+    pub body: Body,
+}
+
+/// A case: names by atom number, clauses, constraints and observations in file order, and the query.
+pub struct Case {
+    pub names: Vec<String>,
+    pub clauses: Vec<Clause>,
+    pub constraints: Vec<Vec<Literal<usize>>>,
+    pub observations: Vec<Literal<usize>>,
+    pub query: Formula<usize>,
+}
+
+/// The atoms among the first `atoms` that head none of `clauses`, in atom order.
+pub fn causes(atoms: usize, clauses: &[Clause]) -> Vec<usize> {
+    (0..atoms).filter(|a| clauses.iter().all(|c| c.head != *a)).collect()
+}

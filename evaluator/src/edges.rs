@@ -1,0 +1,172 @@
+//! Files at the limits of document 01, each limit from both sides.
+//!
+//! From: document 01, The file; What each operation refuses (Reading); Edges.
+
+use crate::families::{formula, literal};
+use crate::file::{ATOMS, CAUSES, CLAUSES, CONSTRAINTS, DEPTH, FILE_BYTES, LINE_BYTES, NAME_BYTES};
+use crate::layout::{file, joined};
+use crate::names::{drawn_name, names};
+use crate::random::Random;
+use crate::sample::{Due, Sample};
+
+/// The files at one limit: within it, or one past it.
+type Edge = fn(&mut Random, usize) -> Sample;
+
+/// Every limit.
+pub const EDGES: [Edge; 9] = [
+    atom_count,
+    name_length,
+    cause_count,
+    formula_depth,
+    line_length,
+    clause_count,
+    constraint_count,
+    file_length,
+    query_count,
+];
+
+/// The sample of `bytes` that is to be read, or with `past` = 1 to be refused with `number`.
+fn sample(bytes: Vec<u8>, past: usize, number: u32) -> Sample {
+    Sample { bytes, due: if past == 0 { Due::Read } else { Due::Refused(number) } }
+}
+
+/// 64 names, or 65.
+fn atom_count(random: &mut Random, past: usize) -> Sample {
+    let all = names(random, ATOMS + past);
+    let (heads, rest) = all.split_at(ATOMS - 3);
+    let mut lines: Vec<String> = Vec::new();
+    for (at, head) in heads.iter().enumerate() {
+        let before = &heads[at.saturating_sub(1)];
+        lines.push(match random.below(3) {
+            0 => format!("(true {head})"),
+            1 => format!("(false {head})"),
+            _ => format!("(if {head} {})", literal(random, before, 30)),
+        });
+    }
+    if past == 1 && random.chance(30) {
+        lines.push(format!("(query {})", heads[0]));
+        lines.push(format!("(query (or (and {} {}) (then {} {})))", rest[0], rest[1], rest[2], rest[3]));
+    } else {
+        lines.push(format!("(query {})", heads[1]));
+        lines.push(format!("(never {})", rest.join(" ")));
+    }
+    sample(file(random, &lines), past, 8)
+}
+
+/// A name of 16 bytes, or of 17, at a drawn place.
+fn name_length(random: &mut Random, past: usize) -> Sample {
+    let name = drawn_name(random, NAME_BYTES + past);
+    let mut lines = vec![String::from("(query (or low shut))")];
+    lines.push(match random.below(6) {
+        0 => format!("(true {name})"),
+        1 => format!("(if {name} shut)"),
+        2 => format!("(if low shut (not {name}))"),
+        3 => format!("(never shut {name})"),
+        4 => format!("(seen (not {name}))"),
+        _ => format!("(false {name})"),
+    });
+    if random.chance(30) {
+        lines = vec![format!("(query (then low {name}))")];
+    }
+    sample(file(random, &lines), past, 6)
+}
+
+/// 10 causes, or 11.
+fn cause_count(random: &mut Random, past: usize) -> Sample {
+    let all: Vec<String> = (0..CAUSES + past).map(|i| format!("c{i}")).collect();
+    let cut = random.between(1, all.len() - 1);
+    let mut lines = vec![format!("(if low {})", all[..cut].join(" "))];
+    lines.push(format!("(never {})", all[cut..].join(" ")));
+    lines.push(String::from("(seen low)"));
+    lines.push(format!("(query {})", formula(random, &all, 3)));
+    sample(file(random, &lines), past, 12)
+}
+
+/// A formula of depth 16, or 17.
+fn formula_depth(random: &mut Random, past: usize) -> Sample {
+    let mut deep = String::from("a");
+    let only_not = random.chance(30);
+    for _ in 1..DEPTH + past {
+        deep = match random.below(3) {
+            0 => format!("(and {deep} b)"),
+            1 if !only_not => format!("(then a {deep})"),
+            _ => format!("(not {deep})"),
+        };
+    }
+    let mut lines = vec![String::from("(true b)"), format!("(query {deep})")];
+    if past == 1 && random.chance(30) {
+        lines.insert(0, String::from("(query b)"));
+    }
+    sample(file(random, &lines), past, 7)
+}
+
+/// A line of 200 bytes, or of 201: a form, a comment, or spaces, the last line with or without its LF.
+fn line_length(random: &mut Random, past: usize) -> Sample {
+    let length = LINE_BYTES + past;
+    let long = match random.below(4) {
+        0 => format!("{:>length$}", "(query a)"),
+        1 => format!("{:<length$}", "(query a)"),
+        2 => format!(";{}", "x".repeat(length - 1)),
+        _ => " ".repeat(length),
+    };
+    let mut lines = vec![long.clone().into_bytes()];
+    if !long.contains("query") {
+        lines.insert(random.below(2), b"(query a)".to_vec());
+    }
+    let last_ends = random.chance(50);
+    sample(joined(&lines, last_ends), past, 3)
+}
+
+/// 256 clauses, or 257.
+fn clause_count(random: &mut Random, past: usize) -> Sample {
+    let all: Vec<String> = (0..12).map(|i| format!("n{i}")).collect();
+    let mut lines = vec![String::from("(query n0)")];
+    for at in 0..CLAUSES + past {
+        let head = &all[at % 9];
+        lines.push(match random.below(6) {
+            0 => format!("(true {head})"),
+            1 => format!("(false {head})"),
+            _ => format!("(if {head} {} {})", random.pick(&all), literal(random, &all[at % 12], 50)),
+        });
+    }
+    sample(file(random, &lines), past, 9)
+}
+
+/// 32 constraints, or 33.
+fn constraint_count(random: &mut Random, past: usize) -> Sample {
+    let all: Vec<String> = (0..4).map(|i| format!("n{i}")).collect();
+    let mut lines = vec![String::from("(if n0 n1 n2)"), String::from("(seen n0)"), formula(random, &all, 3)];
+    lines[2] = format!("(query {})", lines[2]);
+    for _ in 0..CONSTRAINTS + past {
+        let (first, second) = (random.pick(&all), random.pick(&all));
+        lines.push(format!("(never {first} {})", literal(random, second, 80)));
+    }
+    sample(file(random, &lines), past, 9)
+}
+
+/// A file of 32,768 bytes, or of 32,769, now and then of many more.
+fn file_length(random: &mut Random, past: usize) -> Sample {
+    let far = if past == 1 && random.chance(20) { 200_000 } else { 0 };
+    let mut bytes = b"(if low shut)\n(seen low)\n(query shut)\n".to_vec();
+    let length = FILE_BYTES + past + far;
+    while bytes.len() < length {
+        let line = random.between(1, LINE_BYTES).min(length - bytes.len());
+        bytes.extend(std::iter::repeat_n(if random.chance(50) { b' ' } else { b';' }, line));
+        if bytes.len() < length {
+            bytes.push(b'\n');
+        }
+    }
+    sample(bytes, past, 2)
+}
+
+/// One query; with `past` = 1 none or a second one.
+fn query_count(random: &mut Random, past: usize) -> Sample {
+    let mut lines = vec![String::from("(if low shut)"), String::from("(seen low)")];
+    if past == 0 || random.chance(50) {
+        lines.extend(vec![String::from("(query shut)"); 1 + past]);
+        random.shuffle(&mut lines);
+        return sample(file(random, &lines), past, 10);
+    }
+    let bytes = if random.chance(30) { Vec::new() } else { file(random, &lines) };
+    sample(bytes, past, 11)
+}

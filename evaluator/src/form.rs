@@ -1,0 +1,103 @@
+//! The form that a tree of words is.
+//!
+//! From: document 01, The file.
+
+use crate::formula::{Connective, Formula, Literal};
+use crate::tree::Tree;
+
+/// What a line says, with atoms by their names.
+pub enum Form {
+    Fact(String),
+    Assumption(String),
+    Rule(String, Vec<Literal<String>>),
+    Never(Vec<Literal<String>>),
+    Seen(Literal<String>),
+    Query(Formula<String>),
+}
+
+/// The form's word of `tree` and the trees behind it.
+fn parts(tree: &Tree) -> Option<(&str, &[Tree])> {
+    match tree {
+        Tree::List(trees) => match trees.as_slice() {
+            [Tree::Word(word), rest @ ..] => Some((word, rest)),
+            _ => None,
+        },
+        Tree::Word(_) => None,
+    }
+}
+
+/// The name that `tree` is, of any length.
+fn name(tree: &Tree) -> Option<String> {
+    match tree {
+        Tree::Word(word) if word.starts_with(|c: char| c.is_ascii_lowercase()) => Some(word.clone()),
+        _ => None,
+    }
+}
+
+/// The literal that `tree` is.
+fn literal(tree: &Tree) -> Option<Literal<String>> {
+    match parts(tree) {
+        None => Some(Literal { atom: name(tree)?, negated: false }),
+        Some(("not", [atom])) => Some(Literal { atom: name(atom)?, negated: true }),
+        Some(_) => None,
+    }
+}
+
+/// The literals that `trees` are, at least one.
+fn literals(trees: &[Tree]) -> Option<Vec<Literal<String>>> {
+    if trees.is_empty() {
+        return None;
+    }
+    trees.iter().map(literal).collect()
+}
+
+/// The formula that `tree` is, of any depth.
+fn formula(tree: &Tree) -> Option<Formula<String>> {
+    let connective = match parts(tree) {
+        None => return Some(Formula::Atom(name(tree)?)),
+        Some(("not", [f])) => return Some(Formula::Not(Box::new(formula(f)?))),
+        Some(("and", _)) => Connective::And,
+        Some(("or", _)) => Connective::Or,
+        Some(("then", _)) => Connective::Then,
+        Some(("same", _)) => Connective::Same,
+        Some(_) => return None,
+    };
+    match parts(tree) {
+        Some((_, [f, g])) => Some(Formula::two(connective, formula(f)?, formula(g)?)),
+        _ => None,
+    }
+}
+
+/// The form that `tree` is, with length of names and depth left aside.
+pub fn form(tree: &Tree) -> Option<Form> {
+    match parts(tree)? {
+        ("true", [n]) => Some(Form::Fact(name(n)?)),
+        ("false", [n]) => Some(Form::Assumption(name(n)?)),
+        ("if", [n, body @ ..]) => Some(Form::Rule(name(n)?, literals(body)?)),
+        ("never", body) => Some(Form::Never(literals(body)?)),
+        ("seen", [l]) => Some(Form::Seen(literal(l)?)),
+        ("query", [f]) => Some(Form::Query(formula(f)?)),
+        _ => None,
+    }
+}
+
+impl Form {
+    /// The names of this form in the order of the line, with repeats.
+    pub fn names(&self) -> Vec<&String> {
+        match self {
+            Form::Fact(n) | Form::Assumption(n) => vec![n],
+            Form::Rule(n, body) => std::iter::once(n).chain(body.iter().map(|l| &l.atom)).collect(),
+            Form::Never(body) => body.iter().map(|l| &l.atom).collect(),
+            Form::Seen(l) => vec![&l.atom],
+            Form::Query(f) => f.atoms(),
+        }
+    }
+
+    /// The depth of this form's formula, 0 if it has none.
+    pub fn depth(&self) -> usize {
+        match self {
+            Form::Query(f) => f.depth(),
+            _ => 0,
+        }
+    }
+}

@@ -1,0 +1,177 @@
+//! The question: which settings explain, which of these are minimal, and the verdict.
+//!
+//! From: document 01, Causes, settings, explanations; The question.
+//!
+//! | name | meaning |
+//! |---|---|
+//! | `Choice` | what a set gives a cause |
+//! | `Judged` | what is found of a set |
+//! | `Engine` | a case ready to have sets added |
+//! | `Verdict`, `Findings` | the question's answer |
+
+use crate::case::{causes, Body, Case};
+use crate::formula::{Formula, Literal, Value, FALSE, TRUE};
+use crate::model::{is_model, least_model, Program};
+
+/// The most atoms for which every interpretation is tried.
+const TRIED_ATOMS: usize = 5;
+
+/// The most causes for which every set is judged where nothing explains.
+const TRIED_CAUSES: usize = 5;
+
+/// What a set gives a cause.
+#[derive(Clone, Copy)]
+enum Choice {
+    Nothing,
+    Fact,
+    Assumption,
+    Both,
+}
+
+/// The choices by digit: the first three are those of a setting.
+const CHOICES: [Choice; 4] = [Choice::Nothing, Choice::Fact, Choice::Assumption, Choice::Both];
+
+/// What is found of a set: whether it explains, the query's value and the round count.
+struct Judged {
+    explains: bool,
+    query: Value,
+    rounds: u64,
+}
+
+/// The verdict on a query.
+#[derive(Clone, Copy, PartialEq, Debug)]
+pub enum Verdict {
+    Unexplained,
+    Follows,
+    Denied,
+    Open,
+}
+
+/// The question's answer: every minimal setting in rising order, the rounds over all settings, and the verdict.
+pub struct Findings {
+    pub causes: Vec<usize>,
+    pub minimal: Vec<usize>,
+    pub rounds: u64,
+    pub verdict: Verdict,
+}
+
+/// A case taken apart: its program, the equivalences of its defined atoms, its causes, and what is asked of it.
+struct Engine {
+    program: Program,
+    defined: Vec<Formula<usize>>,
+    causes: Vec<usize>,
+    constraints: Vec<Vec<Literal<usize>>>,
+    observations: Vec<Literal<usize>>,
+    query: Formula<usize>,
+}
+
+impl Choice {
+    /// The bodies that this choice gives its cause.
+    fn bodies(self) -> Vec<Body> {
+        match self {
+            Choice::Nothing => vec![],
+            Choice::Fact => vec![Body::True],
+            Choice::Assumption => vec![Body::False],
+            Choice::Both => vec![Body::True, Body::False],
+        }
+    }
+}
+
+/// The digits of `n` to base `base`, lowest first, `count` of them.
+pub fn digits(n: usize, base: usize, count: usize) -> Vec<usize> {
+    (0..count)
+        .scan(n, |rest, _| {
+            let digit = *rest % base;
+            *rest /= base;
+            Some(digit)
+        })
+        .collect()
+}
+
+impl Engine {
+    /// The engine of `case`.
+    fn new(case: Case) -> Engine {
+        let atoms = case.names.len();
+        let causes = causes(atoms, &case.clauses);
+        let program = Program::new(atoms, case.clauses);
+        let defined = (0..atoms).filter_map(|a| program.equivalence(a)).collect();
+        let Case { constraints, observations, query, .. } = case;
+        Engine { program, defined, causes, constraints, observations, query }
+    }
+
+    /// The least model and the round count of the program with the choices `set` added.
+    ///
+    /// Panics if the settled interpretation is no model of the weak completion, or not the one found by trial.
+    fn settle(&mut self, set: &[Choice]) -> (Vec<Value>, u64) {
+        for (cause, choice) in self.causes.iter().zip(set) {
+            self.program.bodies[*cause] = choice.bodies();
+        }
+        let (settled, rounds) = self.program.settle();
+        let added: Vec<_> = self.causes.iter().filter_map(|c| self.program.equivalence(*c)).collect();
+        let completion: Vec<_> = self.defined.iter().chain(&added).collect();
+        assert!(is_model(&completion, &settled), "the settled interpretation is no model");
+        if settled.len() <= TRIED_ATOMS {
+            assert!(settled == least_model(&completion, settled.len()), "the settled model is not the least");
+        }
+        (settled, rounds)
+    }
+
+    /// What is found of the set `set`.
+    fn judge(&mut self, set: &[Choice]) -> Judged {
+        let (model, rounds) = self.settle(set);
+        let observed = self.observations.iter().all(|l| l.value(&model) == TRUE);
+        let broken = self.constraints.iter().any(|body| body.iter().all(|l| l.value(&model) == TRUE));
+        Judged { explains: observed && !broken, query: self.query.value(&model), rounds }
+    }
+
+    /// What is found of every set made of the first `base` choices, by number.
+    fn judge_all(&mut self, base: usize) -> Vec<Judged> {
+        let count = self.causes.len();
+        let set = |n| digits(n, base, count).into_iter().map(|d| CHOICES[d]).collect::<Vec<_>>();
+        (0..base.pow(count as u32)).map(|n| self.judge(&set(n))).collect()
+    }
+}
+
+/// Whether some proper subset of the setting `s` of `count` causes explains, by trying each of them.
+fn has_explaining_subset(s: usize, count: usize, judged: &[Judged]) -> bool {
+    let parts: Vec<usize> = digits(s, 3, count)
+        .into_iter()
+        .enumerate()
+        .map(|(i, d)| d * 3usize.pow(i as u32))
+        .filter(|part| *part > 0)
+        .collect();
+    (1usize..1 << parts.len()).any(|dropped| {
+        let without: usize = parts.iter().enumerate().filter(|(i, _)| dropped >> i & 1 == 1).map(|(_, p)| p).sum();
+        judged[s - without].explains
+    })
+}
+
+/// The verdict where the query has the values `values` under the minimal explanations.
+fn verdict(values: &[Value]) -> Verdict {
+    if values.is_empty() {
+        Verdict::Unexplained
+    } else if values.iter().all(|v| *v == TRUE) {
+        Verdict::Follows
+    } else if values.iter().all(|v| *v == FALSE) {
+        Verdict::Denied
+    } else {
+        Verdict::Open
+    }
+}
+
+/// The answer to the question on `case`.
+///
+/// Panics if nothing is found to explain where a set with both a fact and an assumption does.
+pub fn ask(case: Case) -> Findings {
+    let mut engine = Engine::new(case);
+    let count = engine.causes.len();
+    let judged = engine.judge_all(3);
+    let minimal: Vec<usize> =
+        (0..judged.len()).filter(|s| judged[*s].explains && !has_explaining_subset(*s, count, &judged)).collect();
+    if minimal.is_empty() && count <= TRIED_CAUSES {
+        assert!(engine.judge_all(4).iter().all(|j| !j.explains), "a set explains and no setting does");
+    }
+    let values: Vec<Value> = minimal.iter().map(|s| judged[*s].query).collect();
+    let rounds = judged.iter().map(|j| j.rounds).sum();
+    Findings { causes: engine.causes, minimal, rounds, verdict: verdict(&values) }
+}

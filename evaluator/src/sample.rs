@@ -1,0 +1,78 @@
+//! The generated files, by seed.
+
+use crate::damage::damaged;
+use crate::edges::EDGES;
+use crate::families::{chain, diagnosis, program, wide};
+use crate::layout::file;
+use crate::lists::list_edge;
+use crate::random::Random;
+
+/// The number of generated files; their seeds are the numbers below it.
+pub const SAMPLES: u64 = 6_000;
+
+/// What the generator knows of a file's answer.
+#[derive(Clone, Copy)]
+pub enum Due {
+    Read,
+    Refused(u32),
+    Unknown,
+}
+
+/// A generated file.
+pub struct Sample {
+    pub bytes: Vec<u8>,
+    pub due: Due,
+}
+
+/// The file of `seed`: one of 20 stands at a limit, half are damaged, the others are whole.
+pub fn sample(seed: u64) -> Sample {
+    let mut random = Random::new(seed);
+    match seed % 20 {
+        0 => edge(&mut random, seed as usize / 20),
+        n if n % 2 == 1 => {
+            let causes = random.between(0, 4);
+            let mut bytes = whole(&mut random, causes);
+            for _ in 0..*random.pick(&[1, 1, 1, 2, 2, 3]) {
+                bytes = damaged(&mut random, bytes);
+            }
+            Sample { bytes, due: Due::Unknown }
+        }
+        _ => {
+            let causes = match random.below(200) {
+                0..=179 => random.between(0, 5),
+                180..=197 => random.between(6, 8),
+                _ => random.between(9, 10),
+            };
+            Sample { bytes: whole(&mut random, causes), due: Due::Read }
+        }
+    }
+}
+
+/// The file number `at` of those at a limit: the limits in turn, each from both sides in turn.
+fn edge(random: &mut Random, at: usize) -> Sample {
+    let (turn, kind) = (at / (EDGES.len() + 1), at % (EDGES.len() + 1));
+    match EDGES.get(kind) {
+        Some(limit) => limit(random, turn % 2),
+        None => list_edge(random, turn % 4),
+    }
+}
+
+/// A lawful file with at most `causes` causes, or one if that is 0 and the family needs one.
+fn whole(random: &mut Random, causes: usize) -> Vec<u8> {
+    let lines = match random.below(20) {
+        0 => wide(random, causes),
+        1 | 2 => {
+            let links = random.between(1, if causes > 6 { 12 } else { 53 });
+            chain(random, causes.max(1), links)
+        }
+        3..=11 if causes > 0 => {
+            let readings = random.between(1, 6);
+            diagnosis(random, causes, readings)
+        }
+        n => {
+            let defined = *random.pick(&[1, 1, 2, 3, 3, 4, 5, 6, 8, 12, 20]);
+            program(random, causes, defined, n % 2 == 0)
+        }
+    };
+    file(random, &lines)
+}
