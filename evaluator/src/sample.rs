@@ -48,13 +48,13 @@ pub fn sample(seed: u64) -> Sample {
     }
 }
 
-/// The file number `at` of those at a limit: the limits in turn, each from both sides in turn.
+/// The file number `at` of those at a limit: one of 25 at the list's length, for the others the limits in turn, each
+/// from both sides in turn.
 fn edge(random: &mut Random, at: usize) -> Sample {
-    let (turn, kind) = (at / (EDGES.len() + 1), at % (EDGES.len() + 1));
-    match EDGES.get(kind) {
-        Some(limit) => limit(random, turn % 2),
-        None => list_edge(random, turn % 4),
+    if at % 25 == 24 {
+        return list_edge(random, at / 25 % 4);
     }
+    EDGES[at % EDGES.len()](random, at / EDGES.len() % 2)
 }
 
 /// A lawful file with at most `causes` causes, or one if that is 0 and the family needs one.
