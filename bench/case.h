@@ -1,0 +1,60 @@
+// A case as masks: bit i of a word stands for atom i.
+#ifndef CASE_H
+#define CASE_H
+
+#include <stdint.h>
+
+enum { MOST_ATOMS = 64, MOST_CLAUSES = 256, MOST_CONSTRAINTS = 32, MOST_NODES = 128, MOST_CAUSES = 10, MOST_NAME = 16 };
+
+// The nodes of a formula in prefix order: an atom's number, or one of these.
+enum { NOT = 64, AND, OR, THEN, SAME };
+
+// An interpretation: the true atoms and the false atoms, never both.
+typedef struct {
+    uint64_t trues, falses;
+} Interpretation;
+
+// The plain and the negated atoms of a body, or of the observations.
+typedef struct {
+    uint64_t plain, negated;
+} Body;
+
+typedef enum { FACT, ASSUMPTION, RULE } Kind;
+
+typedef struct {
+    int head;
+    Kind kind;
+    Body body;
+} Clause;
+
+// Clauses and constraints stand in file order, names by atom number.
+typedef struct {
+    int atoms, clauses, constraints, nodes;
+    Clause clause[MOST_CLAUSES];
+    Body constraint[MOST_CONSTRAINTS];
+    Body observed;
+    uint8_t formula[MOST_NODES];
+    char name[MOST_ATOMS][MOST_NAME + 1];
+} Case;
+
+// The word with one atom.
+static inline uint64_t bit(int atom) { return (uint64_t)1 << atom; }
+
+// Whether a body is true in an interpretation: no plain atom that isn't true, no negated one that isn't false.
+static inline int body_true(Body b, Interpretation i) {
+    return ((b.plain & ~i.trues) | (b.negated & ~i.falses)) == 0;
+}
+
+// Whether a body is false in an interpretation: a plain atom is false or a negated one true.
+static inline int body_false(Body b, Interpretation i) {
+    return ((b.plain & i.falses) | (b.negated & i.trues)) != 0;
+}
+
+// Ends the program with status 2 and a word on standard error.
+void fail(const char *why);
+
+// Reads a case file that document 01 accepts from standard input. A file that it refuses is not told from a good one,
+// except where it would not fit.
+void read_case(Case *c);
+
+#endif
