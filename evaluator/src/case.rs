@@ -5,6 +5,7 @@
 use crate::formula::{Formula, Literal};
 
 /// The body of a clause: that of a fact, that of an assumption, or the literals of a rule.
+#[derive(Clone)]
 pub enum Body {
     True,
     False,
@@ -12,12 +13,14 @@ pub enum Body {
 }
 
 /// A clause: its head and its body.
+#[derive(Clone)]
 pub struct Clause {
     pub head: usize,
     pub body: Body,
 }
 
 /// A case: names by atom number, clauses, constraints and observations in file order, and the query.
+#[derive(Clone)]
 pub struct Case {
     pub names: Vec<String>,
     pub clauses: Vec<Clause>,

@@ -13,7 +13,7 @@ use std::time::Duration;
 const THREADS: usize = 2;
 
 /// The case files under `folder` and its folders, sorted by path.
-fn case_files(folder: &Path) -> std::io::Result<Vec<PathBuf>> {
+pub fn case_files(folder: &Path) -> std::io::Result<Vec<PathBuf>> {
     let mut found = Vec::new();
     for entry in std::fs::read_dir(folder)? {
         let path = entry?.path();

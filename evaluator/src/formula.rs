@@ -26,6 +26,7 @@ pub enum Connective {
 }
 
 /// A formula over atoms of type `A`.
+#[derive(Clone)]
 pub enum Formula<A> {
     True,
     False,

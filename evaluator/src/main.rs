@@ -1,36 +1,6 @@
-//! A second reader and evaluator of case files, and the driver that compares a program with it.
-//!
-//! | file | holds |
-//! |---|---|
-//! | formula, case | values and formulas; what a case file says |
-//! | tree, form, file | a line as a tree, the form of a tree, the checks of a file |
-//! | model, question, answer | least models, minimal explanations and the verdict, the text of the answer |
-//! | random, names, layout, families | drawn lawful files |
-//! | edges, lists, damage, sample | files at the limits, damaged files, the file of a seed |
-//! | run, compare, tally, bench, check | the driver |
+//! The program `evaluator`: answers a file, checks a program, or writes a generated file.
 
-mod answer;
-mod bench;
-mod case;
-mod check;
-mod compare;
-mod damage;
-mod edges;
-mod families;
-mod file;
-mod form;
-mod formula;
-mod layout;
-mod lists;
-mod model;
-mod names;
-mod question;
-mod random;
-mod run;
-mod sample;
-mod tally;
-mod tree;
-
+use evaluator::{answer, check, sample};
 use std::io::{Read, Write};
 use std::path::Path;
 use std::process::ExitCode;

@@ -47,19 +47,21 @@ pub enum Verdict {
     Open,
 }
 
-/// The question's answer: every minimal setting in rising order, the rounds over all settings, and the verdict.
+/// The question's answer: whether each setting explains, every minimal one in rising order, the rounds over all
+/// settings, and the verdict.
 pub struct Findings {
     pub causes: Vec<usize>,
+    pub explains: Vec<bool>,
     pub minimal: Vec<usize>,
     pub rounds: u64,
     pub verdict: Verdict,
 }
 
 /// A case taken apart: its program, the equivalences of its defined atoms, its causes, and what is asked of it.
-struct Engine {
+pub struct Engine {
     program: Program,
     defined: Vec<Formula<usize>>,
-    causes: Vec<usize>,
+    pub causes: Vec<usize>,
     constraints: Vec<Vec<Literal<usize>>>,
     observations: Vec<Literal<usize>>,
     query: Formula<usize>,
@@ -90,7 +92,7 @@ pub fn digits(n: usize, base: usize, count: usize) -> Vec<usize> {
 
 impl Engine {
     /// The engine of `case`.
-    fn new(case: Case) -> Engine {
+    pub fn new(case: Case) -> Engine {
         let atoms = case.names.len();
         let causes = causes(atoms, &case.clauses);
         let program = Program::new(atoms, case.clauses);
@@ -114,6 +116,12 @@ impl Engine {
             assert!(settled == least_model(&completion, settled.len()), "the settled model is not the least");
         }
         (settled, rounds)
+    }
+
+    /// The least model and the round count of the setting `s`.
+    pub fn settle_setting(&mut self, s: usize) -> (Vec<Value>, u64) {
+        let set: Vec<Choice> = digits(s, 3, self.causes.len()).into_iter().map(|d| CHOICES[d]).collect();
+        self.settle(&set)
     }
 
     /// What is found of the set `set`.
@@ -173,5 +181,6 @@ pub fn ask(case: Case) -> Findings {
     }
     let values: Vec<Value> = minimal.iter().map(|s| judged[*s].query).collect();
     let rounds = judged.iter().map(|j| j.rounds).sum();
-    Findings { causes: engine.causes, minimal, rounds, verdict: verdict(&values) }
+    let explains = judged.iter().map(|j| j.explains).collect();
+    Findings { causes: engine.causes, explains, minimal, rounds, verdict: verdict(&values) }
 }

@@ -1,0 +1,123 @@
+/* The cause finder's operations: read a case file, settle one setting, answer the question, write the report.
+ *
+ * From: document 01, "Case tables and sound cases" and "What each operation refuses". Link libembed.a (x86-64).
+ *
+ * Lent memory is a pointer and a number of elements. The pointer is aligned for its type and reaches that many
+ * elements; memory that a call writes overlaps no other memory lent to the same call. A pointer to no elements isn't
+ * followed and may be null. Nothing else is asked of a caller: any numbers and contents are answered or refused.
+ *
+ * Each function answers 0 or the number of a refusal. The answer's words are written on a refusal too: the line of a
+ * reading, and zeros. Words behind those of the answer keep their contents. A record or an answer with too few words is
+ * refused with CAUSES_SHORT before anything else, and nothing is touched.
+ *
+ * There is no global state: calls from several threads are independent if they share no memory that one of them writes.
+ */
+#ifndef CAUSES_H
+#define CAUSES_H
+
+#include <stddef.h>
+#include <stdint.h>
+
+#ifdef __cplusplus
+extern "C" {
+#endif
+
+/* Sizes of the lent tables, in elements. A longer table is lawful; what is past its size keeps its contents. */
+enum {
+    CAUSES_CLAUSE_WORDS = 768,    /* 3 a clause: head + 64 * kind, plain atoms, negated atoms */
+    CAUSES_CONSTRAINT_WORDS = 64, /* 2 a constraint: plain atoms, negated atoms */
+    CAUSES_FORMULA_BYTES = 128,   /* prefix order: 0 to 63 an atom, then CAUSES_NOT to CAUSES_SAME */
+    CAUSES_NAMES_BYTES = 1024,    /* 16 an atom, zero-filled at the end */
+    CAUSES_NAME_BYTES = 16
+};
+
+/* Kinds of clauses and nodes of formulas. */
+enum { CAUSES_FACT = 0, CAUSES_ASSUMPTION = 1, CAUSES_RULE = 2 };
+enum { CAUSES_NOT = 64, CAUSES_AND = 65, CAUSES_OR = 66, CAUSES_THEN = 67, CAUSES_SAME = 68 };
+
+/* Bounds: sizes that are enough for every file and every case. */
+enum {
+    CAUSES_FILE_BYTES = 32768,   /* the longest file that is read */
+    CAUSES_SETTINGS = 59049,     /* 3^10, the most settings: bytes of a work area */
+    CAUSES_MINIMAL = 15360,      /* the most minimal explanations: slots of a list */
+    CAUSES_REPORT_BYTES = 264252 /* the longest report */
+};
+
+/* Words of a case record: the counts of atoms, clauses, constraints and formula nodes, the plain and the negated
+ * observed atoms, bit i for atom i. */
+enum { CAUSES_RECORD_WORDS = 6 };
+
+/* Words of the answers. */
+enum {
+    CAUSES_READ_WORDS = 7,     /* line of the refusal or 0, then the case record */
+    CAUSES_SETTLE_WORDS = 3,   /* true atoms, false atoms, rounds */
+    CAUSES_QUESTION_WORDS = 4, /* verdict, number of minimal explanations, how many are listed, rounds */
+    CAUSES_REPORT_WORDS = 1    /* length of the text */
+};
+
+/* Verdicts. */
+enum { CAUSES_UNEXPLAINED = 0, CAUSES_FOLLOWS = 1, CAUSES_DENIED = 2, CAUSES_OPEN = 3 };
+
+/* Refusals. 3 to 10 have the line, counted from 1; the others have line 0. */
+enum {
+    CAUSES_SHORT = 1,         /* a lent table, record or answer is shorter than its size */
+    CAUSES_LONG_FILE = 2,     /* over 32,768 bytes */
+    CAUSES_LONG_LINE = 3,     /* over 200 bytes without LF */
+    CAUSES_BAD_BYTE = 4,      /* a byte other than a-z, 0-9, -, space, brackets, outside a comment */
+    CAUSES_NOT_A_FORM = 5,
+    CAUSES_LONG_NAME = 6,     /* over 16 bytes */
+    CAUSES_DEEP_FORMULA = 7,  /* deeper than 16 */
+    CAUSES_MANY_NAMES = 8,    /* a 65th name */
+    CAUSES_MANY_CLAUSES = 9,  /* a 257th clause or a 33rd constraint */
+    CAUSES_SECOND_QUERY = 10,
+    CAUSES_NO_QUERY = 11,
+    CAUSES_MANY_CAUSES = 12,  /* more than 10 */
+    CAUSES_UNSOUND = 13,      /* the record and the tables are no sound case */
+    CAUSES_NO_SETTING = 14,   /* the setting is 3^k or more, for k causes */
+    CAUSES_SHORT_WORK = 15,   /* the work area has fewer than 3^k bytes */
+    CAUSES_SHORT_OUTPUT = 19  /* the output is shorter than the report */
+};
+
+/* Reads a case file into the four tables. Refuses with 1 to 12. 1 and 2 leave the tables as they were, 3 to 12 zero
+ * them in their sizes. answer: CAUSES_READ_WORDS. */
+uint32_t causes_read(const uint8_t *file, size_t file_bytes,
+                     uint64_t *clauses, size_t clause_words,
+                     uint64_t *constraints, size_t constraint_words,
+                     uint8_t *formula, size_t formula_bytes,
+                     uint8_t *names, size_t names_bytes,
+                     uint64_t *answer, size_t answer_words);
+
+/* Settles one setting of a case: digit i of the setting to base three, lowest first, adds nothing, a fact or an
+ * assumption for cause i. Refuses with 1, 13, 14, in this order. Writes to the answer alone.
+ * answer: CAUSES_SETTLE_WORDS. */
+uint32_t causes_settle(const uint64_t *record, size_t record_words,
+                       const uint64_t *clauses, size_t clause_words,
+                       const uint64_t *constraints, size_t constraint_words,
+                       const uint8_t *formula, size_t formula_bytes,
+                       uint64_t setting,
+                       uint64_t *answer, size_t answer_words);
+
+/* Answers the question of a case. The minimal settings go to the list in rising order, as many as it has slots for, and
+ * byte s of the work area becomes 0 (setting s doesn't explain), 1 (explains, not minimal) or 2 (minimal); slots and
+ * bytes behind these keep their contents. Refuses with 1, 13, 15, in this order, and then touches neither.
+ * answer: CAUSES_QUESTION_WORDS. */
+uint32_t causes_question(const uint64_t *record, size_t record_words,
+                         const uint64_t *clauses, size_t clause_words,
+                         const uint64_t *constraints, size_t constraint_words,
+                         const uint8_t *formula, size_t formula_bytes,
+                         uint16_t *list, size_t list_slots,
+                         uint8_t *work, size_t work_bytes,
+                         uint64_t *answer, size_t answer_words);
+
+/* Writes the report of a case file, as the program `causes` does: the answer to its question, or
+ * `(refused number line)`. Bytes behind the text keep their contents. Refuses with 19 an output shorter than the text
+ * and then doesn't touch it. Takes about 80 KB of stack. answer: CAUSES_REPORT_WORDS. */
+uint32_t causes_report(const uint8_t *file, size_t file_bytes,
+                       uint8_t *out, size_t out_bytes,
+                       uint64_t *answer, size_t answer_words);
+
+#ifdef __cplusplus
+}
+#endif
+
+#endif

@@ -1,0 +1,105 @@
+//! The operations over references and slices, whose lengths go with them.
+//!
+//! Rust's references are aligned, reach their elements and do not overlap where one of them is written; this is all
+//! that the exported functions ask.
+
+use crate::answers::{Answer, Refusal, Settled, Verdict};
+use crate::raw;
+use crate::tables::{Case, Tables};
+
+/// Nothing for the number 0, else the refusal in `line`.
+fn accepted(number: u32, line: u64) -> Result<(), Refusal> {
+    match number {
+        0 => Ok(()),
+        _ => Err(Refusal { number, line }),
+    }
+}
+
+/// Reads a case file into `tables`. Refuses with 2 to 12; 2 leaves the tables as they were, the others zero them.
+pub fn read(file: &[u8], tables: &mut Tables) -> Result<Case, Refusal> {
+    let mut words = [0; 7];
+    // SAFETY: each pointer comes with the length of its slice, and the tables are borrowed for writing.
+    let number = unsafe {
+        raw::causes_read(
+            file.as_ptr(),
+            file.len(),
+            tables.clauses.as_mut_ptr(),
+            tables.clauses.len(),
+            tables.constraints.as_mut_ptr(),
+            tables.constraints.len(),
+            tables.formula.as_mut_ptr(),
+            tables.formula.len(),
+            tables.names.as_mut_ptr(),
+            tables.names.len(),
+            words.as_mut_ptr(),
+            words.len(),
+        )
+    };
+    let [line, record @ ..] = words;
+    accepted(number, line).map(|()| Case::from_words(record))
+}
+
+/// Settles the setting `setting` of a case. Refuses with 13 and 14.
+pub fn settle(case: &Case, tables: &Tables, setting: u64) -> Result<Settled, Refusal> {
+    let record = case.words();
+    let mut words = [0; 3];
+    // SAFETY: each pointer comes with the length of its slice; the answer's words are local.
+    let number = unsafe {
+        raw::causes_settle(
+            record.as_ptr(),
+            record.len(),
+            tables.clauses.as_ptr(),
+            tables.clauses.len(),
+            tables.constraints.as_ptr(),
+            tables.constraints.len(),
+            tables.formula.as_ptr(),
+            tables.formula.len(),
+            setting,
+            words.as_mut_ptr(),
+            words.len(),
+        )
+    };
+    let [trues, falses, rounds] = words;
+    accepted(number, 0).map(|()| Settled { trues, falses, rounds })
+}
+
+/// Answers the question of a case. `list` gets the minimal settings in rising order, as many as it has slots for;
+/// byte s of `work` becomes 0 (setting s doesn't explain), 1 (explains, not minimal) or 2 (minimal). Refuses with 13
+/// and 15, and then touches neither.
+pub fn question(case: &Case, tables: &Tables, list: &mut [u16], work: &mut [u8]) -> Result<Answer, Refusal> {
+    let record = case.words();
+    let mut words = [0; 4];
+    // SAFETY: each pointer comes with the length of its slice; list and work area are borrowed for writing.
+    let number = unsafe {
+        raw::causes_question(
+            record.as_ptr(),
+            record.len(),
+            tables.clauses.as_ptr(),
+            tables.clauses.len(),
+            tables.constraints.as_ptr(),
+            tables.constraints.len(),
+            tables.formula.as_ptr(),
+            tables.formula.len(),
+            list.as_mut_ptr(),
+            list.len(),
+            work.as_mut_ptr(),
+            work.len(),
+            words.as_mut_ptr(),
+            words.len(),
+        )
+    };
+    let [verdict, minimal, listed, rounds] = words;
+    let verdict = Verdict::from_number(verdict).expect("a verdict of document 01");
+    accepted(number, 0).map(|()| Answer { verdict, minimal, listed: listed as usize, rounds })
+}
+
+/// Writes the report of a case file to the front of `out` and answers its length. Refuses with 19 an output that is
+/// shorter, and then doesn't touch it. Takes about 80 KB of stack.
+pub fn report(file: &[u8], out: &mut [u8]) -> Result<usize, Refusal> {
+    let mut words = [0; 1];
+    // SAFETY: each pointer comes with the length of its slice, and the output is borrowed for writing.
+    let number = unsafe {
+        raw::causes_report(file.as_ptr(), file.len(), out.as_mut_ptr(), out.len(), words.as_mut_ptr(), words.len())
+    };
+    accepted(number, 0).map(|()| words[0] as usize)
+}

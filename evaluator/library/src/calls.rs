@@ -1,0 +1,197 @@
+//! One call of an exported function with lent memory, compared whole with what is due.
+//!
+//! | name | meaning |
+//! |---|---|
+//! | `Sizes` | how many entries are lent to reading |
+//! | `ReadDue`, `QuestionDue` | the number, the answer's words and what is written; empty where nothing is touched |
+//! | `read`, `settle`, `question` | make the call and give the complaints |
+
+use crate::held::{Held, CLAUSE_WORDS, CONSTRAINT_WORDS, FORMULA_BYTES, NAMES_BYTES};
+use crate::lent::{Entry, Lent};
+use crate::tests::Complaints;
+use causes::raw;
+
+/// The entries lent to reading.
+#[derive(Clone, Copy, Debug)]
+pub struct Sizes {
+    pub clauses: usize,
+    pub constraints: usize,
+    pub formula: usize,
+    pub names: usize,
+    pub answer: usize,
+}
+
+impl Sizes {
+    /// The sizes of document 01, and seven words for the answer.
+    pub const FULL: Sizes = Sizes {
+        clauses: CLAUSE_WORDS,
+        constraints: CONSTRAINT_WORDS,
+        formula: FORMULA_BYTES,
+        names: NAMES_BYTES,
+        answer: 7,
+    };
+}
+
+/// What a reading should answer and leave in the tables, none where they are not touched.
+#[derive(Clone)]
+pub struct ReadDue {
+    pub refusal: u32,
+    pub answer: Vec<u64>,
+    pub tables: Option<Held>,
+}
+
+/// What a question should answer and write to the list and the work area.
+#[derive(Clone)]
+pub struct QuestionDue {
+    pub refusal: u32,
+    pub answer: Vec<u64>,
+    pub list: Vec<u16>,
+    pub work: Vec<u8>,
+}
+
+/// The complaint that the number of a refusal is not the one due.
+pub fn other_number(due: u32, got: u32) -> Option<String> {
+    (due != got).then(|| format!("expected refusal {due}, got {got}"))
+}
+
+/// Memory of `length` entries; with `nowhere` no entries are lent at the null pointer.
+fn lent<T: Entry>(length: usize, nowhere: bool) -> Lent<T> {
+    if nowhere && length == 0 {
+        Lent::nowhere()
+    } else {
+        Lent::blank(length)
+    }
+}
+
+/// Reads `file` into memory of the given sizes; with `nowhere` empty memory has the null pointer.
+pub fn read(file: &[u8], sizes: Sizes, nowhere: bool, due: &ReadDue) -> Complaints {
+    let file = if nowhere && file.is_empty() { Lent::nowhere() } else { Lent::holding(file) };
+    let mut clauses = lent(sizes.clauses, nowhere);
+    let mut constraints = lent(sizes.constraints, nowhere);
+    let mut formula = lent(sizes.formula, nowhere);
+    let mut names = lent(sizes.names, nowhere);
+    let mut answer = lent(sizes.answer, nowhere);
+    // SAFETY: each pointer comes with the number of entries that its own memory has.
+    let got = unsafe {
+        raw::causes_read(
+            file.at(),
+            file.len(),
+            clauses.at_mut(),
+            clauses.len(),
+            constraints.at_mut(),
+            constraints.len(),
+            formula.at_mut(),
+            formula.len(),
+            names.at_mut(),
+            names.len(),
+            answer.at_mut(),
+            answer.len(),
+        )
+    };
+    let tables = due.tables.as_ref();
+    let complaints = [
+        other_number(due.refusal, got),
+        file.complaint("file", &[]),
+        clauses.complaint("clauses", tables.map_or(&[], |t| &t.clauses)),
+        constraints.complaint("constraints", tables.map_or(&[], |t| &t.constraints)),
+        formula.complaint("formula", tables.map_or(&[], |t| &t.formula)),
+        names.complaint("names", tables.map_or(&[], |t| &t.names)),
+        answer.complaint("answer", &due.answer),
+    ];
+    complaints.into_iter().flatten().collect()
+}
+
+/// The record and the tables lent to settling or the question.
+struct LentCase {
+    record: Lent<u64>,
+    clauses: Lent<u64>,
+    constraints: Lent<u64>,
+    formula: Lent<u8>,
+}
+
+impl LentCase {
+    fn of(held: &Held) -> LentCase {
+        LentCase {
+            record: Lent::holding(&held.record),
+            clauses: Lent::holding(&held.clauses),
+            constraints: Lent::holding(&held.constraints),
+            formula: Lent::holding(&held.formula),
+        }
+    }
+
+    /// The complaints that some of it was touched.
+    fn touched(&self) -> [Option<String>; 4] {
+        [
+            self.record.complaint("record", &[]),
+            self.clauses.complaint("clauses", &[]),
+            self.constraints.complaint("constraints", &[]),
+            self.formula.complaint("formula", &[]),
+        ]
+    }
+}
+
+/// Settles `setting` of `held` with an answer of `words` words; `due` are the number and the words written.
+pub fn settle(held: &Held, setting: u64, words: usize, due: (u32, &[u64])) -> Complaints {
+    let case = LentCase::of(held);
+    let mut answer = Lent::blank(words);
+    // SAFETY: each pointer comes with the number of entries that its own memory has.
+    let got = unsafe {
+        raw::causes_settle(
+            case.record.at(),
+            case.record.len(),
+            case.clauses.at(),
+            case.clauses.len(),
+            case.constraints.at(),
+            case.constraints.len(),
+            case.formula.at(),
+            case.formula.len(),
+            setting,
+            answer.at_mut(),
+            answer.len(),
+        )
+    };
+    let own = [other_number(due.0, got), answer.complaint("answer", due.1)];
+    own.into_iter().chain(case.touched()).flatten().collect()
+}
+
+/// The entries lent to the question: slots of the list, bytes of the work area, words of the answer.
+#[derive(Clone, Copy, Debug)]
+pub struct Room {
+    pub list: usize,
+    pub work: usize,
+    pub answer: usize,
+}
+
+/// Asks the question of `held` with memory of the given sizes; a list without slots has the null pointer.
+pub fn question(held: &Held, room: Room, due: &QuestionDue) -> Complaints {
+    let case = LentCase::of(held);
+    let mut list = lent(room.list, true);
+    let mut work = lent(room.work, false);
+    let mut answer = lent(room.answer, false);
+    // SAFETY: each pointer comes with the number of entries that its own memory has.
+    let got = unsafe {
+        raw::causes_question(
+            case.record.at(),
+            case.record.len(),
+            case.clauses.at(),
+            case.clauses.len(),
+            case.constraints.at(),
+            case.constraints.len(),
+            case.formula.at(),
+            case.formula.len(),
+            list.at_mut(),
+            list.len(),
+            work.at_mut(),
+            work.len(),
+            answer.at_mut(),
+            answer.len(),
+        )
+    };
+    let own = [
+        other_number(due.refusal, got),
+        list.complaint("list", &due.list),
+        work.complaint("work area", &due.work),
+        answer.complaint("answer", &due.answer),
+    ];
+    own.into_iter().chain(case.touched()).flatten().collect()
+}

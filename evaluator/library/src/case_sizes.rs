@@ -1,0 +1,147 @@
+//! Families of settling and the question with records, tables and answers of every size, and the order of refusals.
+
+use crate::calls::{question, settle, Room};
+use crate::drawn::{drawn, rich, strewn, word};
+use crate::due::{unanswered, unasked, Asking, Settling};
+use crate::held::{Held, CLAUSE_WORDS, CONSTRAINT_WORDS, FORMULA_BYTES};
+use crate::tests::Tests;
+use evaluator::random::Random;
+
+/// Drawn cases for each size.
+const CASES: u64 = 2;
+
+/// Memory with which the question of a rich case is asked.
+const ROOM: Room = Room { list: 5, work: 81, answer: 4 };
+
+/// A sound case with what is due: its settling, and its asking.
+struct Known {
+    held: Held,
+    settled: [u64; 3],
+    asking: Asking,
+}
+
+impl Known {
+    /// The case of `seed`, with garbage past its counts.
+    fn of(seed: u64) -> Known {
+        let mut random = Random::new(seed);
+        let shape = rich(&mut random);
+        let case = drawn(&mut random, shape);
+        let held = strewn(&mut random, &Held::of(&case));
+        Known { held, settled: Settling::of(case.clone()).words(0), asking: Asking::of(case) }
+    }
+
+    /// Calls both operations on `held`, which holds this case in memory of other lengths.
+    fn accepted(&self, tests: &mut Tests, what: &str, held: &Held) {
+        tests.call(|| format!("settle, {what}"), settle(held, 0, 3, (0, &self.settled)));
+        tests.call(|| format!("question, {what}"), question(held, ROOM, &self.asking.due(ROOM.list)));
+    }
+}
+
+/// Calls both operations on `held`, to be refused with `number`.
+pub fn refused(tests: &mut Tests, what: &str, held: &Held, number: u32) {
+    tests.call(|| format!("settle, {what}"), settle(held, 0, 3, (number, &[0; 3])));
+    tests.call(|| format!("question, {what}"), question(held, ROOM, &unasked(number)));
+}
+
+/// `held` with a table of `length` elements, cut or with garbage behind.
+fn resized(held: &Held, table: &str, length: usize) -> Held {
+    let mut random = Random::new(length as u64);
+    let mut other = held.clone();
+    match table {
+        "clauses" => other.clauses.resize_with(length, || word(&mut random)),
+        "constraints" => other.constraints.resize_with(length, || word(&mut random)),
+        "formula" => other.formula.resize_with(length, || word(&mut random) as u8),
+        _ => other.record.resize_with(length, || word(&mut random)),
+    }
+    other
+}
+
+/// Each table at every length below its size, and at some above.
+fn tables(tests: &mut Tests) {
+    for (table, size) in [("clauses", CLAUSE_WORDS), ("constraints", CONSTRAINT_WORDS), ("formula", FORMULA_BYTES)] {
+        tests.family(&format!("settle and question: {table} shorter than their size"));
+        for known in (0..CASES).map(Known::of) {
+            for length in 0..size {
+                refused(tests, &length.to_string(), &resized(&known.held, table, length), 1);
+            }
+        }
+        tests.family(&format!("settle and question: {table} longer than their size"));
+        for known in (0..CASES).map(Known::of) {
+            for length in size..size + 30 {
+                known.accepted(tests, &length.to_string(), &resized(&known.held, table, length));
+            }
+        }
+    }
+}
+
+/// Records of 0 to 5 words, where nothing is touched, and of more than 6.
+fn records(tests: &mut Tests) {
+    tests.family("settle and question: records of 0 to 5 words");
+    for known in (0..20).map(Known::of) {
+        for length in 0..6 {
+            for held in [known.held.clone(), resized(&known.held, "clauses", 767)] {
+                let short = resized(&held, "record", length);
+                tests.call(|| format!("settle, {length}"), settle(&short, 0, 3, (1, &[])));
+                tests.call(|| format!("question, {length}"), question(&short, ROOM, &unanswered()));
+            }
+        }
+    }
+    tests.family("settle and question: records of more than 6 words");
+    for known in (0..20).map(Known::of) {
+        for length in 7..20 {
+            known.accepted(tests, &length.to_string(), &resized(&known.held, "record", length));
+        }
+    }
+}
+
+/// Answers with too few words, where nothing is touched, and with more than enough.
+fn answers(tests: &mut Tests) {
+    tests.family("settle and question: answers with too few words");
+    for known in (0..20).map(Known::of) {
+        for held in [known.held.clone(), resized(&known.held, "formula", 127)] {
+            for words in 0..3 {
+                tests.call(|| format!("settle, {words}"), settle(&held, 0, words, (1, &[])));
+                tests.call(|| format!("settle, {words}"), settle(&held, u64::MAX, words, (1, &[])));
+            }
+            for answer in 0..4 {
+                let room = Room { answer, ..ROOM };
+                tests.call(|| format!("question, {room:?}"), question(&held, room, &unanswered()));
+            }
+        }
+    }
+    tests.family("settle and question: answers with words to spare");
+    for known in (0..20).map(Known::of) {
+        for answer in 4..20 {
+            let room = Room { answer, ..ROOM };
+            tests.call(|| format!("settle, {answer}"), settle(&known.held, 0, answer, (0, &known.settled)));
+            tests.call(|| format!("question, {room:?}"), question(&known.held, room, &known.asking.due(ROOM.list)));
+        }
+    }
+}
+
+/// 1 comes before 13, 13 before 14 and 15, 1 before 14 and 15.
+fn order(tests: &mut Tests) {
+    tests.family("settle and question: the order of refusals");
+    let room = Room { work: 0, ..ROOM };
+    for known in (0..40).map(Known::of) {
+        let mut unsound = known.held.clone();
+        unsound.record[3] = 0;
+        for (held, number) in [(&unsound, 1), (&known.held, 1)] {
+            let short = resized(held, "constraints", 63);
+            tests.call(|| String::from("settle, 1"), settle(&short, u64::MAX, 3, (number, &[0; 3])));
+            tests.call(|| String::from("question, 1"), question(&short, room, &unasked(number)));
+        }
+        tests.call(|| String::from("settle, 13"), settle(&unsound, u64::MAX, 3, (13, &[0; 3])));
+        tests.call(|| String::from("question, 13"), question(&unsound, room, &unasked(13)));
+        tests.call(|| String::from("settle, 14"), settle(&known.held, u64::MAX, 3, (14, &[0; 3])));
+        tests.call(|| String::from("question, 15"), question(&known.held, room, &unasked(15)));
+    }
+}
+
+/// All families by size.
+pub fn run(tests: &mut Tests) {
+    tables(tests);
+    records(tests);
+    answers(tests);
+    order(tests);
+}

@@ -1,0 +1,74 @@
+//! The files that the calls read: stored ones, generated ones, and small ones made here.
+
+use evaluator::check::case_files;
+use evaluator::sample::sample;
+use std::path::Path;
+
+/// A file with its name and, for a stored one, its report.
+pub struct Input {
+    pub name: String,
+    pub bytes: Vec<u8>,
+    pub report: Option<Vec<u8>>,
+}
+
+/// The case files of the folder `folder` of `tests`.
+pub fn stored(tests: &Path, folder: &str) -> Vec<Input> {
+    let paths = case_files(&tests.join(folder)).unwrap_or_default();
+    let input = |path: &std::path::PathBuf| Input {
+        name: path.display().to_string(),
+        bytes: std::fs::read(path).expect("a readable case file"),
+        report: Some(std::fs::read(path.with_extension("out")).expect("a stored report")),
+    };
+    paths.iter().map(input).collect()
+}
+
+/// The generated files of the seeds below `end` that `keep` keeps.
+pub fn generated(end: u64, keep: impl Fn(u64) -> bool) -> Vec<Input> {
+    let input = |seed| Input { name: format!("seed {seed}"), bytes: sample(seed).bytes, report: None };
+    (0..end).filter(|seed| keep(*seed)).map(input).collect()
+}
+
+/// M4 of document 01.
+pub const M4: &[u8] =
+    b"(if low shut (not ab1))\n(if low stopped (not ab2))\n(false ab1)\n(false ab2)\n(seen low)\n(query shut)\n";
+
+/// A file with something in each table.
+pub const EACH: &[u8] = b"; each table
+(if low shut (not ab))
+(false ab)
+(true fan)
+(never stopped (not fan))
+(seen (not low))
+(seen fan)
+(query (then (or shut low) (same stopped (not ab))))
+";
+
+/// `count` lines `line`, the number of each put for `#`.
+fn lines(count: usize, line: &str) -> String {
+    (0..count).map(|i| line.replace('#', &i.to_string()) + "\n").collect()
+}
+
+/// For each refusal of reading but 1 a file with its line, worked out by hand.
+pub fn refused_files() -> Vec<(u32, u64, Vec<u8>)> {
+    let query = String::from("(query low)\n");
+    let deep = |n: usize| format!("(query {}low{})\n", "(not ".repeat(n - 1), ")".repeat(n - 1));
+    let rows: Vec<(u32, u64, String)> = vec![
+        (2, 0, query.clone() + &lines(3_275, ";23456789") + ";234567"),
+        (3, 2, query.clone() + ";" + &"x".repeat(200) + "\n(\n"),
+        (3, 1, " ".repeat(201)),
+        (4, 3, query.clone() + "\n(seen Low)\n(\n"),
+        (4, 1, query.trim_end().to_string() + " ;"),
+        (5, 2, query.clone() + "(seen (not (not low)))\n"),
+        (5, 1, String::from("(query\nlow)")),
+        (6, 2, query.clone() + "(true a1234567890123456)\n"),
+        (7, 2, String::from("(true low)\n") + &deep(17)),
+        (8, 65, lines(65, "(true n#)") + "(query n0)\n"),
+        (9, 257, lines(300, "(true low)") + &query),
+        (9, 34, query.clone() + &lines(40, "(never low)")),
+        (10, 2, query.clone() + &query),
+        (11, 0, String::new()),
+        (11, 0, lines(20, "(seen c#)")),
+        (12, 0, query.clone() + &lines(10, "(seen c#)")),
+    ];
+    rows.into_iter().map(|(number, line, text)| (number, line, text.into_bytes())).collect()
+}

@@ -1,0 +1,111 @@
+//! What is due by the evaluator: of a reading, of a settled setting, of a question.
+
+use crate::calls::{QuestionDue, ReadDue};
+use crate::held::Held;
+use evaluator::case::Case;
+use evaluator::file;
+use evaluator::formula::{Value, FALSE, TRUE};
+use evaluator::question::{ask, Engine, Findings, Verdict};
+
+/// What reading `bytes` is due, with tables and an answer of at least their sizes.
+pub fn read(bytes: &[u8]) -> ReadDue {
+    match file::read(bytes) {
+        Ok(case) => {
+            let held = Held::of(&case);
+            let answer = [vec![0], held.record.clone()].concat();
+            ReadDue { refusal: 0, answer, tables: Some(held) }
+        }
+        Err(refusal) => refused(refusal.number, refusal.line as u64),
+    }
+}
+
+/// What a reading refused with `number` at `line` is due: 1 and 2 touch no table.
+pub fn refused(number: u32, line: u64) -> ReadDue {
+    let tables = (number > 2).then(Held::zeros);
+    ReadDue { refusal: number, answer: vec![line, 0, 0, 0, 0, 0, 0], tables }
+}
+
+/// The atoms with the value `value` in `model`, bit i for atom i.
+fn mask(model: &[Value], value: Value) -> u64 {
+    model.iter().enumerate().filter(|(_, v)| **v == value).fold(0, |m, (i, _)| m | 1 << i)
+}
+
+/// A case with what is due for its settings.
+pub struct Settling {
+    engine: Engine,
+}
+
+impl Settling {
+    /// The settling of `case`.
+    pub fn of(case: Case) -> Settling {
+        Settling { engine: Engine::new(case) }
+    }
+
+    /// The number of settings.
+    pub fn settings(&self) -> u64 {
+        3u64.pow(self.engine.causes.len() as u32)
+    }
+
+    /// The true atoms, the false atoms and the rounds of the setting `s`.
+    pub fn words(&mut self, s: u64) -> [u64; 3] {
+        let (model, rounds) = self.engine.settle_setting(s as usize);
+        [mask(&model, TRUE), mask(&model, FALSE), rounds]
+    }
+}
+
+/// A case's answer to the question, before the list's length is known.
+pub struct Asking {
+    findings: Findings,
+}
+
+impl Asking {
+    /// The asking of `case`.
+    pub fn of(case: Case) -> Asking {
+        Asking { findings: ask(case) }
+    }
+
+    /// The number of settings.
+    pub fn settings(&self) -> usize {
+        self.findings.explains.len()
+    }
+
+    /// The number of minimal explanations.
+    pub fn minimal(&self) -> usize {
+        self.findings.minimal.len()
+    }
+
+    /// Document 01's number of the verdict.
+    pub fn verdict(&self) -> u64 {
+        match self.findings.verdict {
+            Verdict::Unexplained => 0,
+            Verdict::Follows => 1,
+            Verdict::Denied => 2,
+            Verdict::Open => 3,
+        }
+    }
+
+    /// What is due with a list of `slots` slots and a work area that is long enough.
+    pub fn due(&self, slots: usize) -> QuestionDue {
+        let listed = slots.min(self.minimal());
+        let mut work: Vec<u8> = self.findings.explains.iter().map(|e| u8::from(*e)).collect();
+        for s in &self.findings.minimal {
+            work[*s] = 2;
+        }
+        QuestionDue {
+            refusal: 0,
+            answer: vec![self.verdict(), self.minimal() as u64, listed as u64, self.findings.rounds],
+            list: self.findings.minimal[..listed].iter().map(|s| *s as u16).collect(),
+            work,
+        }
+    }
+}
+
+/// What a question refused with `number` is due: zeros as the answer.
+pub fn unasked(number: u32) -> QuestionDue {
+    QuestionDue { refusal: number, answer: vec![0; 4], list: Vec::new(), work: Vec::new() }
+}
+
+/// What a question with too short a record or answer is due: nothing is touched.
+pub fn unanswered() -> QuestionDue {
+    QuestionDue { refusal: 1, answer: Vec::new(), list: Vec::new(), work: Vec::new() }
+}

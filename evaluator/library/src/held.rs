@@ -1,0 +1,150 @@
+//! The record and the tables that hold a case, made from the evaluator's case and read back.
+//!
+//! From: document 01, Case tables and sound cases.
+//!
+//! | name | meaning |
+//! |---|---|
+//! | `Held` | a case record and tables, of any sizes and contents |
+//! | `Held::of` | the record and the full tables that hold a case, zeros in unused entries |
+//! | `Held::case` | the case that a sound record and its tables hold |
+
+use evaluator::case::{Body, Case, Clause};
+use evaluator::formula::{Connective, Formula, Literal};
+
+pub const CLAUSE_WORDS: usize = 768;
+pub const CONSTRAINT_WORDS: usize = 64;
+pub const FORMULA_BYTES: usize = 128;
+pub const NAMES_BYTES: usize = 1_024;
+
+/// A case record of six words, and the tables.
+#[derive(Clone)]
+pub struct Held {
+    pub record: Vec<u64>,
+    pub clauses: Vec<u64>,
+    pub constraints: Vec<u64>,
+    pub formula: Vec<u8>,
+    pub names: Vec<u8>,
+}
+
+/// The plain and the negated atoms of `literals`, bit i for atom i.
+fn masks(literals: &[Literal<usize>]) -> [u64; 2] {
+    let mask = |negated| literals.iter().filter(|l| l.negated == negated).fold(0, |m, l| m | 1u64 << l.atom);
+    [mask(false), mask(true)]
+}
+
+/// The literals of a plain and a negated word.
+fn literals(plain: u64, negated: u64) -> Vec<Literal<usize>> {
+    let of = |word: u64, negated| {
+        (0..64).filter(move |atom| word >> atom & 1 == 1).map(move |atom| Literal { atom, negated })
+    };
+    of(plain, false).chain(of(negated, true)).collect()
+}
+
+/// The three words of a clause.
+fn clause_words(clause: &Clause) -> [u64; 3] {
+    let (kind, [plain, negated]) = match &clause.body {
+        Body::True => (0, [0, 0]),
+        Body::False => (1, [0, 0]),
+        Body::All(body) => (2, masks(body)),
+    };
+    [clause.head as u64 + 64 * kind, plain, negated]
+}
+
+/// The nodes of a formula in prefix order.
+pub fn nodes(formula: &Formula<usize>) -> Vec<u8> {
+    match formula {
+        Formula::True | Formula::False => panic!("no node stands for a constant"),
+        Formula::Atom(a) => vec![*a as u8],
+        Formula::Not(f) => [vec![64], nodes(f)].concat(),
+        Formula::Two(c, f, g) => {
+            let node = match c {
+                Connective::And => 65,
+                Connective::Or => 66,
+                Connective::Then => 67,
+                Connective::Same => 68,
+            };
+            [vec![node], nodes(f), nodes(g)].concat()
+        }
+    }
+}
+
+/// The formula at the front of `nodes`, and the nodes behind it.
+fn formula(nodes: &[u8]) -> (Formula<usize>, &[u8]) {
+    let (first, rest) = nodes.split_first().expect("a node");
+    let connective = match first {
+        0..=63 => return (Formula::Atom(*first as usize), rest),
+        64 => {
+            let (f, rest) = formula(rest);
+            return (Formula::Not(Box::new(f)), rest);
+        }
+        65 => Connective::And,
+        66 => Connective::Or,
+        67 => Connective::Then,
+        68 => Connective::Same,
+        _ => panic!("no node"),
+    };
+    let (f, rest) = formula(rest);
+    let (g, rest) = formula(rest);
+    (Formula::two(connective, f, g), rest)
+}
+
+/// `entries`, with zeros behind them up to `size`.
+fn padded<T: Copy + Default>(mut entries: Vec<T>, size: usize) -> Vec<T> {
+    entries.resize(size.max(entries.len()), T::default());
+    entries
+}
+
+/// The row of a name.
+fn row(name: &String) -> [u8; 16] {
+    let mut row = [0; 16];
+    row[..name.len()].copy_from_slice(name.as_bytes());
+    row
+}
+
+impl Held {
+    /// The record and the tables that hold `case`.
+    pub fn of(case: &Case) -> Held {
+        let query = nodes(&case.query);
+        let [plain, negated] = masks(&case.observations);
+        let counts = [case.names.len(), case.clauses.len(), case.constraints.len(), query.len()];
+        let record = counts.iter().map(|n| *n as u64).chain([plain, negated]).collect();
+        Held {
+            record,
+            clauses: padded(case.clauses.iter().flat_map(clause_words).collect(), CLAUSE_WORDS),
+            constraints: padded(case.constraints.iter().flat_map(|c| masks(c)).collect(), CONSTRAINT_WORDS),
+            formula: padded(query, FORMULA_BYTES),
+            names: padded(case.names.iter().flat_map(row).collect(), NAMES_BYTES),
+        }
+    }
+
+    /// Tables of zeros in their sizes, and a record of zeros.
+    pub fn zeros() -> Held {
+        Held {
+            record: vec![0; 6],
+            clauses: vec![0; CLAUSE_WORDS],
+            constraints: vec![0; CONSTRAINT_WORDS],
+            formula: vec![0; FORMULA_BYTES],
+            names: vec![0; NAMES_BYTES],
+        }
+    }
+
+    /// The case that this record and these tables hold, which are sound; names are made up.
+    pub fn case(&self) -> Case {
+        let count = |at: usize| self.record[at] as usize;
+        let clause = |w: &[u64]| {
+            let body = match w[0] / 64 {
+                0 => Body::True,
+                1 => Body::False,
+                _ => Body::All(literals(w[1], w[2])),
+            };
+            Clause { head: (w[0] % 64) as usize, body }
+        };
+        Case {
+            names: (0..count(0)).map(|i| format!("n{i}")).collect(),
+            clauses: self.clauses.chunks_exact(3).take(count(1)).map(clause).collect(),
+            constraints: self.constraints.chunks_exact(2).take(count(2)).map(|w| literals(w[0], w[1])).collect(),
+            observations: literals(self.record[4], self.record[5]),
+            query: formula(&self.formula[..count(3)]).0,
+        }
+    }
+}

@@ -1,0 +1,88 @@
+//! Families of reading: stored and generated files, files cut and changed byte by byte, each refusal.
+
+use crate::calls::{read, Sizes};
+use crate::corpus::{generated, refused_files, stored, Input, EACH, M4};
+use crate::due;
+use crate::tests::Tests;
+use std::path::Path;
+
+/// The seeds of the generated files that are read.
+const SEEDS: u64 = 6_000;
+
+/// Reads each of `inputs`, in memory of its sizes and in longer memory.
+fn files(tests: &mut Tests, name: &str, inputs: &[Input]) {
+    tests.family(name);
+    for (at, input) in inputs.iter().enumerate() {
+        let due = due::read(&input.bytes);
+        tests.call(|| input.name.clone(), read(&input.bytes, Sizes::FULL, true, &due));
+        let longer = Sizes {
+            clauses: Sizes::FULL.clauses + at % 4,
+            constraints: Sizes::FULL.constraints + at % 3,
+            formula: Sizes::FULL.formula + at % 5,
+            names: Sizes::FULL.names + at % 17,
+            answer: Sizes::FULL.answer + at % 2,
+        };
+        tests.call(|| format!("{} {longer:?}", input.name), read(&input.bytes, longer, false, &due));
+    }
+}
+
+/// The stored files by folder, then the generated ones: at limits, damaged, whole.
+fn corpus(tests: &mut Tests, folder: &Path) {
+    for part in ["marked", "vectors", "sources", "edges", "load"] {
+        files(tests, &format!("read: stored files, {part}"), &stored(folder, part));
+    }
+    files(tests, "read: generated files at limits", &generated(SEEDS, |s| s % 20 == 0));
+    files(tests, "read: generated files, damaged", &generated(SEEDS, |s| s % 2 == 1));
+    files(tests, "read: generated files, whole", &generated(SEEDS, |s| s % 2 == 0 && s % 20 != 0));
+}
+
+/// Files cut after each byte, and files with each byte replaced by each other one.
+fn bytewise(tests: &mut Tests) {
+    tests.family("read: files cut after each byte");
+    for file in [M4, EACH] {
+        for end in 0..=file.len() {
+            let due = due::read(&file[..end]);
+            tests.call(|| format!("the first {end} bytes"), read(&file[..end], Sizes::FULL, true, &due));
+        }
+    }
+    for (name, file) in [("M4", M4), ("a file with something in each table", EACH)] {
+        tests.family(&format!("read: {name}, each byte replaced by each"));
+        for at in 0..file.len() {
+            for byte in 0..=u8::MAX {
+                let mut other = file.to_vec();
+                other[at] = byte;
+                let due = due::read(&other);
+                tests.call(|| format!("byte {at} is {byte}"), read(&other, Sizes::FULL, false, &due));
+            }
+        }
+    }
+}
+
+/// For each refusal from 2 on the files that get it, with the line worked out by hand.
+fn refusals(tests: &mut Tests) {
+    for number in 2..=12 {
+        tests.family(&format!("read: refusal {number}"));
+        for (_, line, file) in refused_files().into_iter().filter(|(n, _, _)| *n == number) {
+            let due = due::refused(number, line);
+            let own = due::read(&file);
+            tests.require("the evaluator's refusal", own.refusal == number && own.answer == due.answer);
+            for more in 0..20 {
+                let sizes = Sizes {
+                    clauses: Sizes::FULL.clauses + more,
+                    constraints: Sizes::FULL.constraints + more,
+                    formula: Sizes::FULL.formula + more,
+                    names: Sizes::FULL.names + more,
+                    answer: Sizes::FULL.answer + more,
+                };
+                tests.call(|| format!("line {line}, {sizes:?}"), read(&file, sizes, false, &due));
+            }
+        }
+    }
+}
+
+/// All families of reading files.
+pub fn run(tests: &mut Tests, folder: &Path) {
+    corpus(tests, folder);
+    bytewise(tests);
+    refusals(tests);
+}

@@ -1,0 +1,99 @@
+//! Families of settling: every setting of stored, generated and drawn cases, and settings past the last.
+
+use crate::calls::settle;
+use crate::corpus::{generated, stored, Input};
+use crate::drawn::{drawn, small, strewn};
+use crate::due::Settling;
+use crate::held::Held;
+use crate::tests::Tests;
+use evaluator::case::Case;
+use evaluator::file;
+use evaluator::random::Random;
+use std::path::Path;
+
+/// The seeds of the generated files whose settings are settled.
+const SEEDS: u64 = 1_200;
+
+/// The drawn cases.
+const DRAWN: u64 = 1_000;
+
+/// The most settings that are all tried.
+const TRIED: u64 = 243;
+
+/// All settings below `end`, or for many the first, the last and some between.
+fn some_settings(end: u64) -> Vec<u64> {
+    if end <= TRIED {
+        return (0..end).collect();
+    }
+    let mut random = Random::new(end);
+    [0, 1, 2, end - 2, end - 1].into_iter().chain((0..40).map(|_| random.below(end as usize) as u64)).collect()
+}
+
+/// Settles settings of `case`, with garbage past the counts of `held`, which holds it.
+fn case_settings(tests: &mut Tests, name: &str, case: Case, held: &Held) {
+    let mut settling = Settling::of(case);
+    for s in some_settings(settling.settings()) {
+        let due = settling.words(s);
+        tests.call(|| format!("{name}, setting {s}"), settle(held, s, 3 + s as usize % 3, (0, &due)));
+    }
+}
+
+/// Settles settings of the cases of `inputs`.
+fn files(tests: &mut Tests, name: &str, inputs: &[Input]) {
+    tests.family(name);
+    for (at, input) in inputs.iter().enumerate() {
+        if let Ok(case) = file::read(&input.bytes) {
+            let mut random = Random::new(at as u64);
+            let held = strewn(&mut random, &Held::of(&case));
+            case_settings(tests, &input.name, case, &held);
+        }
+    }
+}
+
+/// Every setting of drawn cases, with zeros and with garbage past the counts.
+fn drawn_cases(tests: &mut Tests) {
+    for (name, garbage) in [("zeros", false), ("garbage", true)] {
+        tests.family(&format!("settle: drawn cases, {name} past the counts"));
+        for seed in 0..DRAWN {
+            let mut random = Random::new(seed);
+            let shape = small(&mut random);
+            let case = drawn(&mut random, shape);
+            let clean = Held::of(&case);
+            let held = if garbage { strewn(&mut random, &clean) } else { clean };
+            case_settings(tests, &format!("seed {seed}"), case, &held);
+        }
+    }
+}
+
+/// Settings from 3^k on, for each number of causes.
+fn past_the_last(tests: &mut Tests) {
+    for causes in 0..=10 {
+        tests.family(&format!("settle: settings of {causes} causes and past the last"));
+        for seed in 0..12 {
+            let mut random = Random::new(seed);
+            let shape = crate::drawn::Shape { atoms: causes + 3, causes, clauses: 5, constraints: 1, nodes: 3 };
+            let case = drawn(&mut random, shape);
+            let held = Held::of(&case);
+            let mut settling = Settling::of(case);
+            let end = settling.settings();
+            tests.require("3^k settings", end == 3u64.pow(causes as u32));
+            let due = settling.words(end - 1);
+            tests.call(|| format!("seed {seed}, the last"), settle(&held, end - 1, 3, (0, &due)));
+            let past =
+                [end, end + 1, 2 * end, 3 * end, 59_049, 65_536, 1 << 32, (1 << 32) + end - 1, 1 << 63, u64::MAX];
+            for s in past.into_iter().filter(|s| *s >= end) {
+                tests.call(|| format!("seed {seed}, setting {s}"), settle(&held, s, 4, (14, &[0; 3])));
+            }
+        }
+    }
+}
+
+/// All families of settling.
+pub fn run(tests: &mut Tests, folder: &Path) {
+    for part in ["marked", "vectors", "sources", "edges", "load"] {
+        files(tests, &format!("settle: stored files, {part}"), &stored(folder, part));
+    }
+    files(tests, "settle: generated files", &generated(SEEDS, |s| s % 2 == 0));
+    drawn_cases(tests);
+    past_the_last(tests);
+}

@@ -1,0 +1,126 @@
+//! Which phrases of "A case is sound if .." a record and its tables break.
+//!
+//! From: document 01, Case tables and sound cases. Counts, and bits held against them, are compared as they stand; a
+//! formula is read from its end, with the depths of what was read on a stack.
+
+use crate::held::{Held, CLAUSE_WORDS, CONSTRAINT_WORDS, FORMULA_BYTES};
+
+/// A phrase that can be broken.
+#[derive(Clone, Copy, Debug, PartialEq)]
+pub enum Phrase {
+    FullSizes,
+    AtomCount,
+    ClauseCount,
+    ConstraintCount,
+    NodeCount,
+    CauseCount,
+    HeadNamesAtom,
+    ClauseBitNamesAtom,
+    ConstraintBitNamesAtom,
+    ObservedBitNamesAtom,
+    FormulaAtomNamesAtom,
+    FactWordsZero,
+    AssumptionWordsZero,
+    RuleHasBit,
+    ConstraintHasBit,
+    KindListed,
+    NodeListed,
+    OneFormula,
+    Depth,
+}
+
+/// Whether every bit of `word` is below `atoms`.
+fn names_atoms(word: u64, atoms: u64) -> bool {
+    (0..64).all(|bit| word >> bit & 1 == 0 || bit < atoms)
+}
+
+/// The phrases that the clause `w` breaks.
+fn broken_by_clause(w: &[u64], atoms: u64) -> Vec<Phrase> {
+    let (head, kind, bare) = (w[0] % 64, w[0] / 64, w[1] == 0 && w[2] == 0);
+    let rows = [
+        (Phrase::HeadNamesAtom, head >= atoms),
+        (Phrase::ClauseBitNamesAtom, !names_atoms(w[1], atoms) || !names_atoms(w[2], atoms)),
+        (Phrase::FactWordsZero, kind == 0 && !bare),
+        (Phrase::AssumptionWordsZero, kind == 1 && !bare),
+        (Phrase::RuleHasBit, kind == 2 && bare),
+        (Phrase::KindListed, kind > 2),
+    ];
+    broken_of(&rows)
+}
+
+/// The phrases of the rows that are broken.
+fn broken_of(rows: &[(Phrase, bool)]) -> Vec<Phrase> {
+    rows.iter().filter(|(_, broken)| *broken).map(|(phrase, _)| *phrase).collect()
+}
+
+/// The depths of the formulas that `nodes` are, the first one last; none if an operand is missing. Nodes that are not
+/// listed have no operands.
+fn depths(nodes: &[u8]) -> Option<Vec<usize>> {
+    let mut stack: Vec<usize> = Vec::new();
+    for node in nodes.iter().rev() {
+        let depth = match node {
+            64 => stack.pop()?,
+            65..=68 => stack.pop()?.max(stack.pop()?),
+            _ => 0,
+        };
+        stack.push(depth + 1);
+    }
+    Some(stack)
+}
+
+/// The phrases that the formula's nodes break.
+fn broken_by_formula(nodes: &[u8], atoms: u64) -> Vec<Phrase> {
+    let read = depths(nodes);
+    let one = read.as_ref().is_some_and(|d| d.len() == 1);
+    let rows = [
+        (Phrase::FormulaAtomNamesAtom, nodes.iter().any(|n| *n < 64 && u64::from(*n) >= atoms)),
+        (Phrase::NodeListed, nodes.iter().any(|n| *n > 68)),
+        (Phrase::OneFormula, !one),
+        (Phrase::Depth, one && read.is_some_and(|d| d[0] > 16)),
+    ];
+    broken_of(&rows)
+}
+
+/// The number of atoms that head none of `clauses`.
+fn causes(clauses: &[u64], atoms: u64) -> u64 {
+    let headed = (0..64).filter(|a| *a < atoms && clauses.chunks_exact(3).any(|w| w[0] % 64 == *a)).count();
+    atoms - headed as u64
+}
+
+/// The first `n` entries of `width` elements of `table`, as many as it has.
+fn entries<T>(table: &[T], n: u64, width: usize) -> &[T] {
+    let all = table.len() / width;
+    &table[..width * all.min(usize::try_from(n).unwrap_or(all))]
+}
+
+/// The phrases that `held` breaks, each once.
+pub fn broken(held: &Held) -> Vec<Phrase> {
+    let [atoms, clauses, constraints, nodes, plain, negated] = held.record[..6] else { panic!("six words") };
+    let used = entries(&held.clauses, clauses, 3);
+    let bodies = entries(&held.constraints, constraints, 2);
+    let short = held.clauses.len() < CLAUSE_WORDS
+        || held.constraints.len() < CONSTRAINT_WORDS
+        || held.formula.len() < FORMULA_BYTES;
+    let strange = |w: &[u64]| !names_atoms(w[0], atoms) || !names_atoms(w[1], atoms);
+    let rows = [
+        (Phrase::FullSizes, short),
+        (Phrase::AtomCount, !(1..=64).contains(&atoms)),
+        (Phrase::ClauseCount, clauses > 256),
+        (Phrase::ConstraintCount, constraints > 32),
+        (Phrase::NodeCount, nodes > 128),
+        (Phrase::CauseCount, causes(used, atoms) > 10),
+        (Phrase::ConstraintBitNamesAtom, bodies.chunks_exact(2).any(strange)),
+        (Phrase::ObservedBitNamesAtom, strange(&[plain, negated])),
+        (Phrase::ConstraintHasBit, bodies.chunks_exact(2).any(|w| w[0] == 0 && w[1] == 0)),
+    ];
+    let mut found = broken_of(&rows);
+    found.extend(used.chunks_exact(3).flat_map(|w| broken_by_clause(w, atoms)));
+    found.extend(broken_by_formula(entries(&held.formula, nodes, 1), atoms));
+    let mut each: Vec<Phrase> = Vec::new();
+    for phrase in found {
+        if !each.contains(&phrase) {
+            each.push(phrase);
+        }
+    }
+    each
+}

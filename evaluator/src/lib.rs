@@ -1,0 +1,32 @@
+//! A second reader and evaluator of case files, and the driver that compares a program with it.
+//!
+//! | file | holds |
+//! |---|---|
+//! | formula, case | values and formulas; what a case file says |
+//! | tree, form, file | a line as a tree, the form of a tree, the checks of a file |
+//! | model, question, answer | least models, minimal explanations and the verdict, the text of the answer |
+//! | random, names, layout, families | drawn lawful files |
+//! | edges, lists, damage, sample | files at the limits, damaged files, the file of a seed |
+//! | run, compare, tally, bench, check | the driver |
+
+pub mod answer;
+pub mod bench;
+pub mod case;
+pub mod check;
+pub mod compare;
+pub mod damage;
+pub mod edges;
+pub mod families;
+pub mod file;
+pub mod form;
+pub mod formula;
+pub mod layout;
+pub mod lists;
+pub mod model;
+pub mod names;
+pub mod question;
+pub mod random;
+pub mod run;
+pub mod sample;
+pub mod tally;
+pub mod tree;
