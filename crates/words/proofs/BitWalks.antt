@@ -12,22 +12,30 @@ use lib.Count.{trailingZeros, under}
 use lib.Dec.{eqb}
 use borrow.Author.Tests.{eqb-true, eq-eqb, ne-eqb}
 use Rattle.words.specs.Below.{any}
-use Rattle.words.specs.Bits.{has, withBit, withoutBit, BitOf}
+use Rattle.words.specs.Bits.{has, withBit, withoutBit, BitOf, LowestOf}
 use Rattle.words.proofs.Tests.{Gives}
 use Rattle.words.proofs.Below.{any-ext, any-or, any-at}
 use Rattle.words.proofs.Bits.{has-low, has-half}
 use Rattle.words.proofs.Words.{has-or-one, or-one-lt, has-without-one}
 
 -- ---- the lowest bit
--- r is the number of one of the k bits of w
+-- r is the number of the lowest of the k bits of w
 abbrev Found : ℕ → ℕ → ℕ → Type 0
-Found k w r = (r < k) × (has w r ≡ true)
+Found k w r = (r < k) × (has w r ≡ true) × ((j : ℕ) → j < r → has w j ≡ false)
 
 -- from the half's lowest bit
 found-under : (k w m : ℕ) → w % 2 ≡ m → (m ≡ 0 → Found k (w / 2) (trailingZeros k (w / 2)))
     → Found (suc k) w (under m (trailingZeros k (w / 2)))
-found-under k w zero e f = let r = f refl in (omega (arith, r .0), has-half w _ ∙ r .1)
-found-under k w (suc m) e f = (omega arith, has-low w ∙ eq-eqb (w % 2) 1 (omega (arith, mod-lt w (zero-lt-suc 1))))
+found-under k w zero e f = (omega (arith, f refl .0), has-half w _ ∙ f refl .1, below)
+  where
+    below : (j : ℕ) → j < suc (trailingZeros k (w / 2)) → has w j ≡ false
+    below zero l = has-low w ∙ ap (λ (x : ℕ). eqb x 1) e
+    below (suc j) l = has-half w j ∙ f refl .2 j (omega arith)
+found-under k w (suc m) e f = (
+  omega arith,
+  has-low w ∙ eq-eqb (w % 2) 1 (omega (arith, mod-lt w (zero-lt-suc 1))),
+  λ j l. absurd (omega arith),
+)
 
 found : (k w : ℕ) → w < 2 ^ k → (w ≡ 0 → ⊥) → Found k w (trailingZeros k w)
 unfolding trailingZeros
@@ -36,8 +44,9 @@ found (suc k) w h ne =
     let e : 2 ^ suc k ≡ 2 ^ k * 2 = pow-suc 2 k in
     found-under k w (w % 2) refl (λ z. found k (w / 2) (omega arith) (λ q. ne (omega arith)))
 
-pub lowest-bit-of : (w : ℕ) → w < 2 ^ 64 → (w ≡ 0 → ⊥) → BitOf w (trailingZeros 64 w)
-lowest-bit-of w h ne = let r = found 64 w h ne in record { small = r .0; there = r .1 }
+pub lowest-bit-of : (w : ℕ) → w < 2 ^ 64 → (w ≡ 0 → ⊥) → LowestOf w (trailingZeros 64 w)
+lowest-bit-of w h ne =
+    let r = found 64 w h ne in record { bit = record { small = r .0; there = r .1 }; none-below = r .2 }
 
 -- ---- a bit added where a test holds
 pub has-with : (t : Bool) (w a i : ℕ) → has (withBit t w a) i ≡ (has w i || t && eqb i a)

@@ -7,6 +7,7 @@
 --   withBit t w i     w, and bit i where the test t holds
 --   withoutBit w i    w, of 64 bits, without bit i
 --   BitOf w i         i is the number of one of the 64 bits of w
+--   LowestOf w i      i is the number of the lowest bit of w
 use mathlib.Core.Path.{_≡_}
 use mathlib.Core.Bool.{Bool, true, false}
 use Prim.Native.Nat.{ℕ, zero, suc, _+_, _-_, _*_, _/_, _%_, _^_, _<_}
@@ -37,3 +38,7 @@ withoutBit w i = bitAnd w (2 ^ 64 - 1 - 2 ^ i)
 pub record BitOf (w i : ℕ) : Type 0 where
   pub small : i < 64
   pub there : has w i ≡ true
+
+pub record LowestOf (w i : ℕ) : Type 0 where
+  pub bit : BitOf w i
+  pub none-below : (j : ℕ) → j < i → has w j ≡ false

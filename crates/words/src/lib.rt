@@ -3,7 +3,7 @@
 ghost use mathlib.Core.Path.{_≡_};
 ghost use Prim.Native.Nat.{_+_, _^_, _≤_, _<_};
 ghost use lib.Count.{ones};
-ghost use Rattle.words.specs.Bits.{has, withoutBit, BitOf};
+ghost use Rattle.words.specs.Bits.{has, withoutBit, LowestOf};
 
 // The word with bit i alone.
 pub fn single(i: u32) -> u64
@@ -40,7 +40,7 @@ pub fn count(w: u64) -> u32
 // The number of the lowest bit of w.
 pub fn lowest_bit(w: u64) -> u32
     requires { ⌜ (w ≡ 0 → ⊥) ⌝ }
-    ensures { λ r. ⌜ BitOf w r ⌝ }
+    ensures { λ r. ⌜ LowestOf w r ⌝ }
 {
     u64::trailing_zeros(w)
 }

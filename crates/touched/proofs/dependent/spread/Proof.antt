@@ -40,13 +40,13 @@ without-requires : tie.Need-without-requires Inv-loop μ-loop
 without-requires c κs = search needs
 
 loop-less : tie.Need-loop-less Inv-loop μ-loop
-loop-less c = rw (c .without .ensures) (without-less _ _ (c .before .before .lowest-bit .ensures))
+loop-less c = rw (c .without .ensures) (without-less _ _ (c .before .before .lowest-bit .ensures .bit))
 
 loop-again : tie.Need-loop-again Inv-loop μ-loop
 loop-again c =
     let l = c .before .before .before .before in
     rw (c .without .ensures)
-    (spreading-next _ _ _ _ _ _ _ (l .loop .inv) (c .before .before .lowest-bit .ensures)
+    (spreading-next _ _ _ _ _ _ _ (l .loop .inv) (c .before .before .lowest-bit .ensures .bit)
     (l .before .single .ensures))
 
 returns : tie.Need-returns Inv-loop μ-loop

@@ -31,11 +31,11 @@ without-requires : tie.Need-without-requires Inv-loop μ-loop
 without-requires c κs = search needs
 
 loop-less : tie.Need-loop-less Inv-loop μ-loop
-loop-less c = rw (c .without .ensures) (without-less _ _ (c .before .before .lowest-bit .ensures))
+loop-less c = rw (c .without .ensures) (without-less _ _ (c .before .before .lowest-bit .ensures .bit))
 
 loop-again : tie.Need-loop-again Inv-loop μ-loop
 loop-again c =
-    let b = c .before .before .lowest-bit .ensures in
+    let b = c .before .before .lowest-bit .ensures .bit in
     rw (c .without .ensures)
     (gathered-next _ _ _ _ _ (c .before .before .before .before .loop .inv) b
     (c .before .before .before .before .before .pre _ (b .small)))

@@ -32,24 +32,24 @@ element-copy-out-rules-value c = search needs
 rules-value-requires : tie.Need-rules-value-requires Inv-loop μ-loop
 rules-value-requires c κs =
     let p = c .before .before .before .before .before .pre in
-    (p .0, p .1, p .2, p .3 _ (c .before .lowest-bit .ensures .small), p .4)
+    (p .0, p .1, p .2, p .3 _ (c .before .lowest-bit .ensures .bit .small), p .4)
 
 decide-requires : tie.Need-decide-requires Inv-loop μ-loop
 decide-requires c κs =
-    (c .before .before .lowest-bit .ensures .small, c .before .before .before .before .loop .inv .good .disjoint)
+    (c .before .before .lowest-bit .ensures .bit .small, c .before .before .before .before .loop .inv .good .disjoint)
 
 without-requires : tie.Need-without-requires Inv-loop μ-loop
 without-requires c κs = search needs
 
 loop-less : tie.Need-loop-less Inv-loop μ-loop
 loop-less c =
-    rw (c .without .ensures) (without-less _ _ (c .before .before .before .before .lowest-bit .ensures))
+    rw (c .without .ensures) (without-less _ _ (c .before .before .before .before .lowest-bit .ensures .bit))
 
 loop-again : tie.Need-loop-again Inv-loop μ-loop
 loop-again c =
     rw (c .without .ensures)
     (redoing-next _ _ _ _ _ _ _ _ _ (c .before .before .before .before .before .before .loop .inv)
-    (c .before .before .before .before .lowest-bit .ensures) (c .before .before .rules-value .ensures)
+    (c .before .before .before .before .lowest-bit .ensures .bit) (c .before .before .rules-value .ensures)
     (c .before .decide .ensures))
 
 returns : tie.Need-returns Inv-loop μ-loop
