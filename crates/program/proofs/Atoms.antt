@@ -1,18 +1,21 @@
--- The atoms of a word are as many as its ones, and below 64. Assumes nothing.
-use mathlib.Core.Path.{_≡_, refl, sym, ap, _∙_}
+-- The atoms of a word are as many as its ones, and below 64, and its lowest bit comes first. Assumes nothing.
+use mathlib.Core.Path.{_≡_, refl, sym, ap, ap₂, _∙_}
 use mathlib.Core.Bool.{Bool, true, false}
-use mathlib.Core.List.{List}
+use mathlib.Core.List.{List, [], _∷_}
+use mathlib.Core.Logic.{⊎-elim}
 use Prim.Native.Nat.{ℕ, zero, suc, _+_, _*_, _/_, _%_, _^_, _≤_, _<_}
-use native.Mathlib.Nat.{not-suc-le-zero, le-of-suc-le-suc, pow-suc, div-one}
+use native.Mathlib.Nat.{not-suc-le-zero, le-of-suc-le-suc, pow-suc, div-one, le-refl, eq-or-lt-of-le}
 use native.Mathlib.Numerals.{add-one}
 use native.Mathlib.Omega.{arith}
 use lib.Count.{ones, ones-step, ones-le}
 use lib.ListN.{length, getD}
 use lib.Pow.{shr-shr}
 use borrow.Author.Tests.{eqb-true, eqb-false}
-use Rattle.words.specs.Bits.{odd, has}
+use Rattle.words.specs.Bits.{odd, has, withoutBit, LowestOf}
+use Rattle.words.proofs.BitWalks.{without-here, without-other}
 use Rattle.program.specs.Cause.{consIf, atomsFrom, atomsIn}
 
+-- ---- how many
 -- bit a in front: the count grows by it
 count-cons : (x a : ℕ) (l : List ℕ) → length l ≡ ones (x / 2) → length (consIf (odd x) a l) ≡ ones x
 count-cons x a l e = go (odd x) refl
@@ -32,6 +35,7 @@ atoms-count w a (suc n) h =
 pub atoms-length : (w : ℕ) → w < 2 ^ 64 → length (atomsIn w) ≡ ones w
 atoms-length w h = atoms-count w 0 64 (rw div-one h) ∙ ap ones (div-one w)
 
+-- ---- how large
 -- with a in front, where the test holds, all are still below m
 cons-below : (t : Bool) (a m : ℕ) (l : List ℕ) → a < m → ((i : ℕ) → i < length l → getD l i 0 < m)
     → (i : ℕ) → i < length (consIf t a l) → getD (consIf t a l) i 0 < m
@@ -48,3 +52,44 @@ atoms-among w a (suc n) m h i p =
 
 pub atoms-below : (w i : ℕ) → i < length (atomsIn w) → getD (atomsIn w) i 0 < 64
 atoms-below w i h = atoms-among w 0 64 64 (omega arith) i h
+
+-- ---- the lowest first
+pub atoms-zero : atomsIn 0 ≡ []
+unfolding atomsFrom has
+atoms-zero = refl
+
+-- words with the same bits among the n from a on have the same atoms there
+atoms-ext : (w x n a : ℕ) → ((b : ℕ) → a ≤ b → b < a + n → has w b ≡ has x b) → atomsFrom w a n ≡ atomsFrom x a n
+unfolding atomsFrom
+atoms-ext w x zero a h = refl
+atoms-ext w x (suc n) a h =
+    ap₂ (λ (t : Bool) (l : List ℕ). consIf t a l) (h a (le-refl a) (omega arith))
+    (atoms-ext w x n (suc a) (λ b l m. h b (omega arith) (omega arith)))
+
+module _ (w a : ℕ) (h : LowestOf w a) where
+  -- among the n atoms from k on, of which a is one
+  lowest-from : (n k : ℕ) → k ≤ a → a < k + n → k + n ≤ 64 → atomsFrom w k n ≡ a ∷ atomsFrom (withoutBit w a) k n
+  unfolding atomsFrom
+  lowest-from zero k l m f = absurd (omega arith)
+  lowest-from (suc n) k l m f =
+      ⊎-elim here (λ q. before q (lowest-from n (suc k) q (omega arith) (omega arith))) (eq-or-lt-of-le l)
+    where
+      x : ℕ
+      x = withoutBit w a
+
+      here : k ≡ a → atomsFrom w k (suc n) ≡ a ∷ atomsFrom x k (suc n)
+      here e =
+          ap₂ (λ (t : Bool) (l : List ℕ). consIf t k l) (ap (has w) e ∙ h .bit .there)
+          (atoms-ext w x n (suc k) (λ b i j. sym (without-other w a (h .bit) b (omega arith) (λ q. omega arith))))
+          ∙ ap₂ (λ (b : ℕ) (t : Bool). b ∷ consIf t k (atomsFrom x (suc k) n)) e
+          (sym (ap (has x) e ∙ without-here w a (h .bit)))
+
+      before : k < a → atomsFrom w (suc k) n ≡ a ∷ atomsFrom x (suc k) n
+          → atomsFrom w k (suc n) ≡ a ∷ atomsFrom x k (suc n)
+      before q ih =
+          ap₂ (λ (t : Bool) (l : List ℕ). consIf t k l) (h .none-below k q) ih
+          ∙ ap (λ (t : Bool). a ∷ consIf t k (atomsFrom x (suc k) n))
+          (sym (without-other w a (h .bit) k (omega arith) (λ e. omega arith) ∙ h .none-below k q))
+
+  pub atoms-lowest : atomsIn w ≡ a ∷ atomsIn (withoutBit w a)
+  atoms-lowest = lowest-from 64 0 (omega arith) (h .bit .small) (omega arith)

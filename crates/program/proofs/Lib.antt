@@ -1,6 +1,6 @@
 -- Heads: laws of the heads of a table's clauses.
 -- Causes: laws of the causes among the atoms.
--- Atoms: the atoms of a word are as many as its ones, and below 64.
+-- Atoms: the atoms of a word are as many as its ones, and below 64, and its lowest bit comes first.
 -- Settings: how many settings there are, the digits of a setting, and what it adds.
 -- Sets: the sets of causes that settings are.
 -- Soundness: the kinds of clauses, and what a sound case is sound of.

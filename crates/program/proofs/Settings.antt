@@ -1,24 +1,24 @@
 -- Laws of settings: how many there are, the digit that a setting gives to an atom, and the words that it adds, as the
--- walk over the atoms gathers them. Assumes nothing.
+-- walk over the causes gathers them. Assumes nothing.
 use mathlib.Core.Path.{_≡_, refl, sym, ap, ap₂, _∙_}
 use mathlib.Core.Bool.{Bool, true, false, _&&_, _||_, and-true, and-false, or-false, true≢false}
 use mathlib.Core.List.{List, [], _∷_}
-use Prim.Native.Nat.{ℕ, zero, suc, _+_, _-_, _*_, _/_, _%_, _^_, _≤_, _<_}
+use Prim.Native.Nat.{ℕ, zero, suc, _*_, _/_, _%_, _^_, _≤_, _<_}
 use native.Mathlib.Nat.{pow-succ', pow-le-pow-right, zero-lt-suc, le-refl}
-use native.Mathlib.Numerals.{add-one}
 use native.Mathlib.Omega.{arith}
-use lib.Bits.{bitOr}
 use lib.Dec.{eqb}
 use lib.ListN.{length}
 use lib.Pow.{pow-pos}
 use borrow.Author.Tests.{eqb-true, ne-eqb}
-use Rattle.words.specs.Bits.{has, word}
+use Rattle.words.specs.Bits.{has, word, withBit, withoutBit, LowestOf}
 use Rattle.words.proofs.Bits.{has-zero, has-above}
-use Rattle.words.proofs.Words.{word-lt, has-word, is-word, lt-of-bits, has-or-one, or-one-lt}
+use Rattle.words.proofs.Words.{word-lt, has-word, is-word, lt-of-bits}
+use Rattle.words.proofs.BitWalks.{has-with, with-lt, without-here}
 use Rattle.program.specs.declared.cause.Additions.{Additions}
 use Rattle.program.specs.Cause.{consIf, atomsFrom, atomsIn}
 use Rattle.program.specs.Setting.{choicesFor, product, digits, pickDigit, digitOf}
 use Rattle.program.specs.Setting.{settingsOf, additionsOf, withDigit}
+use Rattle.program.proofs.Atoms.{atoms-zero, atoms-lowest}
 
 -- ---- how many settings
 pub choices-power : (l : List ℕ) → product (choicesFor l) ≡ 3 ^ length l
@@ -65,32 +65,20 @@ digit-none w b (suc n) a s h = go (has w a) refl (λ t. digit-none w b n (suc a)
         ∙ ih (s / 3)
     go false e ih = digit-other w a n s b e ∙ ih s
 
--- ---- a word with bit a added where a test holds
-abbrev pub orIf : Bool → ℕ → ℕ → ℕ
-orIf true y a = bitOr y (2 ^ a)
-orIf false y a = y
-
-has-or-if : (t : Bool) (y a b : ℕ) → has (orIf t y a) b ≡ (has y b || (t && eqb b a))
-has-or-if true y a b = has-or-one y a b
-has-or-if false y a b = sym (or-false (has y b))
-
-or-if-lt : (t : Bool) (y a : ℕ) → y < 2 ^ 64 → a < 64 → orIf t y a < 2 ^ 64
-or-if-lt true y a h l = or-one-lt 64 y a h l
-or-if-lt false y a h l = h
-
-with-facts : (x : Additions) (a e : ℕ) → withDigit x a e .facts ≡ orIf (eqb e 1) (x .facts) a
+-- ---- what a digit adds to each word
+with-facts : (x : Additions) (a e : ℕ) → withDigit x a e .facts ≡ withBit (eqb e 1) (x .facts) a
 with-facts x a zero = refl
 with-facts x a (suc zero) = refl
 with-facts x a (suc (suc zero)) = refl
 with-facts x a (suc (suc (suc e))) =
-    ap (λ (t : Bool). orIf t (x .facts) a) (sym (ne-eqb (suc (suc (suc e))) 1 (λ q. omega arith)))
+    ap (λ (t : Bool). withBit t (x .facts) a) (sym (ne-eqb (suc (suc (suc e))) 1 (λ q. omega arith)))
 
-with-assumptions : (x : Additions) (a e : ℕ) → withDigit x a e .assumptions ≡ orIf (eqb e 2) (x .assumptions) a
+with-assumptions : (x : Additions) (a e : ℕ) → withDigit x a e .assumptions ≡ withBit (eqb e 2) (x .assumptions) a
 with-assumptions x a zero = refl
 with-assumptions x a (suc zero) = refl
 with-assumptions x a (suc (suc zero)) = refl
 with-assumptions x a (suc (suc (suc e))) =
-    ap (λ (t : Bool). orIf t (x .assumptions) a) (sym (ne-eqb (suc (suc (suc e))) 2 (λ q. omega arith)))
+    ap (λ (t : Bool). withBit t (x .assumptions) a) (sym (ne-eqb (suc (suc (suc e))) 2 (λ q. omega arith)))
 
 -- a digit other than 1 and 2 adds nothing
 pub with-other : (x : Additions) (a e : ℕ) → (e ≡ 1 → ⊥) → (e ≡ 2 → ⊥) → x ≡ withDigit x a e
@@ -104,19 +92,19 @@ with-other x a (suc (suc (suc e))) p q = refl
 abbrev hasDigit : ℕ → ℕ → ℕ → ℕ → Bool
 hasDigit w s d b = eqb (digitFrom w 0 64 s b) d
 
--- y has bit b, or what is left of the setting from atom a on gives b digit d
-abbrev pub gathers : ℕ → ℕ → ℕ → ℕ → ℕ → ℕ → Bool
-gathers w d y rest a b = has y b || eqb (digitFrom w a (64 - a) rest b) d
+-- y has bit b, or what is left of the setting gives b digit d, with these causes left
+abbrev gathers : ℕ → ℕ → ℕ → ℕ → ℕ → Bool
+gathers d y rest left b = has y b || hasDigit left rest d b
 
--- y has the atoms before a that have digit d, and what is left of the setting gives the others
-pub record Gathered (w s d y rest a : ℕ) : Type 0 where
+-- y has the atoms passed that have digit d, and what is left of the setting gives the causes left theirs
+pub record Gathered (w s d y rest left : ℕ) : Type 0 where
   pub fits : y < 2 ^ 64
-  pub bits : (b : ℕ) → gathers w d y rest a b ≡ hasDigit w s d b
+  pub bits : (b : ℕ) → gathers d y rest left b ≡ hasDigit w s d b
 
-gathered-start : (w s d : ℕ) → Gathered w s d 0 s 0
+gathered-start : (w s d : ℕ) → Gathered w s d 0 s w
 gathered-start w s d = record {
   fits = pow-pos 64;
-  bits = λ b. ap (λ (t : Bool). t || eqb (digitFrom w 0 64 s b) d) (has-zero b);
+  bits = λ b. ap (λ (t : Bool). t || hasDigit w s d b) (has-zero b);
 }
 
 -- the digit of atom b = a is taken out of the setting, and b is in no later one
@@ -126,73 +114,58 @@ taken-out true t x r d h = refl
 taken-out false true x r d h = ap₂ _||_ (and-true (eqb x d)) (h refl) ∙ or-false (eqb x d)
 taken-out false false x r d h = ap (λ (t : Bool). t || eqb r d) (and-false (eqb x d))
 
-module _ (w s d y rest a : ℕ) (l : a < 64) (g : Gathered w s d y rest a) where
-  one-more : (r b : ℕ) → digitFrom w (a + 1) (64 - (a + 1)) r b ≡ digitFrom w (suc a) (64 - suc a) r b
-  one-more r b = ap (λ (k : ℕ). digitFrom w k (64 - k) r b) (add-one a)
+-- the digit of atom b, where a is the lowest cause
+digit-lowest : (w a s b : ℕ) → LowestOf w a
+    → digitFrom w 0 64 s b ≡ pickDigit (eqb b a) (s % 3) (digitFrom (withoutBit w a) 0 64 (s / 3) b)
+unfolding choicesFor digits digitOf
+digit-lowest w a s b h = ap (λ (l : List ℕ). digitIn l s b) (atoms-lowest w a h)
 
-  one-less : (b : ℕ) → digitFrom w a (64 - a) rest b ≡ digitFrom w a (suc (64 - suc a)) rest b
-  one-less b = ap (λ (n : ℕ). digitFrom w a n rest b) (omega arith)
+gathered-next : (w s d y rest left a : ℕ) → eqb 0 d ≡ false → Gathered w s d y rest left → LowestOf left a
+    → Gathered w s d (withBit (eqb (rest % 3) d) y a) (rest / 3) (withoutBit left a)
+gathered-next w s d y rest left a z g h = record {
+  fits = with-lt (eqb (rest % 3) d) 64 y a (g .fits) (h .bit .small);
+  bits = λ b. ap (λ (t : Bool). t || hasDigit (withoutBit left a) (rest / 3) d b) (has-with (eqb (rest % 3) d) y a b)
+      ∙ taken-out (has y b) (eqb b a) (rest % 3) (digitFrom (withoutBit left a) 0 64 (rest / 3) b) d (later b)
+      ∙ ap (λ (n : ℕ). has y b || eqb n d) (sym (digit-lowest left a rest b h)) ∙ g .bits b;
+}
+  where
+    later : (b : ℕ) → eqb b a ≡ true → hasDigit (withoutBit left a) (rest / 3) d b ≡ false
+    later b q =
+        ap (λ (n : ℕ). eqb n d) (digit-none (withoutBit left a) b 64 0 (rest / 3)
+        (λ k m f i. true≢false (sym f ∙ ap (has (withoutBit left a)) (sym i ∙ eqb-true b a q)
+        ∙ without-here left a (h .bit)))) ∙ z
 
-  gathered-cause : eqb 0 d ≡ false → has w a ≡ true → Gathered w s d (orIf (eqb (rest % 3) d) y a) (rest / 3) (a + 1)
-  gathered-cause z e = record { fits = or-if-lt (eqb (rest % 3) d) y a (g .fits) l; bits = gives }
-    where
-      later : (b : ℕ) → eqb b a ≡ true → eqb (digitFrom w (suc a) (64 - suc a) (rest / 3) b) d ≡ false
-      later b q =
-          let p : b ≡ a = eqb-true b a q in
-          ap (λ (n : ℕ). eqb n d) (digit-none w b (64 - suc a) (suc a) (rest / 3) (λ k m f i. omega arith)) ∙ z
+gathered-end : (w s d y rest : ℕ) → eqb 0 d ≡ false → Gathered w s d y rest 0 → y ≡ word 64 (hasDigit w s d)
+unfolding choicesFor digits digitOf
+gathered-end w s d y rest z g =
+    is-word 64 y (hasDigit w s d) (g .fits)
+    (λ b l. sym (or-false (has y b))
+    ∙ ap (λ (t : Bool). has y b || t) (sym (ap (λ (l : List ℕ). eqb (digitIn l rest b) d) atoms-zero ∙ z)) ∙ g .bits b)
 
-      gives : (b : ℕ) → gathers w d (orIf (eqb (rest % 3) d) y a) (rest / 3) (a + 1) b ≡ hasDigit w s d b
-      gives b =
-          ap₂ (λ (t : Bool) (n : ℕ). t || eqb n d) (has-or-if (eqb (rest % 3) d) y a b) (one-more (rest / 3) b)
-          ∙ taken-out (has y b) (eqb b a) (rest % 3) (digitFrom w (suc a) (64 - suc a) (rest / 3) b) d (later b)
-          ∙ ap (λ (n : ℕ). has y b || eqb n d) (sym (one-less b ∙ digit-cause w a (64 - suc a) rest b e))
-          ∙ g .bits b
+-- ---- the walk over the causes: x is added so far, rest is left of setting s, and left of the causes
+pub record Walked (w s : ℕ) (x : Additions) (rest left : ℕ) : Type 0 where
+  pub facts-are : Gathered w s 1 (x .facts) rest left
+  pub assumptions-are : Gathered w s 2 (x .assumptions) rest left
 
-  gathered-other : has w a ≡ false → Gathered w s d y rest (a + 1)
-  gathered-other e = record {
-    fits = g .fits;
-    bits = λ b. ap (λ (n : ℕ). has y b || eqb n d) (same b) ∙ g .bits b;
-  }
-    where
-      same : (b : ℕ) → digitFrom w (a + 1) (64 - (a + 1)) rest b ≡ digitFrom w a (64 - a) rest b
-      same b = one-more rest b ∙ sym (one-less b ∙ digit-other w a (64 - suc a) rest b e)
-
--- ---- the walk over the atoms: x is added so far, rest is left of setting s, a is the next atom
-pub record Walked (w s : ℕ) (x : Additions) (rest a : ℕ) : Type 0 where
-  pub facts-are : Gathered w s 1 (x .facts) rest a
-  pub assumptions-are : Gathered w s 2 (x .assumptions) rest a
-
-pub walked-start : (w s : ℕ) (x : Additions) → x .facts ≡ 0 → x .assumptions ≡ 0 → Walked w s x s 0
+pub walked-start : (w s : ℕ) (x : Additions) → x .facts ≡ 0 → x .assumptions ≡ 0 → Walked w s x s w
 walked-start w s x e f = record {
   facts-are = rw e (gathered-start w s 1);
   assumptions-are = rw f (gathered-start w s 2);
 }
 
-pub walked-cause : (w s : ℕ) (x z : Additions) (rest a : ℕ) → a < 64 → Walked w s x rest a → has w a ≡ true
-    → z ≡ withDigit x a (rest % 3) → Walked w s z (rest / 3) (a + 1)
-walked-cause w s x z rest a l h e q = rw q (record {
-  facts-are = rw with-facts (gathered-cause w s 1 (x .facts) rest a l (h .facts-are) refl e);
-  assumptions-are = rw with-assumptions (gathered-cause w s 2 (x .assumptions) rest a l (h .assumptions-are) refl e);
+pub walked-next : (w s : ℕ) (x z : Additions) (rest left a : ℕ) → Walked w s x rest left → LowestOf left a
+    → z ≡ withDigit x a (rest % 3) → Walked w s z (rest / 3) (withoutBit left a)
+walked-next w s x z rest left a h l q = rw q (record {
+  facts-are = rw with-facts (gathered-next w s 1 (x .facts) rest left a refl (h .facts-are) l);
+  assumptions-are = rw with-assumptions (gathered-next w s 2 (x .assumptions) rest left a refl (h .assumptions-are) l);
 })
 
-pub walked-other : (w s : ℕ) (x : Additions) (rest a : ℕ) → a < 64 → Walked w s x rest a → has w a ≡ false
-    → Walked w s x rest (a + 1)
-walked-other w s x rest a l h e = record {
-  facts-are = gathered-other w s 1 (x .facts) rest a l (h .facts-are) e;
-  assumptions-are = gathered-other w s 2 (x .assumptions) rest a l (h .assumptions-are) e;
-}
-
-gathered-end : (w s d y rest : ℕ) → eqb 0 d ≡ false → Gathered w s d y rest 64 → y ≡ word 64 (hasDigit w s d)
-unfolding atomsFrom choicesFor digits digitOf
-gathered-end w s d y rest z g =
-    is-word 64 y (hasDigit w s d) (g .fits)
-    (λ b l. sym (or-false (has y b)) ∙ ap (λ (t : Bool). has y b || t) (sym z) ∙ g .bits b)
-
-pub walked-end : (w s : ℕ) (x : Additions) (rest : ℕ) → Walked w s x rest 64 → x ≡ additionsOf w s
+pub walked-end : (w s : ℕ) (x : Additions) (rest left : ℕ) → left ≡ 0 → Walked w s x rest left → x ≡ additionsOf w s
 unfolding additionsOf
-walked-end w s x rest h =
-    let p = gathered-end w s 1 (x .facts) rest refl (h .facts-are) in
-    let q = gathered-end w s 2 (x .assumptions) rest refl (h .assumptions-are) in
+walked-end w s x rest left z h =
+    let g : Walked w s x rest 0 = rw z at h in
+    let p = gathered-end w s 1 (x .facts) rest refl (g .facts-are) in
+    let q = gathered-end w s 2 (x .assumptions) rest refl (g .assumptions-are) in
     λ i. record { facts = p i; assumptions = q i }
 
 -- ---- what a setting adds

@@ -1,6 +1,6 @@
 // The causes of a case, its settings, and what a setting adds.
 ghost use mathlib.Core.Path.{_≡_};
-ghost use Prim.Native.Nat.{_+_, _*_, _≤_, _<_};
+ghost use Prim.Native.Nat.{_*_, _≤_, _<_};
 ghost use lib.Count.{ones};
 ghost use lib.ListN.{length};
 ghost use Rattle.program.specs.Program.{headsOf};
@@ -82,13 +82,12 @@ pub fn added(causes: u64, setting: u64) -> Additions
         assumptions: 0,
     };
     let mut rest = setting;
-    let mut atom: u32 = 0;
-    while atom < 64 {
-        if words::test(causes, atom) {
-            sum = sum.with(atom, rest % 3);
-            rest = rest / 3;
-        }
-        atom += 1;
+    let mut left = causes;
+    while left != 0 {
+        let atom = words::lowest_bit(left);
+        sum = sum.with(atom, rest % 3);
+        rest = rest / 3;
+        left = words::without(left, atom);
     }
     sum
 }

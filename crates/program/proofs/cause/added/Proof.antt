@@ -1,56 +1,41 @@
 -- `program::cause::added` meets its contract. The loop's invariant: what is added so far and what is left of the
--- setting make up the whole setting. Assumes nothing.
-use mathlib.Core.Path.{refl, sym, _∙_}
-use mathlib.Core.Logic.{⊎-elim}
-use Prim.Native.Nat.{_≤_, _-_}
-use native.Mathlib.Nat.{le-antisymm}
+-- setting make up the whole setting. The measure is the word of the causes left. Assumes nothing.
+use mathlib.Core.Path.{refl}
 use borrow.Author.Needs.{needs}
-use Rattle.program.proofs.Settings.{Walked, walked-start, walked-cause, walked-other, walked-end}
+use Rattle.words.proofs.BitWalks.{without-less}
+use Rattle.program.proofs.Settings.{Walked, walked-start, walked-next, walked-end}
 use Rattle.program.proofs.cause.added.Statement.{statement}
 use Rattle.program.proofs.cause.added.Tie as tie
 
 abbrev Inv-loop : tie.InvT-loop
-Inv-loop causes setting sum₀ rest₀ atom₀ sum rest atom = (atom ≤ 64) × Walked causes setting sum rest atom
+Inv-loop causes setting sum₀ rest₀ left₀ sum rest left = Walked causes setting sum rest left
 
 abbrev μ-loop : tie.MeasureT-loop
-μ-loop causes setting sum₀ rest₀ atom₀ sum rest atom = 64 - atom
+μ-loop causes setting sum₀ rest₀ left₀ sum rest left = left
 
 loop-holds : tie.Need-loop-holds Inv-loop μ-loop
-loop-holds c = (search needs, walked-start _ _ _ refl refl)
+loop-holds c = walked-start _ _ _ refl refl
 
-test-requires : tie.Need-test-requires Inv-loop μ-loop
-test-requires c κs = search needs
+lowest-bit-requires : tie.Need-lowest-bit-requires Inv-loop μ-loop
+lowest-bit-requires c κs = search needs
 
 with-requires : tie.Need-with-requires Inv-loop μ-loop
 with-requires c κs = search needs
 
-add-atom : tie.Need-add-atom Inv-loop μ-loop
-add-atom c = search needs
+without-requires : tie.Need-without-requires Inv-loop μ-loop
+without-requires c κs = search needs
 
 loop-less : tie.Need-loop-less Inv-loop μ-loop
-loop-less c = search needs
+loop-less c = rw (c .without .ensures) (without-less _ _ (c .before .before .lowest-bit .ensures .bit))
 
 loop-again : tie.Need-loop-again Inv-loop μ-loop
 loop-again c =
-    let i = c .before .before in
-    let l = i .before in (
-      search needs,
-      ⊎-elim
-          (λ w. rw (w .3)
-          (walked-cause _ _ (l .loop .sum) _ (l .loop .rest) (l .loop .atom) (i .loop-test .taken) (l .loop .inv .1)
-          (sym (c .before .test .ensures) ∙ w .0 .taken) (w .2 ∙ w .1 .ensures)))
-          (λ w. rw (w .1, w .2)
-          (walked-other _ _ (l .loop .sum) (l .loop .rest) (l .loop .atom) (i .loop-test .taken) (l .loop .inv .1)
-          (sym (c .before .test .ensures) ∙ w .0 .left)))
-          (c .if1 .came),
-    )
+    rw (c .without .ensures)
+    (walked-next _ _ _ _ _ _ _ (c .before .before .before .before .loop .inv) (c .before .before .lowest-bit .ensures)
+    (c .before .with .ensures))
 
 returns : tie.Need-returns Inv-loop μ-loop
-returns c =
-    let l = c .before in
-    let a = l .before .args in
-    walked-end (a .causes) (a .setting) (l .loop .sum) (l .loop .rest)
-    (rw (le-antisymm (l .loop .inv .0) (c .loop-test .left)) at (l .loop .inv .1))
+returns c = walked-end _ _ _ _ _ (c .loop-test .left) (c .before .loop .inv)
 
 pub added-spec : {M : Type 1} → statement M
 added-spec =
@@ -59,9 +44,9 @@ added-spec =
     Inv-loop
     μ-loop
     loop-holds
-    test-requires
+    lowest-bit-requires
     with-requires
-    add-atom
+    without-requires
     loop-less
     loop-again
     returns)
