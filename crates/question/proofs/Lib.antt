@@ -1,7 +1,7 @@
 -- Judged: what a case that is prepared gives the functions that judge a setting.
 -- Subsets: subsets of a setting, proper ones, and some proper one that passes a test.
 -- SubsetSearch: the search among the subsets of a setting finds one exactly where there is one.
--- SubsetSteps: the steps of the search, atom by atom, and its bounds.
+-- SubsetSteps: the steps of the search, cause by cause, and its bounds.
 -- Verdicts: the verdict over minimal settings and one more.
 -- Bytes: the bytes of the settings below one.
 -- Lists: a slot of a list's free rest, lent and written.

@@ -36,17 +36,17 @@ pub record Found (p : ℕ → Bool) (cs : List ℕ) (w base s : ℕ) : Type 0 wh
 
 module _ (p : ℕ → Bool) where
   module _ (c : ℕ) (cs : List ℕ) (w base s : ℕ) where
-    drop-finds : someSubset p cs (w * c) base (s / c) ≡ true → someSubset p (c ∷ cs) w base s ≡ true
-    unfolding someSubset
-    drop-finds h =
-        ap (λ (t : Bool). t || (not (eqb (s % c) 0) && someSubset p cs (w * c) (base + w * (s % c)) (s / c))) h
-
     keep-finds : (s % c ≡ 0 → ⊥) → someSubset p cs (w * c) (base + w * (s % c)) (s / c) ≡ true
         → someSubset p (c ∷ cs) w base s ≡ true
     unfolding someSubset
     keep-finds z h =
-        ap (λ (t : Bool). someSubset p cs (w * c) base (s / c) || t) (ap₂ _&&_ (ap not (ne-eqb (s % c) 0 z)) h)
-        ∙ or-true (someSubset p cs (w * c) base (s / c))
+        ap (λ (t : Bool). t || someSubset p cs (w * c) base (s / c)) (ap₂ _&&_ (ap not (ne-eqb (s % c) 0 z)) h)
+
+    drop-finds : someSubset p cs (w * c) base (s / c) ≡ true → someSubset p (c ∷ cs) w base s ≡ true
+    unfolding someSubset
+    drop-finds h =
+        let kept = not (eqb (s % c) 0) && someSubset p cs (w * c) (base + w * (s % c)) (s / c) in
+        ap (λ (t : Bool). kept || t) h ∙ or-true kept
 
     -- a digit d in front of what is found of the rest
     digit-found : (d : ℕ) → d < c → digitWithin d (s % c) ≡ true → Found p cs (w * c) (base + w * d) (s / c)
@@ -99,12 +99,12 @@ module _ (p : ℕ → Bool) where
       let kept = someSubset p cs (w * c) (base + w * (s % c)) (s / c) in
       let q : base ≡ base + w * 0 = omega arith in
       ⊎-elim
-      (λ (e : someSubset p cs (w * c) base (s / c) ≡ true).
-      digit-found c cs w base s 0 pos refl (subst (λ (b : ℕ). Found p cs (w * c) b (s / c)) q (rest base e)))
       (λ (e : (not (eqb (s % c) 0) && kept) ≡ true).
       digit-found c cs w base s (s % c) (mod-lt s pos) (digit-refl (s % c))
       (rest (base + w * (s % c)) (and-true-r (not (eqb (s % c) 0)) kept e)))
-      (or-cases (someSubset p cs (w * c) base (s / c)) (not (eqb (s % c) 0) && kept) h)
+      (λ (e : someSubset p cs (w * c) base (s / c) ≡ true).
+      digit-found c cs w base s 0 pos refl (subst (λ (b : ℕ). Found p cs (w * c) b (s / c)) q (rest base e)))
+      (or-cases (not (eqb (s % c) 0) && kept) (someSubset p cs (w * c) base (s / c)) h)
 
 -- ---- the search among the subsets of s for a smaller number that passes
 module _ (p : ℕ → Bool) (cs : List ℕ) (s : ℕ) (l : s < product cs) where

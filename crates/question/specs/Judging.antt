@@ -48,12 +48,12 @@ markedIn work t = not (eqb (getD work t 0) 0)
 abbrev pub markedBelow : List ℕ → ℕ → ℕ → Bool
 markedBelow work top t = ltb t top && markedIn work t
 
--- some number passes the test p that is base plus w times a subset of s: each digit of s is dropped, or kept
+-- some number passes the test p that is base plus w times a subset of s: each digit of s is kept, or dropped
 unfoldable pub someSubset : (ℕ → Bool) → List ℕ → ℕ → ℕ → ℕ → Bool
 someSubset p [] w base s = p base
 someSubset p (c ∷ cs) w base s =
-    someSubset p cs (w * c) base (s / c)
-    || (not (eqb (s % c) 0) && someSubset p cs (w * c) (base + w * (s % c)) (s / c))
+    (not (eqb (s % c) 0) && someSubset p cs (w * c) (base + w * (s % c)) (s / c))
+    || someSubset p cs (w * c) base (s / c)
 
 -- the numbers reached are at most top, within the work area
 pub record Searched (work : List ℕ) (w base s top : ℕ) : Type 0 where

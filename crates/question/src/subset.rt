@@ -1,8 +1,8 @@
 // The search among the subsets of a setting.
 ghost use mathlib.Core.Path.{_≡_};
-ghost use Prim.Native.Nat.{_-_, _≤_, _<_};
+ghost use Prim.Native.Nat.{_≤_, _<_};
 ghost use lib.ListN.{length};
-ghost use Rattle.program.specs.Cause.{atomsFrom, atomsIn};
+ghost use Rattle.program.specs.Cause.{atomsIn};
 ghost use Rattle.program.specs.Setting.{choicesFor, settingsOf};
 ghost use Rattle.question.specs.Judging.{markedIn, markedBelow, someSubset, Searched};
 ghost use Rattle.question.specs.Subset.{someProper};
@@ -19,46 +19,33 @@ fn is_marked(work: &[u8], t: u64, top: u64) -> bool
 }
 
 // Whether a setting below `top` explains that is `base` plus a subset of `rest`; the digits of `rest` belong to the
-// causes from `atom` on, and its lowest counts `weight`.
-fn some_subset(
-    work: &[u8],
-    causes: u64,
-    atom: u32,
-    weight: u64,
-    base: u64,
-    rest: u64,
-    top: u64,
-) -> bool
+// causes left, and its lowest counts `weight`. A digit is kept before it is dropped: large subsets come first.
+fn some_subset(work: &[u8], left: u64, weight: u64, base: u64, rest: u64, top: u64) -> bool
     requires { ⌜ Searched (now work) weight base rest top ⌝ }
     ensures { λ r. ⌜ r ≡ someSubset (markedBelow (now (work .entry)) top)
-        (choicesFor (atomsFrom causes atom (64 - atom))) weight base rest ⌝ }
+        (choicesFor (atomsIn left)) weight base rest ⌝ }
 {
     if rest == 0 {
         return is_marked(work, base, top);
     }
-    if 64 <= atom {
+    if left == 0 {
         return is_marked(work, base, top);
     }
-    let cause = words::test(causes, atom);
-    if !cause {
-        return some_subset(work, causes, atom + 1, weight, base, rest, top);
-    }
-    if some_subset(work, causes, atom + 1, weight * 3, base, rest / 3, top) {
-        return true;
-    }
+    let others = words::without(left, words::lowest_bit(left));
     let digit = rest % 3;
-    if digit == 0 {
-        return false;
+    if digit != 0 {
+        if some_subset(
+            work,
+            others,
+            weight * 3,
+            base + weight * digit,
+            rest / 3,
+            top,
+        ) {
+            return true;
+        }
     }
-    some_subset(
-        work,
-        causes,
-        atom + 1,
-        weight * 3,
-        base + weight * digit,
-        rest / 3,
-        top,
-    )
+    some_subset(work, others, weight * 3, base, rest / 3, top)
 }
 
 // Whether a proper subset of a setting explains, by the bytes of the settings below it.
@@ -66,5 +53,5 @@ pub fn some_proper(work: &[u8], causes: u64, setting: u64) -> bool
     requires { ⌜ (setting ≤ length (now work)) × (setting < settingsOf causes) × (settingsOf causes ≤ 59049) ⌝ }
     ensures { λ r. ⌜ r ≡ someProper (markedIn (now (work .entry))) (choicesFor (atomsIn causes)) setting ⌝ }
 {
-    some_subset(work, causes, 0, 1, 0, setting, setting)
+    some_subset(work, causes, 1, 0, setting, setting)
 }
