@@ -16,7 +16,7 @@ use lib.ListN.{length}
 use Rattle.settle.specs.declared.operation.Answer as settled
 use Rattle.settle.specs.Operation.{SettledOne}
 use Rattle.reader.specs.declared.read.Answer as found
-use Rattle.reader.specs.Lent.{Lent}
+use Rattle.store.specs.Lent.{Lent}
 use Rattle.reader.specs.Operation.{ReadAs}
 use Rattle.question.specs.declared.operation.Answer as asked
 use Rattle.question.specs.Operation.{Asked}

@@ -5,7 +5,7 @@ ghost use mathlib.Core.Path.{_≡_};
 ghost use Prim.Native.Nat.{_≤_};
 ghost use lib.ListN.{length};
 ghost use Rattle.question.specs.Walk.{verdictNumber};
-ghost use Rattle.reader.specs.Lent.{lent};
+ghost use Rattle.store.specs.Lent.{lent};
 ghost use Rattle.embed.specs.Words.{caseWords, caseIn, answered};
 ghost use Rattle.embed.specs.Operation.{ReadOut, SettleOut, QuestionOut, ReportOut};
 use program::case::Case;

@@ -3,41 +3,41 @@
 use mathlib.Core.Path.{_≡_, refl, sym, ap, _∙_, subst}
 use mathlib.Core.Bool.{Bool, true, false, true≢false}
 use mathlib.Core.List.{List, [], _∷_}
+use mathlib.Core.Option.{Option}
 use Prim.Native.Nat.{ℕ, zero, suc, _≤_}
 use native.Mathlib.Omega.{arith}
 use lib.ListN.{length, drop}
+use Rattle.text.specs.Choice.{pick}
 use Rattle.text.specs.Tokens.{Token, tokens}
-use Rattle.text.specs.Bytes.{sameBytes}
-use Rattle.grammar.specs.Keyword.{pickNumber, kindOf}
-use Rattle.grammar.specs.Sentence.{Sentence, Item, Items, isName, withItem, itemsOf}
-use Rattle.grammar.specs.Line.{Line, Literal, Literals, literalsOf, withBody, withOnly}
-use Rattle.grammar.specs.Line.{pickLine, isEnd, named, withFormula, withItems, lineOf}
-use Rattle.grammar.specs.Parsing.{beginsFormula, endsItems, closedAmong, literalsAmong, bodyIn}
-use Rattle.grammar.specs.Parsing.{LiteralsAt, BodyFound, BodyMakes, SeenMakes}
-use Rattle.grammar.specs.Parsing.{FormulaAt, QueryMakes, endsLine, FormIs, FormAfter, FormFound}
+use Rattle.formulas.specs.Parsing.{Items, beginsFormula, closedAmong, FormulaAt}
+use Rattle.formulas.specs.Sentence.{prepend, Sentence, Item, isName, itemsOf, withFirst}
+use Rattle.formulas.specs.Keyword.{kindOf}
+use Rattle.formulas.proofs.Firsts.{Filled, nameFirst, Unnamed, Unclosed, token-filled}
+use Rattle.grammar.specs.Line.{Line, Literal, literalsOf, withBody, withOnly, isEnd, named, withItems, lineOf}
+use Rattle.grammar.specs.Parsing.{endsItems, literalsAmong, bodyIn, LiteralsAt, BodyFound, BodyMakes, SeenMakes}
+use Rattle.grammar.specs.Parsing.{QueryMakes, endsLine, FormIs, FormAfter, FormFound}
 use Rattle.grammar.specs.declared.literal.Run.{Run}
 use Rattle.grammar.specs.declared.line.Form.{Form}
 use Rattle.grammar.specs.declared.line.Form.the-variants.{NoForm}
-use Rattle.grammar.proofs.Firsts.{Filled, nameFirst, Unnamed, Unclosed, token-filled}
 
 -- the line's closing bracket is all that is left
-unclosed-ends : (x : Items) → closedAmong (Sentence.name []) x ≡ Items.none → endsItems x ≡ false
-unclosed-ends Items.none h = refl
-unclosed-ends (Items.items []) h = refl
-unclosed-ends (Items.items (Item.closing ∷ l)) h = absurd (let z : _≡_ {A = ℕ} 0 1 = cc in omega arith)
-unclosed-ends (Items.items (Item.formula f ∷ l)) h = refl
+unclosed-ends : (x : Items) → closedAmong (Sentence.name []) x ≡ Option.none → endsItems x ≡ false
+unclosed-ends Option.none h = refl
+unclosed-ends (Option.some []) h = refl
+unclosed-ends (Option.some (Item.closing ∷ l)) h = absurd (let z : _≡_ {A = ℕ} 0 1 = cc in omega arith)
+unclosed-ends (Option.some (Item.formula f ∷ l)) h = refl
 
-closing-filled : (x : Items) → Filled x → endsItems (withItem Item.closing x) ≡ false
-closing-filled Items.none h = refl
-closing-filled (Items.items []) h = absurd h
-closing-filled (Items.items (i ∷ l)) h = refl
+closing-filled : (x : Items) → Filled x → endsItems (prepend Item.closing x) ≡ false
+closing-filled Option.none h = refl
+closing-filled (Option.some []) h = absurd h
+closing-filled (Option.some (i ∷ l)) h = refl
 
-pub ends-is : (x : Items) → endsItems x ≡ true → x ≡ Items.items (Item.closing ∷ [])
-ends-is Items.none h = absurd (true≢false (sym h))
-ends-is (Items.items []) h = absurd (true≢false (sym h))
-ends-is (Items.items (Item.formula f ∷ l)) h = absurd (true≢false (sym h))
-ends-is (Items.items (Item.closing ∷ [])) h = refl
-ends-is (Items.items (Item.closing ∷ (i ∷ l))) h = absurd (true≢false (sym h))
+pub ends-is : (x : Items) → endsItems x ≡ true → x ≡ Option.some (Item.closing ∷ [])
+ends-is Option.none h = absurd (true≢false (sym h))
+ends-is (Option.some []) h = absurd (true≢false (sym h))
+ends-is (Option.some (Item.formula f ∷ l)) h = absurd (true≢false (sym h))
+ends-is (Option.some (Item.closing ∷ [])) h = refl
+ends-is (Option.some (Item.closing ∷ (i ∷ l))) h = absurd (true≢false (sym h))
 
 pub ends-unclosed : {ts : List Token} → Unclosed ts → endsItems (itemsOf ts) ≡ false
 ends-unclosed {ts} h = unclosed-ends (itemsOf ts) (h .unclosed (Sentence.name []))
@@ -52,7 +52,7 @@ module _ {ts us : List Token} (e : ts ≡ Token.closing ∷ us) where
   ends-more {t} {vs} f = rw (e, f) (closing-filled (itemsOf (t ∷ vs)) (token-filled t vs))
 
 -- the lines of a kind
-pick-same : (b : Bool) (x : Line) → pickLine b x x ≡ x
+pick-same : (b : Bool) (x : Line) → pick b x x ≡ x
 pick-same true x = refl
 pick-same false x = refl
 
@@ -60,49 +60,49 @@ pick-same false x = refl
 unnamed-line : (line : Sentence → List Item → Line)
     → ((f : Sentence) (m : List Item) → line (Sentence.negation f) m ≡ Line.noForm)
     → ((k : ℕ) (f g : Sentence) (m : List Item) → line (Sentence.joined k f g) m ≡ Line.noForm)
-    → (l : List Item) → nameFirst (Items.items l) ≡ false → withFormula line l ≡ Line.noForm
+    → (l : List Item) → nameFirst (Option.some l) ≡ false → withFirst Line.noForm line l ≡ Line.noForm
 unnamed-line line a b [] h = refl
 unnamed-line line a b (Item.closing ∷ l) h = refl
 unnamed-line line a b (Item.formula (Sentence.name w) ∷ l) h = absurd (true≢false h)
 unnamed-line line a b (Item.formula (Sentence.negation f) ∷ l) h = a f l
 unnamed-line line a b (Item.formula (Sentence.joined k f g) ∷ l) h = b k f g l
 
-unnamed-end : (line : List ℕ → Line) (l : List Item) → nameFirst (Items.items l) ≡ false
-    → withFormula (λ f m. pickLine (isEnd m) (named line f) Line.noForm) l ≡ Line.noForm
+unnamed-end : (line : List ℕ → Line) (l : List Item) → nameFirst (Option.some l) ≡ false
+    → withFirst Line.noForm (λ f m. pick (isEnd m) (named line f) Line.noForm) l ≡ Line.noForm
 unnamed-end line l h =
-    unnamed-line (λ f m. pickLine (isEnd m) (named line f) Line.noForm) (λ f m. pick-same (isEnd m) Line.noForm)
+    unnamed-line (λ f m. pick (isEnd m) (named line f) Line.noForm) (λ f m. pick-same (isEnd m) Line.noForm)
     (λ k f g m. pick-same (isEnd m) Line.noForm) l h
 
 unnamed : (k : ℕ) (x : Items) → 1 ≤ k → k ≤ 3 → nameFirst x ≡ false → withItems k x ≡ Line.noForm
-unnamed k Items.none a b h = refl
-unnamed zero (Items.items l) a b h = absurd (omega arith)
-unnamed (suc zero) (Items.items l) a b h = unnamed-end Line.fact l h
-unnamed (suc (suc zero)) (Items.items l) a b h = unnamed-end Line.assumption l h
-unnamed (suc (suc (suc zero))) (Items.items l) a b h =
-    unnamed-line (λ f m. named (λ w. withBody (Line.rule w) (literalsOf m)) f) (λ f m. refl) (λ k f g m. refl) l h
-unnamed (suc (suc (suc (suc k)))) (Items.items l) a b h = absurd (omega arith)
+unnamed k Option.none a b h = refl
+unnamed zero (Option.some l) a b h = absurd (omega arith)
+unnamed (suc zero) (Option.some l) a b h = unnamed-end (λ w. Line.clause 0 w []) l h
+unnamed (suc (suc zero)) (Option.some l) a b h = unnamed-end (λ w. Line.clause 1 w []) l h
+unnamed (suc (suc (suc zero))) (Option.some l) a b h =
+    unnamed-line (λ f m. named (λ w. withBody (Line.clause 2 w) (literalsOf m)) f) (λ f m. refl) (λ k f g m. refl) l h
+unnamed (suc (suc (suc (suc k)))) (Option.some l) a b h = absurd (omega arith)
 
 pub kind-unnamed : {ts : List Token} (k : ℕ) → 1 ≤ k → k ≤ 3 → Unnamed ts → withItems k (itemsOf ts) ≡ Line.noForm
 kind-unnamed {ts} k a b h = unnamed k (itemsOf ts) a b (h .unnamed)
 
 -- a name in front of items
 fact-line : (w : List ℕ) (x : Items)
-    → withItems 1 (withItem (Item.formula (Sentence.name w)) x) ≡ pickLine (endsItems x) (Line.fact w) Line.noForm
-fact-line w Items.none = refl
-fact-line w (Items.items l) = refl
+    → withItems 1 (prepend (Item.formula (Sentence.name w)) x) ≡ pick (endsItems x) (Line.clause 0 w []) Line.noForm
+fact-line w Option.none = refl
+fact-line w (Option.some l) = refl
 
 assumption-line : (w : List ℕ) (x : Items)
-    → withItems 2 (withItem (Item.formula (Sentence.name w)) x) ≡ pickLine (endsItems x) (Line.assumption w) Line.noForm
-assumption-line w Items.none = refl
-assumption-line w (Items.items l) = refl
+    → withItems 2 (prepend (Item.formula (Sentence.name w)) x) ≡ pick (endsItems x) (Line.clause 1 w []) Line.noForm
+assumption-line w Option.none = refl
+assumption-line w (Option.some l) = refl
 
 rule-line : (w : List ℕ) (x : Items)
-    → withItems 3 (withItem (Item.formula (Sentence.name w)) x) ≡ withBody (Line.rule w) (literalsAmong x)
-rule-line w Items.none = refl
-rule-line w (Items.items l) = refl
+    → withItems 3 (prepend (Item.formula (Sentence.name w)) x) ≡ withBody (Line.clause 2 w) (literalsAmong x)
+rule-line w Option.none = refl
+rule-line w (Option.some l) = refl
 
 unended : (k : ℕ) (w : List ℕ) (x : Items) → 1 ≤ k → k ≤ 2 → endsItems x ≡ false
-    → withItems k (withItem (Item.formula (Sentence.name w)) x) ≡ Line.noForm
+    → withItems k (prepend (Item.formula (Sentence.name w)) x) ≡ Line.noForm
 unended zero w x a b h = absurd (omega arith)
 unended (suc zero) w x a b h = fact-line w x ∙ rw h
 unended (suc (suc zero)) w x a b h = assumption-line w x ∙ rw h
@@ -113,30 +113,30 @@ module _ {ts us : List Token} {w : List ℕ} (e : ts ≡ Token.word w ∷ us) (n
   unfolding itemsOf
   kind-unended a b h = rw (e, n) (unended k w (itemsOf us) a b h)
 
-  pub kind-fact : k ≡ 1 → endsItems (itemsOf us) ≡ true → withItems k (itemsOf ts) ≡ Line.fact w
+  pub kind-fact : k ≡ 1 → endsItems (itemsOf us) ≡ true → withItems k (itemsOf ts) ≡ Line.clause 0 w []
   unfolding itemsOf
   kind-fact d h = rw (d, e, n) (fact-line w (itemsOf us) ∙ rw h)
 
-  pub kind-assumption : k ≡ 2 → endsItems (itemsOf us) ≡ true → withItems k (itemsOf ts) ≡ Line.assumption w
+  pub kind-assumption : k ≡ 2 → endsItems (itemsOf us) ≡ true → withItems k (itemsOf ts) ≡ Line.clause 1 w []
   unfolding itemsOf
   kind-assumption d h = rw (d, e, n) (assumption-line w (itemsOf us) ∙ rw h)
 
 -- a rule, a constraint and a reading by their literals
 pub rule-is : {ts us : List Token} {w : List ℕ} → ts ≡ Token.word w ∷ us → isName w ≡ true
-    → withItems 3 (itemsOf ts) ≡ withBody (Line.rule w) (bodyIn us)
+    → withItems 3 (itemsOf ts) ≡ withBody (Line.clause 2 w) (bodyIn us)
 unfolding itemsOf
 rule-is {ts} {us} {w} e n = rw (e, n) (rule-line w (itemsOf us))
 
 never-line : (x : Items) → withItems 4 x ≡ withBody Line.never (literalsAmong x)
-never-line Items.none = refl
-never-line (Items.items l) = refl
+never-line Option.none = refl
+never-line (Option.some l) = refl
 
 pub never-is : (ts : List Token) → withItems 4 (itemsOf ts) ≡ withBody Line.never (bodyIn ts)
 never-is ts = never-line (itemsOf ts)
 
 seen-line : (x : Items) → withItems 5 x ≡ withOnly Line.seen (literalsAmong x)
-seen-line Items.none = refl
-seen-line (Items.items l) = refl
+seen-line Option.none = refl
+seen-line (Option.some l) = refl
 
 pub seen-is : (ts : List Token) → withItems 5 (itemsOf ts) ≡ withOnly Line.seen (bodyIn ts)
 seen-is ts = seen-line (itemsOf ts)
@@ -146,16 +146,16 @@ pub body-as : (l : List ℕ) (at : ℕ) {r q : Run} → BodyFound l at r → r �
 body-as l at f e = subst (BodyFound l at) e f
 
 empty-body : (line : List Literal → Line) (ls : List Literal) → length ls ≡ 0
-    → withBody line (Literals.literals ls) ≡ Line.noForm
+    → withBody line (Option.some ls) ≡ Line.noForm
 empty-body line [] h = refl
 empty-body line (x ∷ ls) h = absurd (omega arith)
 
 filled-body : (line : List Literal → Line) (ls : List Literal) → (length ls ≡ 0 → ⊥)
-    → withBody line (Literals.literals ls) ≡ line ls
+    → withBody line (Option.some ls) ≡ line ls
 filled-body line [] h = absurd (h refl)
 filled-body line (x ∷ ls) h = refl
 
-other-only : (ls : List Literal) → (length ls ≡ 1 → ⊥) → withOnly Line.seen (Literals.literals ls) ≡ Line.noForm
+other-only : (ls : List Literal) → (length ls ≡ 1 → ⊥) → withOnly Line.seen (Option.some ls) ≡ Line.noForm
 other-only [] h = refl
 other-only (x ∷ []) h = absurd (h refl)
 other-only (x ∷ (y ∷ ls)) h = refl
@@ -185,20 +185,20 @@ module _ {l : List ℕ} {at n : ℕ} (b : LiteralsAt l at n) where
   pub only-one : (x : Line) → x ≡ withOnly Line.seen (bodyIn (tokens (drop at l))) → n ≡ 1 → SeenMakes l at x
   only-one x e h =
       let o = one-only (b .literals) (sym (b .count-is) ∙ h) in
-      let f = b .literals-are ∙ ap Literals.literals (o .1) in
+      let f = b .literals-are ∙ ap Option.some (o .1) in
       record { reading = o .0; literals-are = f; line-is = e ∙ ap (withOnly Line.seen) f }
 
 -- a query
 query-line : (f : Sentence) (x : Items)
-    → withItems 6 (withItem (Item.formula f) x) ≡ pickLine (endsItems x) (Line.query f) Line.noForm
-query-line f Items.none = refl
-query-line f (Items.items l) = refl
+    → withItems 6 (prepend (Item.formula f) x) ≡ pick (endsItems x) (Line.query f) Line.noForm
+query-line f Option.none = refl
+query-line f (Option.some l) = refl
 
 none-line : (x : Items) → beginsFormula x ≡ false → withItems 6 x ≡ Line.noForm
-none-line Items.none h = refl
-none-line (Items.items []) h = refl
-none-line (Items.items (Item.closing ∷ l)) h = refl
-none-line (Items.items (Item.formula f ∷ l)) h = absurd (true≢false h)
+none-line Option.none h = refl
+none-line (Option.some []) h = refl
+none-line (Option.some (Item.closing ∷ l)) h = refl
+none-line (Option.some (Item.formula f ∷ l)) h = absurd (true≢false h)
 
 pub query-none : (ts : List Token) → beginsFormula (itemsOf ts) ≡ false → withItems 6 (itemsOf ts) ≡ Line.noForm
 query-none ts h = none-line (itemsOf ts) h
@@ -209,28 +209,14 @@ module _ {l : List ℕ} {at next d : ℕ} (q : FormulaAt l at next d) where
 
   pub query-ended : endsLine l next ≡ true → QueryMakes l at d (withItems 6 (itemsOf (tokens (drop at l))))
   query-ended h =
-      let e = ap (withItem (Item.formula (q .sentence))) (ends-is (itemsOf (tokens (drop next l))) h) in
+      let e = ap (prepend (Item.formula (q .sentence))) (ends-is (itemsOf (tokens (drop next l))) h) in
       let f = q .items-are ∙ e in
       record { sentence = q .sentence; items-are = f; depth-is = q .depth-is; line-is = ap (withItems 6) f }
 
--- the kinds
-picked-le : (b : Bool) (x y n : ℕ) → x ≤ n → y ≤ n → pickNumber b x y ≤ n
-picked-le true x y n h k = h
-picked-le false x y n h k = k
-
-pub kind-le : (w : List ℕ) → kindOf w ≤ 6
-unfolding kindOf
-kind-le w =
-    picked-le (sameBytes w (116 ∷ 114 ∷ 117 ∷ 101 ∷ [])) 1 _ 6 (omega arith)
-    (picked-le (sameBytes w (102 ∷ 97 ∷ 108 ∷ 115 ∷ 101 ∷ [])) 2 _ 6 (omega arith)
-    (picked-le (sameBytes w (105 ∷ 102 ∷ [])) 3 _ 6 (omega arith)
-    (picked-le (sameBytes w (110 ∷ 101 ∷ 118 ∷ 101 ∷ 114 ∷ [])) 4 _ 6 (omega arith)
-    (picked-le (sameBytes w (115 ∷ 101 ∷ 101 ∷ 110 ∷ [])) 5 _ 6 (omega arith)
-    (picked-le (sameBytes w (113 ∷ 117 ∷ 101 ∷ 114 ∷ 121 ∷ [])) 6 0 6 (omega arith) (omega arith))))))
-
+-- no kind
 zero-line : (x : Items) → withItems 0 x ≡ Line.noForm
-zero-line Items.none = refl
-zero-line (Items.items l) = refl
+zero-line Option.none = refl
+zero-line (Option.some l) = refl
 
 pub form-as : {l : List ℕ} {at k j : ℕ} {r : Form} → FormAfter l at k r → j ≡ k → FormAfter l at j r
 form-as {l} {at} {r = r} f e = subst (λ k. FormAfter l at k r) (sym e) f

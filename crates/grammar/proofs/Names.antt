@@ -6,15 +6,18 @@
 use mathlib.Core.Path.{_≡_, refl, subst}
 use mathlib.Core.Bool.{Bool, true, false}
 use mathlib.Core.List.{List, [], _∷_}
+use mathlib.Core.Option.{Option}
 use Prim.Native.Nat.{ℕ, zero, suc}
+use Rattle.text.specs.Choice.{pick}
 use Rattle.text.specs.Tokens.{Token}
-use Rattle.grammar.specs.Keyword.{kindOf}
-use Rattle.grammar.specs.Sentence.{Sentence, Item, Items, itemsOf}
-use Rattle.grammar.specs.Line.{Literal, Line, Literals, withLiteral, withSentence, literalsOf, withBody, withOnly}
-use Rattle.grammar.specs.Line.{pickLine, isEnd, named, ofKind, withItems, lineOf}
+use Rattle.formulas.specs.Parsing.{Items}
+use Rattle.formulas.specs.Sentence.{prepend, Sentence, Item, itemsOf}
+use Rattle.formulas.specs.Keyword.{kindOf}
+use Rattle.formulas.proofs.Sentences.{EachName}
+use Rattle.formulas.proofs.Items.{EachWord, EachFormula, items-names}
+use Rattle.grammar.specs.Line.{Literal, Line, withSentence, literalsOf, withBody, withOnly, isEnd, named, ofKind}
+use Rattle.grammar.specs.Line.{withItems, lineOf}
 use Rattle.grammar.specs.Parsing.{literalsAmong, bodyIn}
-use Rattle.grammar.proofs.Sentences.{EachName}
-use Rattle.grammar.proofs.Items.{EachWord, EachFormula, items-names}
 
 abbrev pub EachLiteral : (List ℕ → Type 0) → List Literal → Type 0
 EachLiteral P [] = Unit {0}
@@ -23,23 +26,22 @@ EachLiteral P (Literal.literal b w ∷ ls) = P w × EachLiteral P ls
 abbrev pub EachOfLine : (List ℕ → Type 0) → Line → Type 0
 EachOfLine P Line.skipped = Unit {0}
 EachOfLine P Line.noForm = Unit {0}
-EachOfLine P (Line.fact w) = P w
-EachOfLine P (Line.assumption w) = P w
-EachOfLine P (Line.rule w ls) = P w × EachLiteral P ls
+EachOfLine P (Line.clause k w ls) = P w × EachLiteral P ls
 EachOfLine P (Line.never ls) = EachLiteral P ls
 EachOfLine P (Line.seen (Literal.literal b w)) = P w
 EachOfLine P (Line.query f) = EachName P f
 
 module _ (P : List ℕ → Type 0) where
-  abbrev Each : Literals → Type 0
-  Each Literals.none = Unit {0}
-  Each (Literals.literals ls) = EachLiteral P ls
+  abbrev Each : Option (List Literal) → Type 0
+  Each Option.none = Unit {0}
+  Each (Option.some ls) = EachLiteral P ls
 
-  literal-each : (b : Bool) (w : List ℕ) (x : Literals) → P w → Each x → Each (withLiteral (Literal.literal b w) x)
-  literal-each b w Literals.none p h = tt
-  literal-each b w (Literals.literals ls) p h = (p, h)
+  literal-each : (b : Bool) (w : List ℕ) (x : Option (List Literal)) → P w → Each x
+      → Each (prepend (Literal.literal b w) x)
+  literal-each b w Option.none p h = tt
+  literal-each b w (Option.some ls) p h = (p, h)
 
-  sentence-each : (f : Sentence) (x : Literals) → EachName P f → Each x → Each (withSentence f x)
+  sentence-each : (f : Sentence) (x : Option (List Literal)) → EachName P f → Each x → Each (withSentence f x)
   sentence-each (Sentence.name w) x p h = literal-each false w x p h
   sentence-each (Sentence.negation (Sentence.name w)) x p h = literal-each true w x p h
   sentence-each (Sentence.negation (Sentence.negation f)) x p h = tt
@@ -54,31 +56,31 @@ module _ (P : List ℕ → Type 0) where
   literals-each (Item.formula f ∷ m) h = sentence-each f (literalsOf m) (h .0) (literals-each m (h .1))
 
   among-each : (ts : List Token) (x : Items) → itemsOf ts ≡ x → EachWord P false ts → Each (literalsAmong x)
-  among-each ts Items.none e h = tt
-  among-each ts (Items.items m) e h = literals-each m (items-names P ts m e h)
+  among-each ts Option.none e h = tt
+  among-each ts (Option.some m) e h = literals-each m (items-names P ts m e h)
 
-  pub literal-names : (ts : List Token) (ls : List Literal) → bodyIn ts ≡ Literals.literals ls → EachWord P false ts
+  pub literal-names : (ts : List Token) (ls : List Literal) → bodyIn ts ≡ Option.some ls → EachWord P false ts
       → EachLiteral P ls
   literal-names ts ls e h = subst Each e (among-each ts (itemsOf ts) refl h)
 
   -- the lines of a kind
-  never-each : (x : Literals) → Each x → EachOfLine P (withBody Line.never x)
-  never-each Literals.none h = tt
-  never-each (Literals.literals []) h = tt
-  never-each (Literals.literals (a ∷ ls)) h = h
+  never-each : (x : Option (List Literal)) → Each x → EachOfLine P (withBody Line.never x)
+  never-each Option.none h = tt
+  never-each (Option.some []) h = tt
+  never-each (Option.some (a ∷ ls)) h = h
 
-  rule-each : (w : List ℕ) (x : Literals) → P w → Each x → EachOfLine P (withBody (Line.rule w) x)
-  rule-each w Literals.none p h = tt
-  rule-each w (Literals.literals []) p h = tt
-  rule-each w (Literals.literals (a ∷ ls)) p h = (p, h)
+  rule-each : (w : List ℕ) (x : Option (List Literal)) → P w → Each x → EachOfLine P (withBody (Line.clause 2 w) x)
+  rule-each w Option.none p h = tt
+  rule-each w (Option.some []) p h = tt
+  rule-each w (Option.some (a ∷ ls)) p h = (p, h)
 
-  seen-each : (x : Literals) → Each x → EachOfLine P (withOnly Line.seen x)
-  seen-each Literals.none h = tt
-  seen-each (Literals.literals []) h = tt
-  seen-each (Literals.literals (Literal.literal b w ∷ [])) h = h .0
-  seen-each (Literals.literals (a ∷ (b ∷ ls))) h = tt
+  seen-each : (x : Option (List Literal)) → Each x → EachOfLine P (withOnly Line.seen x)
+  seen-each Option.none h = tt
+  seen-each (Option.some []) h = tt
+  seen-each (Option.some (Literal.literal b w ∷ [])) h = h .0
+  seen-each (Option.some (a ∷ (b ∷ ls))) h = tt
 
-  picked-each : (b : Bool) (x : Line) → EachOfLine P x → EachOfLine P (pickLine b x Line.noForm)
+  picked-each : (b : Bool) (x : Line) → EachOfLine P x → EachOfLine P (pick b x Line.noForm)
   picked-each true x h = h
   picked-each false x h = tt
 
@@ -93,16 +95,18 @@ module _ (P : List ℕ → Type 0) where
   kind-each (suc zero) [] h = tt
   kind-each (suc zero) (Item.closing ∷ m) h = tt
   kind-each (suc zero) (Item.formula f ∷ m) h =
-      picked-each (isEnd m) (named Line.fact f) (named-each Line.fact f (λ w p. p) (h .0))
+      picked-each (isEnd m) (named (λ w. Line.clause 0 w []) f)
+      (named-each (λ w. Line.clause 0 w []) f (λ w p. (p, tt)) (h .0))
   kind-each (suc (suc zero)) [] h = tt
   kind-each (suc (suc zero)) (Item.closing ∷ m) h = tt
   kind-each (suc (suc zero)) (Item.formula f ∷ m) h =
-      picked-each (isEnd m) (named Line.assumption f) (named-each Line.assumption f (λ w p. p) (h .0))
+      picked-each (isEnd m) (named (λ w. Line.clause 1 w []) f)
+      (named-each (λ w. Line.clause 1 w []) f (λ w p. (p, tt)) (h .0))
   kind-each (suc (suc (suc zero))) [] h = tt
   kind-each (suc (suc (suc zero))) (Item.closing ∷ m) h = tt
   kind-each (suc (suc (suc zero))) (Item.formula f ∷ m) h =
       let body = literals-each m (h .1) in
-      named-each (λ w. withBody (Line.rule w) (literalsOf m)) f (λ w p. rule-each w (literalsOf m) p body) (h .0)
+      named-each (λ w. withBody (Line.clause 2 w) (literalsOf m)) f (λ w p. rule-each w (literalsOf m) p body) (h .0)
   kind-each (suc (suc (suc (suc zero)))) m h = never-each (literalsOf m) (literals-each m h)
   kind-each (suc (suc (suc (suc (suc zero))))) m h = seen-each (literalsOf m) (literals-each m h)
   kind-each (suc (suc (suc (suc (suc (suc k)))))) [] h = tt
@@ -112,8 +116,8 @@ module _ (P : List ℕ → Type 0) where
 
   items-each : (k : ℕ) (ts : List Token) (x : Items) → itemsOf ts ≡ x → EachWord P false ts
       → EachOfLine P (withItems k x)
-  items-each k ts Items.none e h = tt
-  items-each k ts (Items.items m) e h = kind-each k m (items-names P ts m e h)
+  items-each k ts Option.none e h = tt
+  items-each k ts (Option.some m) e h = kind-each k m (items-names P ts m e h)
 
   pub line-names : (ts : List Token) → EachWord P false ts → EachOfLine P (lineOf ts)
   unfolding lineOf EachWord

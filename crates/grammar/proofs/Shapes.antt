@@ -2,50 +2,59 @@
 -- has tokens.
 --
 --   Bodied ls       there is a literal
+--   ClauseShaped k  the literals of a clause of kind k are as many as it takes
 --   Shaped n x      the bodies of the line x have a literal, its query at most n / 2 nodes
 -- Assumes nothing.
 use mathlib.Core.Path.{_≡_, refl, ap, _∙_}
 use mathlib.Core.Bool.{Bool, true, false}
 use mathlib.Core.List.{List, [], _∷_}
+use mathlib.Core.Option.{Option}
 use Prim.Native.Nat.{ℕ, zero, suc, _*_, _≤_}
 use native.Mathlib.Omega.{arith}
 use lib.ListN.{length}
+use Rattle.text.specs.Choice.{pick}
 use Rattle.text.specs.Tokens.{Token}
-use Rattle.grammar.specs.Keyword.{kindOf}
-use Rattle.grammar.specs.Sentence.{Sentence, Item, Items, itemsOf}
-use Rattle.grammar.specs.Line.{Literal, Line, Literals, literalsOf, withBody, withOnly, pickLine, isEnd, named}
-use Rattle.grammar.specs.Line.{withFormula, ofKind, withItems, lineOf}
-use Rattle.grammar.specs.Parsing.{sizeOf}
-use Rattle.grammar.proofs.Sizes.{formula-size}
+use Rattle.formulas.specs.Parsing.{Items, sizeOf}
+use Rattle.formulas.specs.Keyword.{kindOf}
+use Rattle.formulas.specs.Sentence.{Sentence, Item, itemsOf, withFirst}
+use Rattle.formulas.proofs.Sizes.{formula-size}
+use Rattle.grammar.specs.Line.{Literal, Line, literalsOf, withBody, withOnly, isEnd, named, ofKind, withItems}
+use Rattle.grammar.specs.Line.{lineOf}
 
 abbrev pub Bodied : List Literal → Type 0
 Bodied [] = ⊥
 Bodied (x ∷ ls) = Unit {0}
 
+-- a fact and an assumption have no literal, a rule has one
+abbrev pub ClauseShaped : ℕ → List Literal → Type 0
+ClauseShaped zero ls = ls ≡ []
+ClauseShaped (suc zero) ls = ls ≡ []
+ClauseShaped (suc (suc zero)) ls = Bodied ls
+ClauseShaped (suc (suc (suc k))) ls = ⊥
+
 abbrev pub Shaped : ℕ → Line → Type 0
 Shaped n Line.skipped = Unit {0}
 Shaped n Line.noForm = Unit {0}
-Shaped n (Line.fact w) = Unit {0}
-Shaped n (Line.assumption w) = Unit {0}
-Shaped n (Line.rule w ls) = Bodied ls
+Shaped n (Line.clause k w ls) = ClauseShaped k ls
 Shaped n (Line.never ls) = Bodied ls
 Shaped n (Line.seen x) = Unit {0}
 Shaped n (Line.query f) = 2 * sizeOf f ≤ n
 
 module _ (n : ℕ) where
-  body-shaped : (line : List Literal → Line) (x : Literals) → ((ls : List Literal) → Bodied ls → Shaped n (line ls))
+  body-shaped : (line : List Literal → Line) (x : Option (List Literal))
+      → ((ls : List Literal) → Bodied ls → Shaped n (line ls))
       → Shaped n (withBody line x)
-  body-shaped line Literals.none h = tt
-  body-shaped line (Literals.literals []) h = tt
-  body-shaped line (Literals.literals (a ∷ ls)) h = h (a ∷ ls) tt
+  body-shaped line Option.none h = tt
+  body-shaped line (Option.some []) h = tt
+  body-shaped line (Option.some (a ∷ ls)) h = h (a ∷ ls) tt
 
-  seen-shaped : (x : Literals) → Shaped n (withOnly Line.seen x)
-  seen-shaped Literals.none = tt
-  seen-shaped (Literals.literals []) = tt
-  seen-shaped (Literals.literals (a ∷ [])) = tt
-  seen-shaped (Literals.literals (a ∷ (b ∷ ls))) = tt
+  seen-shaped : (x : Option (List Literal)) → Shaped n (withOnly Line.seen x)
+  seen-shaped Option.none = tt
+  seen-shaped (Option.some []) = tt
+  seen-shaped (Option.some (a ∷ [])) = tt
+  seen-shaped (Option.some (a ∷ (b ∷ ls))) = tt
 
-  picked-shaped : (b : Bool) (x : Line) → Shaped n x → Shaped n (pickLine b x Line.noForm)
+  picked-shaped : (b : Bool) (x : Line) → Shaped n x → Shaped n (pick b x Line.noForm)
   picked-shaped true x h = h
   picked-shaped false x h = tt
 
@@ -59,7 +68,8 @@ module _ (n : ℕ) where
   First m = (f : Sentence) (l : List Item) → m ≡ Item.formula f ∷ l → 2 * sizeOf f ≤ n
 
   formula-shaped : (line : Sentence → List Item → Line) (m : List Item) → First m
-      → ((f : Sentence) (l : List Item) → 2 * sizeOf f ≤ n → Shaped n (line f l)) → Shaped n (withFormula line m)
+      → ((f : Sentence) (l : List Item) → 2 * sizeOf f ≤ n → Shaped n (line f l))
+      → Shaped n (withFirst Line.noForm line m)
   formula-shaped line [] s h = tt
   formula-shaped line (Item.closing ∷ m) s h = tt
   formula-shaped line (Item.formula f ∷ m) s h = h f m (s f m refl)
@@ -67,20 +77,20 @@ module _ (n : ℕ) where
   kind-shaped : (k : ℕ) (m : List Item) → First m → Shaped n (ofKind k m)
   kind-shaped zero m s = tt
   kind-shaped (suc zero) m s =
-      formula-shaped _ m s (λ f l _. picked-shaped (isEnd l) _ (named-shaped Line.fact f (λ w. tt)))
+      formula-shaped _ m s (λ f l _. picked-shaped (isEnd l) _ (named-shaped (λ w. Line.clause 0 w []) f (λ w. refl)))
   kind-shaped (suc (suc zero)) m s =
-      formula-shaped _ m s (λ f l _. picked-shaped (isEnd l) _ (named-shaped Line.assumption f (λ w. tt)))
+      formula-shaped _ m s (λ f l _. picked-shaped (isEnd l) _ (named-shaped (λ w. Line.clause 1 w []) f (λ w. refl)))
   kind-shaped (suc (suc (suc zero))) m s =
       formula-shaped _ m s
-      (λ f l _. named-shaped _ f (λ w. body-shaped (Line.rule w) (literalsOf l) (λ ls h. h)))
+      (λ f l _. named-shaped _ f (λ w. body-shaped (Line.clause 2 w) (literalsOf l) (λ ls h. h)))
   kind-shaped (suc (suc (suc (suc zero)))) m s = body-shaped Line.never (literalsOf m) (λ ls h. h)
   kind-shaped (suc (suc (suc (suc (suc zero))))) m s = seen-shaped (literalsOf m)
   kind-shaped (suc (suc (suc (suc (suc (suc k)))))) m s =
       formula-shaped _ m s (λ f l h. picked-shaped (isEnd l) (Line.query f) h)
 
-  items-shaped : (k : ℕ) (x : Items) → ((m : List Item) → x ≡ Items.items m → First m) → Shaped n (withItems k x)
-  items-shaped k Items.none s = tt
-  items-shaped k (Items.items m) s = kind-shaped k m (s m refl)
+  items-shaped : (k : ℕ) (x : Items) → ((m : List Item) → x ≡ Option.some m → First m) → Shaped n (withItems k x)
+  items-shaped k Option.none s = tt
+  items-shaped k (Option.some m) s = kind-shaped k m (s m refl)
 
 pub line-shaped : (ts : List Token) → Shaped (length ts) (lineOf ts)
 unfolding lineOf
@@ -92,4 +102,4 @@ line-shaped (Token.opening ∷ (Token.opening ∷ ts)) = tt
 line-shaped (Token.opening ∷ (Token.closing ∷ ts)) = tt
 line-shaped (Token.opening ∷ (Token.word w ∷ ts)) =
     items-shaped _ (kindOf w) (itemsOf ts)
-    (λ m e f l q. omega (arith, formula-size ts f l (e ∙ ap Items.items q)))
+    (λ m e f l q. omega (arith, formula-size ts f l (e ∙ ap Option.some q)))

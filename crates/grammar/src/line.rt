@@ -3,12 +3,12 @@ ghost use Prim.Native.Nat.{_≤_};
 ghost use mathlib.Core.Path.{_≡_};
 ghost use lib.ListN.{length};
 ghost use Rattle.grammar.specs.Parsing.{FormFound, FormAfter, endsLine};
-use crate::formula::Parse;
-use crate::formula::formula_at;
-use crate::formula::is_name;
-use crate::keyword::kind_of;
 use crate::literal::Run;
 use crate::literal::body;
+use formulas::formula::Parse;
+use formulas::formula::formula_at;
+use formulas::formula::is_name;
+use formulas::keyword::kind_of;
 use text::tokens::Next;
 use text::tokens::token;
 

@@ -13,6 +13,7 @@ use mathlib.Core.List.{List, [], _∷_, _++_}
 use Prim.Native.Nat.{ℕ, zero, suc}
 use lib.Dec.{ltb}
 use lib.ListN.{length}
+use Rattle.text.specs.Choice.{pick}
 use Rattle.text.specs.Bytes.{sameBytes}
 use Rattle.text.specs.Tokens.{Token}
 use Rattle.table.specs.Filled.{padded}
@@ -32,20 +33,12 @@ unfoldable pub someLong : List (List ℕ) → Bool
 someLong [] = false
 someLong (w ∷ ws) = ltb 16 (length w) || someLong ws
 
-abbrev pub pickAtom : Bool → ℕ → ℕ → ℕ
-pickAtom true x y = x
-pickAtom false x y = y
-
 unfoldable pub atomOf : List (List ℕ) → List ℕ → ℕ
 atomOf [] w = 0
-atomOf (n ∷ ns) w = let r = suc (atomOf ns w) in pickAtom (sameBytes n w) 0 r
-
-abbrev pub pickNames : Bool → List (List ℕ) → List (List ℕ) → List (List ℕ)
-pickNames true x y = x
-pickNames false x y = y
+atomOf (n ∷ ns) w = let r = suc (atomOf ns w) in pick (sameBytes n w) 0 r
 
 unfoldable pub withName : List (List ℕ) → List ℕ → List (List ℕ)
-withName ns w = pickNames (ltb (atomOf ns w) (length ns)) ns (ns ++ (w ∷ []))
+withName ns w = pick (ltb (atomOf ns w) (length ns)) ns (ns ++ (w ∷ []))
 
 unfoldable pub withNames : List (List ℕ) → List (List ℕ) → List (List ℕ)
 withNames ns [] = ns

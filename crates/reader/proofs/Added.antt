@@ -1,6 +1,6 @@
 -- What was read stays right with a line that passes its checks, and so is right at the end of an accepted file.
 -- Assumes nothing.
-use mathlib.Core.Path.{_≡_, refl, ap, subst}
+use mathlib.Core.Path.{_≡_, refl, sym, ap, subst, _∙_}
 use mathlib.Core.Bool.{Bool, true, false, not}
 use mathlib.Core.List.{List, [], _∷_}
 use Prim.Native.Nat.{ℕ, zero, suc, _*_, _≤_, _<_}
@@ -8,31 +8,34 @@ use native.Mathlib.Omega.{arith}
 use lib.Dec.{leb}
 use lib.ListN.{length}
 use borrow.Author.Tests.{leb-false, ltb-false, not-false}
-use Rattle.text.specs.Lines.{lines, isComment}
-use Rattle.text.specs.Tokens.{tokens}
 use Rattle.logic.specs.Formula.{Formula}
 use Rattle.program.specs.Sound.{bare, shaped, fewCauses}
+use Rattle.text.specs.Choice.{pick}
+use Rattle.text.specs.Lines.{lines, isComment}
+use Rattle.text.specs.Tokens.{tokens}
+use Rattle.formulas.specs.Sentence.{Sentence}
+use Rattle.formulas.specs.Parsing.{depthOf, sizeOf}
+use Rattle.formulas.proofs.Sentences.{EachName}
+use Rattle.formulas.proofs.Sizes.{tokens-le-bytes}
+use Rattle.grammar.specs.Line.{Line, Literal, lineOf}
+use Rattle.grammar.proofs.Names.{EachLiteral, EachOfLine}
+use Rattle.grammar.proofs.Shapes.{Bodied, ClauseShaped, Shaped, line-shaped}
 use Rattle.names.specs.Names.{namesIn, withNames}
 use Rattle.names.proofs.Adding.{each-found}
-use Rattle.grammar.specs.Sentence.{Sentence, depthOf}
-use Rattle.grammar.specs.Line.{Line, Literal, lineOf}
-use Rattle.grammar.specs.Parsing.{sizeOf}
-use Rattle.grammar.proofs.Sentences.{EachName}
-use Rattle.grammar.proofs.Sizes.{tokens-le-bytes}
-use Rattle.grammar.proofs.Names.{EachLiteral, EachOfLine}
-use Rattle.grammar.proofs.Shapes.{Bodied, Shaped, line-shaped}
-use Rattle.reader.specs.Saying.{ClauseRow, ConstraintRow, Said, nothingSaid, plainAtoms, negatedAtoms, encoded}
-use Rattle.reader.specs.Saying.{clauseRow, constraintRow, renamed, withClause, withConstraint, withObserved}
-use Rattle.reader.specs.Saying.{withQuery, saidBy}
-use Rattle.reader.specs.Checks.{isDeep, isOneTooMany, isSecondQuery, lineRefusal}
-use Rattle.reader.specs.Reading.{Outcome, pickSaid, saidAfter, clauseWords, refuseEnd, ending}
-use Rattle.reader.specs.Reading.{readLines, readFile}
-use Rattle.reader.proofs.Encoded.{Known, encoded-length, encoded-depth, encoded-over}
-use Rattle.reader.proofs.Literals.{or-atoms-lt, plain-lt, negated-lt, none-bare, body-not-bare}
-use Rattle.reader.proofs.LineNames.{names-line, names-named}
-use Rattle.reader.proofs.Passing.{FormPasses, line-passes}
-use Rattle.reader.proofs.Right.{rows-push, Below, ClauseRight, ConstraintRight, QueryRight, Right}
-use Rattle.reader.proofs.Right.{nothing-right, renamed-right}
+use Rattle.store.specs.Saying.{ClauseRow, ConstraintRow, Said, nothingSaid, plainAtoms, negatedAtoms, encoded}
+use Rattle.store.specs.Saying.{clauseRow, constraintRow, renamed, withClause, withConstraint, withObserved, withQuery}
+use Rattle.store.specs.Saying.{saidBy}
+use Rattle.store.specs.Checking.{isDeep, isOneTooMany, isSecondQuery}
+use Rattle.store.specs.Tables.{clauseWords}
+use Rattle.store.proofs.Encoded.{Known, encoded-length, encoded-depth, encoded-over}
+use Rattle.store.proofs.Literals.{or-atoms-lt, plain-lt, negated-lt, none-bare, body-not-bare}
+use Rattle.checks.specs.Checks.{saidWith, lineRefusal, saidAfter}
+use Rattle.checks.proofs.LineNames.{names-line, names-named}
+use Rattle.checks.proofs.SaidWith.{many-said, second-said}
+use Rattle.checks.proofs.Passing.{FormPasses, line-passes}
+use Rattle.reader.specs.Reading.{Outcome, ending, readLines, readFile}
+use Rattle.reader.proofs.Right.{rows-push, Below, ClauseRight, ConstraintRight, QueryRight, Right, nothing-right}
+use Rattle.reader.proofs.Right.{renamed-right}
 use Rattle.reader.proofs.FirstBad.{or-else-cases}
 
 -- An entry more
@@ -92,18 +95,18 @@ module _ (ns : List (List ℕ)) (h : length ns ≤ 64) where
       → Below (length ns) (plainAtoms ns l) (negatedAtoms ns l)
   literals-below l k = record { plain-lt = plain-lt ns l h k; negated-lt = negated-lt ns l h k }
 
-  bare-right : (kind : ℕ) (w : List ℕ) → kind < 2 → Known ns w → ClauseRight (length ns) (clauseRow ns kind w [])
-  bare-right kind w l k = record { head-lt = k; below = literals-below [] tt; shape = go kind l }
+  row-right : (kind : ℕ) (w : List ℕ) (l : List Literal) → Known ns w → ClauseShaped kind l → EachLiteral (Known ns) l
+      → ClauseRight (length ns) (clauseRow ns kind w l)
+  row-right kind w l k b e = record { head-lt = k; below = literals-below l e; shape = go kind b }
     where
-      go : (i : ℕ) → i < 2 → shaped i (bare (plainAtoms ns []) (negatedAtoms ns [])) ≡ true
-      go zero m = none-bare ns
-      go (suc zero) m = none-bare ns
-      go (suc (suc i)) m = absurd (omega arith)
+      bare-none : l ≡ [] → bare (plainAtoms ns l) (negatedAtoms ns l) ≡ true
+      bare-none d = rw d (none-bare ns)
 
-  rule-right : (w : List ℕ) (l : List Literal) → Known ns w → Bodied l → EachLiteral (Known ns) l
-      → ClauseRight (length ns) (clauseRow ns 2 w l)
-  rule-right w l k b e =
-      record { head-lt = k; below = literals-below l e; shape = ap not (body-not-bare ns l h b e) }
+      go : (i : ℕ) → ClauseShaped i l → shaped i (bare (plainAtoms ns l) (negatedAtoms ns l)) ≡ true
+      go zero d = bare-none d
+      go (suc zero) d = bare-none d
+      go (suc (suc zero)) d = ap not (body-not-bare ns l h d e)
+      go (suc (suc (suc i))) d = absurd d
 
   never-right : (l : List Literal) → Bodied l → EachLiteral (Known ns) l
       → ConstraintRight (length ns) (constraintRow ns l)
@@ -123,12 +126,8 @@ said-right : (ns : List (List ℕ)) (st : Said) (x : Line) (n : ℕ) → Right (
 unfolding saidBy
 said-right ns st Line.skipped n r p b s d m q = r
 said-right ns st Line.noForm n r p b s d m q = r
-said-right ns st (Line.fact w) n r p b s d m q =
-    clause-right _ r _ m (bare-right ns (r .names-right .few) 0 w (omega arith) p)
-said-right ns st (Line.assumption w) n r p b s d m q =
-    clause-right _ r _ m (bare-right ns (r .names-right .few) 1 w (omega arith) p)
-said-right ns st (Line.rule w l) n r p b s d m q =
-    clause-right _ r _ m (rule-right ns (r .names-right .few) w l (p .0) b (p .1))
+said-right ns st (Line.clause k w l) n r p b s d m q =
+    clause-right _ r _ m (row-right ns (r .names-right .few) k w l (p .0) b (p .1))
 said-right ns st (Line.never l) n r p b s d m q = constraint-right _ r _ m (never-right ns (r .names-right .few) l b p)
 said-right ns st (Line.seen (Literal.literal a w)) n r p b s d m q =
     let l = Literal.literal a w ∷ [] in
@@ -139,16 +138,18 @@ said-right ns st (Line.query f) n r p b s d m q =
 -- A line
 
 form-right : (st : Said) (l : List ℕ) → Right st → length l ≤ 200 → FormPasses st (tokens l)
-    → Right (saidBy (renamed (withNames (st .names) (namesIn (tokens l))) st) (lineOf (tokens l)))
+    → Right (saidWith st (tokens l))
 form-right st l r h p =
     let ws : List (List ℕ) = namesIn (tokens l) in
     let ns : List (List ℕ) = withNames (st .names) ws in
     let named = renamed-right st ws r (names-named l (p .is-form) (p .names-short)) (p .names-few) in
     let known = names-line (Known ns) (tokens l) (each-found (st .names) ws) in
     said-right ns st (lineOf (tokens l)) (length (tokens l)) named known (line-shaped (tokens l))
-    (omega (arith, tokens-le-bytes l)) (p .not-deep) (p .rows-few) (p .only-query)
+    (omega (arith, tokens-le-bytes l)) (p .not-deep)
+    (sym (many-said st ns (r .clauses-right .few) (r .constraints-right .few) (lineOf (tokens l))) ∙ p .rows-few)
+    (sym (second-said st ns (r .queries-right .few) (lineOf (tokens l))) ∙ p .only-query)
 
-picked-right : (t : Bool) (x y : Said) → Right x → (t ≡ false → Right y) → Right (pickSaid t x y)
+picked-right : (t : Bool) (x y : Said) → Right x → (t ≡ false → Right y) → Right (pick t x y)
 picked-right true x y h k = h
 picked-right false x y h k = k refl
 
@@ -165,7 +166,7 @@ pub record Ended (st : Said) : Type 0 where
   pub query-there : 0 < length (st .queries)
   pub causes-few : fewCauses (length (st .names)) (clauseWords (st .clauses)) (length (st .clauses)) ≡ true
 
-not-refused-end : (t : Bool) (n : ℕ) (o : Outcome) (st : Said) → refuseEnd t n o ≡ Outcome.case st
+not-refused-end : (t : Bool) (n : ℕ) (o : Outcome) (st : Said) → pick t (Outcome.refused n 0) o ≡ Outcome.case st
     → (t ≡ false) × (o ≡ Outcome.case st)
 not-refused-end true n o st e = let z : _≡_ {A = ℕ} 0 1 = cc in absurd (omega arith)
 not-refused-end false n o st e = (refl, e)

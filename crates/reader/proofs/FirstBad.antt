@@ -9,9 +9,11 @@ use lib.Dec.{leb}
 use lib.ListN.{length, getD, take}
 use borrow.Author.Tests.{eq-eqb}
 use Rattle.program.specs.Sound.{fewCauses}
-use Rattle.reader.specs.Saying.{Said}
-use Rattle.reader.specs.Checks.{lineRefusal}
-use Rattle.reader.specs.Reading.{Outcome, saidAfter, refuseEnd, ending, orElse, readLines, clauseWords}
+use Rattle.text.specs.Choice.{pick}
+use Rattle.store.specs.Saying.{Said}
+use Rattle.store.specs.Tables.{clauseWords}
+use Rattle.checks.specs.Checks.{lineRefusal, saidAfter}
+use Rattle.reader.specs.Reading.{Outcome, ending, orElse, readLines}
 use Rattle.reader.specs.Claims.{saidThrough, allPass}
 
 -- the first k of the lines ls pass behind st, and the next is refused with n
@@ -40,7 +42,7 @@ module _ (l : List ℕ) (ls : List (List ℕ)) (st : Said) where
     not-zero = b .not-zero;
   }
 
-refused-end : (t : Bool) (n : ℕ) (o : Outcome) (m k : ℕ) → refuseEnd t n o ≡ Outcome.refused m k
+refused-end : (t : Bool) (n : ℕ) (o : Outcome) (m k : ℕ) → pick t (Outcome.refused n 0) o ≡ Outcome.refused m k
     → (o ≡ Outcome.refused m k → k ≡ 0) → k ≡ 0
 refused-end true n o m k e f = cc
 refused-end false n o m k e f = f e

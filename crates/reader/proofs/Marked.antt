@@ -5,6 +5,7 @@ use mathlib.Core.List.{List, [], _∷_, map}
 use Prim.Native.Nat.{ℕ}
 use lib.Count.{ones, onesIn}
 use Rattle.words.specs.Bits.{has, word}
+use Rattle.logic.specs.Formula.{depth}
 use Rattle.logic.specs.Nodes.{nodes}
 use Rattle.program.specs.declared.case.Case.{Case}
 use Rattle.program.specs.Program.{headsOf}
@@ -14,15 +15,14 @@ use Rattle.text.specs.Bytes.{isWordByte, isAllowed, allOf, sameBytes}
 use Rattle.text.specs.Lines.{linesFrom, isComment}
 use Rattle.text.specs.Tokens.{tokensFrom}
 use Rattle.table.specs.Filled.{padded}
-use Rattle.names.specs.Names.{namesFrom, someLong, atomOf, withName, withNames, rowsOf}
-use Rattle.grammar.specs.Keyword.{nodeOf, kindOf}
-use Rattle.grammar.specs.Sentence.{isName, depthOf, withForm, itemsOf}
+use Rattle.formulas.specs.Keyword.{nodeOf, kindOf}
+use Rattle.formulas.specs.Sentence.{isName, withForm, itemsOf}
 use Rattle.grammar.specs.Line.{literalsOf, lineOf}
-use Rattle.reader.specs.Saying.{someOn, plainAtoms, negatedAtoms, encoded, saidBy}
-use Rattle.reader.specs.Checks.{formRefusal, lineRefusal}
-use Rattle.reader.specs.Reading.{saidAfter, clauseWords, ending, readLines, readFile}
-use Rattle.reader.specs.Tables.{constraintWords, formulaNodes, caseOf}
-use Rattle.reader.specs.Tables.{clauseEntries, constraintEntries, formulaEntries, nameEntries}
+use Rattle.names.specs.Names.{namesFrom, someLong, atomOf, withName, withNames, rowsOf}
+use Rattle.store.specs.Saying.{someOn, plainAtoms, negatedAtoms, encoded, saidBy}
+use Rattle.store.specs.Tables.{clauseWords, constraintWords, formulaNodes, caseSaid}
+use Rattle.checks.specs.Checks.{formRefusal, lineRefusal, saidAfter}
+use Rattle.reader.specs.Reading.{saidIn, ending, readLines, readFile}
 
 -- a file, and the record and the used entries of the four tables that reading it gives
 pub record Row : Type 0 where
@@ -36,14 +36,14 @@ pub record Row : Type 0 where
 -- the row of a file by its outcome
 abbrev pub rowOf : List ℕ → Row
 rowOf f =
-    let o = readFile f in
+    let s = saidIn (readFile f) in
     record {
       file = f;
-      found = caseOf o;
-      clauses = clauseEntries o;
-      constraints = constraintEntries o;
-      formula = formulaEntries o;
-      names = nameEntries o;
+      found = caseSaid s;
+      clauses = clauseWords (s .clauses);
+      constraints = constraintWords (s .constraints);
+      formula = formulaNodes (s .queries);
+      names = rowsOf (s .names);
     }
 
 -- M1: (if low dampershut (not ab)); (false ab); (seen low); (query dampershut)
@@ -95,7 +95,7 @@ rows = m1 ∷ m4 ∷ []
 -- each row is what reading its file gives
 pub marked-read : map (λ (r : Row). rowOf (r .file)) rows ≡ rows
 unfolding ones onesIn has word nodes headsOf causesAmong fewCauses isWordByte isAllowed allOf sameBytes linesFrom
-    isComment tokensFrom padded namesFrom someLong atomOf withName withNames rowsOf nodeOf kindOf isName depthOf
+    isComment tokensFrom padded namesFrom someLong atomOf withName withNames rowsOf nodeOf kindOf isName depth
     withForm itemsOf literalsOf lineOf someOn plainAtoms negatedAtoms encoded saidBy formRefusal lineRefusal saidAfter
     clauseWords ending readLines readFile constraintWords formulaNodes
 marked-read = refl

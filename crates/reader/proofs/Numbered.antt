@@ -8,16 +8,17 @@ use lib.Dec.{leb}
 use lib.ListN.{length}
 use Rattle.text.specs.Lines.{lines}
 use Rattle.program.specs.Sound.{fewCauses}
-use Rattle.reader.specs.Saying.{Said, nothingSaid}
-use Rattle.reader.specs.Checks.{lineRefusal}
-use Rattle.reader.specs.Reading.{Outcome, saidAfter, clauseWords, refuseEnd, ending, orElse}
-use Rattle.reader.specs.Reading.{readLines, readFile}
+use Rattle.text.specs.Choice.{pick}
+use Rattle.store.specs.Saying.{Said, nothingSaid}
+use Rattle.store.specs.Tables.{clauseWords}
+use Rattle.checks.specs.Checks.{lineRefusal, saidAfter}
+use Rattle.reader.specs.Reading.{Outcome, ending, orElse, readLines, readFile}
 
 abbrev pub Numbered : Outcome → Type 0
 Numbered (Outcome.case st) = Unit {0}
 Numbered (Outcome.refused n k) = n ≡ 0 → ⊥
 
-end-numbered : (t : Bool) (n : ℕ) (o : Outcome) → Numbered o → Numbered (refuseEnd t (suc n) o)
+end-numbered : (t : Bool) (n : ℕ) (o : Outcome) → Numbered o → Numbered (pick t (Outcome.refused (suc n) 0) o)
 end-numbered true n o h = λ e. omega arith
 end-numbered false n o h = h
 
@@ -29,7 +30,7 @@ ending-numbered : (st : Said) → Numbered (ending st)
 unfolding ending
 ending-numbered st =
     let few = fewCauses (length (st .names)) (clauseWords (st .clauses)) (length (st .clauses)) in
-    end-numbered (leb (length (st .queries)) 0) 10 (refuseEnd (not few) 12 (Outcome.case st))
+    end-numbered (leb (length (st .queries)) 0) 10 (pick (not few) (Outcome.refused 12 0) (Outcome.case st))
     (end-numbered (not few) 11 (Outcome.case st) tt)
 
 lines-numbered : (ls : List (List ℕ)) (st : Said) (k : ℕ) → Numbered (readLines ls st k)

@@ -3,14 +3,18 @@ use mathlib.Core.Path.{_≡_}
 use mathlib.Core.Bool.{Bool, true, false}
 use mathlib.Core.List.{List}
 use Prim.Native.Nat.{ℕ, suc, _≤_, _<_}
+use lib.Dec.{leb}
 use lib.ListN.{length}
-use borrow.Author.Tests.{le-leb, lt-leb, lt-ltb, le-ltb}
+use borrow.Author.Tests.{leb-true, le-leb, lt-leb, lt-ltb, le-ltb}
+use Rattle.words.proofs.Tests.{and-true-l, and-true-r}
 use Rattle.program.specs.Case.{tablesFull}
 use Rattle.program.proofs.Soundness.{full-clauses, full-constraints, full-formula}
+use Rattle.store.specs.Lent.{Lent}
+use Rattle.store.specs.Tables.{formulaNodes}
+use Rattle.store.specs.Held.{Long}
 use Rattle.reader.specs.declared.read.Answer.{Answer}
-use Rattle.reader.specs.Lent.{Lent, Long}
-use Rattle.reader.specs.Tables.{tablesFit, earlyRefusal}
-use Rattle.reader.specs.Operation.{refusedAt, LinesRead, ReadAs}
+use Rattle.reader.specs.Operation.{tablesFit, earlyRefusal, ReadAs}
+use Rattle.reader.specs.Steps.{refusedAt, LinesRead}
 
 module _ (f : List ℕ) (t : Lent) where
   abbrev pub Full : Bool → Type 0
@@ -23,6 +27,14 @@ module _ (f : List ℕ) (t : Lent) where
     formula-long = full-formula (t .clauses) (t .constraints) (t .formula) h;
     names-long = k;
   }
+
+  -- the four tables fit where they have their full sizes
+  pub fit-long : tablesFit t ≡ true → Long t
+  unfolding tablesFit
+  fit-long h =
+      let a = tablesFull (t .clauses) (t .constraints) (t .formula) in
+      let b = leb 1024 (length (t .names)) in
+      long-tables (and-true-l a b h) (leb-true 1024 (length (t .names)) (and-true-r a b h))
 
   pub early-table-short : Full false → earlyRefusal f t ≡ 1
   unfolding earlyRefusal tablesFit
@@ -41,6 +53,7 @@ module _ (f : List ℕ) (t : Lent) where
   early-none h k l = rw (h, le-leb 1024 (length (t .names)) k, le-ltb 32768 (length f) l)
 
   pub read-early : (n : ℕ) (r : Answer) → earlyRefusal f t ≡ suc n → r ≡ refusedAt (suc n) 0 → ReadAs f t t r
+  unfolding formulaNodes
   read-early n r e a = record {
     refusal-is = rw (a, e);
     line-is = rw (a, e);

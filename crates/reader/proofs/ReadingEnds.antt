@@ -11,26 +11,25 @@ use lib.ListN.{length}
 use borrow.Author.Tests.{le-leb, lt-leb}
 use Rattle.words.proofs.Below.{any-ext}
 use Rattle.words.proofs.Bits.{has-ext}
-use Rattle.text.proofs.LineLaws.{lines-none}
-use Rattle.table.specs.Filled.{filled}
-use Rattle.table.proofs.Filled.{filled-at, filled-again, filled-length}
 use Rattle.logic.specs.Formula.{Formula}
-use Rattle.names.specs.Names.{rowsOf}
 use Rattle.program.specs.declared.case.Case.{Case}
 use Rattle.program.specs.Case.{headAt}
 use Rattle.program.specs.Program.{headsOf}
 use Rattle.program.specs.Cause.{causesAmong}
 use Rattle.program.specs.Sound.{fewCauses}
 use Rattle.program.proofs.Heads.{heads-lt, heads-has}
+use Rattle.text.proofs.LineLaws.{lines-none}
+use Rattle.table.specs.Filled.{filled}
+use Rattle.table.proofs.Filled.{filled-at, filled-again, filled-length}
+use Rattle.names.specs.Names.{rowsOf}
+use Rattle.store.specs.Lent.{Lent}
+use Rattle.store.specs.Saying.{Said}
+use Rattle.store.specs.Tables.{clauseWords, constraintWords, formulaNodes}
+use Rattle.store.specs.Held.{Held, SpoiltBy, Spoilt}
+use Rattle.store.proofs.TakingHeld.{held-spoilt}
 use Rattle.reader.specs.declared.read.Answer.{Answer}
-use Rattle.reader.specs.Lent.{Lent}
-use Rattle.reader.specs.Saying.{Said}
-use Rattle.reader.specs.Reading.{Outcome, clauseWords, ending, readLines, readFile}
-use Rattle.reader.specs.Tables.{constraintWords, formulaNodes}
-use Rattle.reader.specs.Tables.{clauseEntries, constraintEntries, formulaEntries, nameEntries}
-use Rattle.reader.specs.Operation.{Zeroed, refusedAt, LinesRead}
-use Rattle.reader.specs.Held.{Held, SpoiltBy, Spoilt}
-use Rattle.reader.proofs.TakingHeld.{held-spoilt}
+use Rattle.reader.specs.Reading.{Outcome, saidIn, ending, readLines, readFile}
+use Rattle.reader.specs.Steps.{Zeroed, refusedAt, LinesRead}
 use Rattle.reader.proofs.ReadingLines.{SameLengths, LinesTaken}
 
 -- the first n heads decide headsOf
@@ -77,12 +76,12 @@ module _ (st : Said) where
 
 pub lines-read-lengths : {f : List ℕ} {t u : Lent} {r : Answer} → LinesRead f t u r → SameLengths t u
 lines-read-lengths {f} {t} {u} {r} h =
-    let o = readFile f in
+    let s = saidIn (readFile f) in
     record {
-      clauses-same = ap length (h .clauses-are) ∙ filled-length 768 (clauseEntries o) (t .clauses);
-      constraints-same = ap length (h .constraints-are) ∙ filled-length 64 (constraintEntries o) (t .constraints);
-      formula-same = ap length (h .formula-is) ∙ filled-length 128 (formulaEntries o) (t .formula);
-      names-same = ap length (h .names-are) ∙ filled-length 1024 (nameEntries o) (t .names);
+      clauses-same = ap length (h .clauses-are) ∙ filled-length 768 (clauseWords (s .clauses)) (t .clauses);
+      constraints-same = ap length (h .constraints-are) ∙ filled-length 64 (constraintWords (s .constraints)) (t .constraints);
+      formula-same = ap length (h .formula-is) ∙ filled-length 128 (formulaNodes (s .queries)) (t .formula);
+      names-same = ap length (h .names-are) ∙ filled-length 1024 (rowsOf (s .names)) (t .names);
     }
 
 -- zeroed again, a table is as after its first zeroing
@@ -94,6 +93,7 @@ zeroed-again n t₀ old t u e s f =
 
 pub refused-read : (f : List ℕ) (n k : ℕ) (t₀ old t u : Lent) (r : Answer) → readFile f ≡ Outcome.refused n k
     → Zeroed t₀ old → Spoilt old t → Zeroed t u → r ≡ refusedAt n k → LinesRead f t₀ u r
+unfolding clauseWords constraintWords formulaNodes rowsOf
 refused-read f n k t₀ old t u r e z s w a = record {
   refusal-is = rw (a, e);
   line-is = rw (a, e);

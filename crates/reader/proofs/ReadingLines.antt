@@ -8,23 +8,24 @@ use native.Mathlib.Numerals.{add-one}
 use native.Mathlib.Omega.{arith}
 use lib.ListN.{length, take, drop}
 use lib.Seq.{slice, take-nil}
+use Rattle.program.specs.declared.case.Case.{Case}
 use Rattle.text.specs.Lines.{lines}
 use Rattle.text.specs.Scanning.{LineEnds}
 use Rattle.table.specs.Filled.{filled}
 use Rattle.table.proofs.Filled.{filled-length, filled-again}
 use Rattle.names.specs.Names.{rowsOf}
 use Rattle.names.specs.Held.{AllNamed}
-use Rattle.program.specs.declared.case.Case.{Case}
-use Rattle.reader.specs.declared.take.Taken.{Taken}
-use Rattle.reader.specs.declared.take.Taken.the-variants.{Next, Stop}
-use Rattle.reader.specs.Lent.{Lent, Long}
-use Rattle.reader.specs.Saying.{Said, nothingSaid}
-use Rattle.reader.specs.Checks.{lineRefusal}
-use Rattle.reader.specs.Reading.{Outcome, saidAfter, clauseWords, orElse, readLines, readFile}
-use Rattle.reader.specs.Tables.{constraintWords, formulaNodes, noCase}
-use Rattle.reader.specs.Operation.{Zeroed}
-use Rattle.reader.specs.Held.{Held, Spoilt, Took, Passed, Refused}
-use Rattle.reader.proofs.TakingHeld.{held-spoilt}
+use Rattle.store.specs.Lent.{Lent}
+use Rattle.store.specs.Held.{Long, Held, Spoilt}
+use Rattle.store.specs.Saying.{Said, nothingSaid}
+use Rattle.store.specs.Tables.{clauseWords, constraintWords, formulaNodes}
+use Rattle.store.proofs.TakingHeld.{held-spoilt}
+use Rattle.checks.specs.declared.take.Taken.{Taken}
+use Rattle.checks.specs.declared.take.Taken.the-variants.{Next, Stop}
+use Rattle.checks.specs.Checks.{lineRefusal, saidAfter}
+use Rattle.checks.specs.Took.{Took, Passed, Refused}
+use Rattle.reader.specs.Reading.{Outcome, orElse, readLines, readFile}
+use Rattle.reader.specs.Steps.{noCase, Zeroed}
 
 -- the part of a list that is lent is the slice
 pub part-slice : (l : List ℕ) (a e : ℕ) → a ≤ e → take (e - a) (drop a l) ≡ slice a e l

@@ -18,9 +18,9 @@ use Rattle.names.specs.Names.{withNames}
 use Rattle.names.specs.Distinct.{Distinct}
 use Rattle.names.proofs.Each.{Each, each-append, each-gives}
 use Rattle.names.proofs.Adding.{distinct-none, with-names-length, with-names-distinct, with-names-each}
-use Rattle.reader.specs.Saying.{ClauseRow, ConstraintRow, Said, nothingSaid, renamed}
-use Rattle.reader.specs.Claims.{IsName}
-use Rattle.reader.proofs.Formulas.{over-mono}
+use Rattle.store.specs.Saying.{ClauseRow, ConstraintRow, Said, nothingSaid, renamed}
+use Rattle.store.proofs.Formulas.{over-mono}
+use Rattle.checks.specs.Naming.{IsName}
 
 -- Rows
 

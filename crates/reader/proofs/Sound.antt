@@ -7,20 +7,20 @@ use native.Mathlib.Nat.{not-suc-le-zero, le-of-suc-le-suc, suc-add}
 use native.Mathlib.Omega.{arith}
 use lib.ListN.{length, getD, take}
 use lib.Seq.{length-take-le, getD-take, ext-getD}
-use Rattle.table.specs.Filled.{filled}
-use Rattle.table.proofs.Filled.{filled-length, filled-at}
 use Rattle.logic.specs.Formula.{Formula}
 use Rattle.logic.specs.Nodes.{nodes, oneFormula}
 use Rattle.logic.proofs.Spelled.{one-formula-complete}
 use Rattle.program.specs.Case.{tablesFull}
-use Rattle.program.specs.Sound.{limitsHold, soundClause, soundClauses, soundConstraint}
-use Rattle.program.specs.Sound.{soundConstraints, fewCauses, sound}
+use Rattle.program.specs.Sound.{limitsHold, soundClause, soundClauses, soundConstraint, soundConstraints, fewCauses}
+use Rattle.program.specs.Sound.{sound}
+use Rattle.table.specs.Filled.{filled}
+use Rattle.table.proofs.Filled.{filled-length, filled-at}
 use Rattle.names.proofs.Each.{Each}
-use Rattle.reader.specs.Lent.{Lent, Long}
-use Rattle.reader.specs.Saying.{ClauseRow, ConstraintRow, Said}
-use Rattle.reader.specs.Reading.{clauseWords}
-use Rattle.reader.specs.Tables.{caseSaid, constraintWords, formulaNodes}
-use Rattle.reader.proofs.Formulas.{over-some}
+use Rattle.store.specs.Lent.{Lent}
+use Rattle.store.specs.Held.{Long}
+use Rattle.store.specs.Saying.{ClauseRow, ConstraintRow, Said}
+use Rattle.store.specs.Tables.{clauseWords, caseSaid, constraintWords, formulaNodes}
+use Rattle.store.proofs.Formulas.{over-some}
 use Rattle.reader.proofs.Cases.{tables-full, limits-hold, within-below, clause-passes, clauses-pass}
 use Rattle.reader.proofs.Cases.{constraint-passes, constraints-pass, few-causes-ext, sound-passes}
 use Rattle.reader.proofs.Right.{Rows, ClauseRight, ConstraintRight, QueryRight}

@@ -7,21 +7,23 @@ use native.Mathlib.Omega.{arith}
 use lib.ListN.{length}
 use Rattle.text.specs.Lines.{lines}
 use Rattle.text.specs.Tokens.{tokens}
+use Rattle.formulas.specs.Parsing.{sizeOf}
+use Rattle.formulas.proofs.Sizes.{tokens-le-bytes}
+use Rattle.grammar.proofs.Shapes.{Shaped, line-shaped}
 use Rattle.names.proofs.Each.{each-at}
 use Rattle.names.proofs.Adding.{distinct-atom}
-use Rattle.grammar.specs.Parsing.{sizeOf}
-use Rattle.grammar.proofs.Sizes.{tokens-le-bytes}
-use Rattle.grammar.proofs.Shapes.{Shaped, line-shaped}
-use Rattle.reader.specs.Saying.{nothingSaid}
+use Rattle.store.specs.Saying.{nothingSaid}
+use Rattle.store.proofs.Encoded.{encoded-length}
+use Rattle.checks.specs.Naming.{IsName}
 use Rattle.reader.specs.Reading.{readFile}
-use Rattle.reader.specs.Claims.{IsName, AcceptedSound, AcceptedNames, FirstBad, FirstBadLine, NoBadLine, NodesFit}
-use Rattle.reader.proofs.Encoded.{encoded-length}
+use Rattle.reader.specs.Claims.{AcceptedSound, AcceptedNames, FirstBad, FirstBadLine, NoBadLine, NodesFit}
+use Rattle.reader.proofs.ReadingEarly.{fit-long}
 use Rattle.reader.proofs.Added.{accepted-right}
 use Rattle.reader.proofs.Sound.{ended-sound}
 use Rattle.reader.proofs.FirstBad.{BadAt, bad-line, no-bad}
 
 pub accepted-sound : AcceptedSound
-accepted-sound f st t long e = ended-sound st t long (accepted-right f st e)
+accepted-sound f st t h e = ended-sound st t (fit-long f t h) (accepted-right f st e)
 
 pub accepted-names : AcceptedNames
 accepted-names f st e =

@@ -5,34 +5,29 @@ use mathlib.Core.List.{List, [], _∷_}
 use Prim.Native.Nat.{ℕ, zero, suc, _+_, _≤_, _<_}
 use lib.Dec.{eqb}
 use lib.ListN.{length, getD, take}
-use Rattle.text.specs.Bytes.{isWordByte, allOf}
+use Rattle.logic.specs.Nodes.{nodes}
+use Rattle.program.specs.Sound.{sound}
 use Rattle.text.specs.Lines.{lines}
 use Rattle.text.specs.Tokens.{tokens}
 use Rattle.table.specs.Filled.{filled}
-use Rattle.logic.specs.Nodes.{nodes}
-use Rattle.program.specs.Sound.{sound}
-use Rattle.names.specs.Names.{atomOf}
-use Rattle.grammar.specs.Sentence.{Sentence, isName}
+use Rattle.formulas.specs.Sentence.{Sentence}
 use Rattle.grammar.specs.Line.{Line, lineOf}
-use Rattle.reader.specs.Lent.{Lent, Long}
-use Rattle.reader.specs.Saying.{Said, nothingSaid, encoded}
-use Rattle.reader.specs.Checks.{lineRefusal}
-use Rattle.reader.specs.Reading.{Outcome, readFile, saidAfter, clauseWords}
-use Rattle.reader.specs.Tables.{caseSaid, constraintWords, formulaNodes}
+use Rattle.names.specs.Names.{atomOf}
+use Rattle.store.specs.Lent.{Lent}
+use Rattle.store.specs.Saying.{Said, nothingSaid, encoded}
+use Rattle.store.specs.Tables.{clauseWords, caseSaid, constraintWords, formulaNodes}
+use Rattle.checks.specs.Checks.{lineRefusal, saidAfter}
+use Rattle.checks.specs.Naming.{IsName}
+use Rattle.reader.specs.Reading.{Outcome, readFile}
+use Rattle.reader.specs.Operation.{tablesFit}
 
 -- an accepted file's case is sound, with tables filled over any tables of full size
 abbrev pub AcceptedSound : Type 0
-AcceptedSound = (f : List ℕ) (st : Said) (t : Lent) → Long t → readFile f ≡ Outcome.case st
+AcceptedSound = (f : List ℕ) (st : Said) (t : Lent) → tablesFit t ≡ true → readFile f ≡ Outcome.case st
     → sound (caseSaid st)
     (filled 768 (clauseWords (st .clauses)) (t .clauses))
     (filled 64 (constraintWords (st .constraints)) (t .constraints))
     (filled 128 (formulaNodes (st .queries)) (t .formula)) ≡ true
-
--- a name as document 01 words it: a letter, then letters, digits or `-`, 16 bytes at most
-pub record IsName (w : List ℕ) : Type 0 where
-  pub first-letter : isName w ≡ true
-  pub word-bytes : allOf isWordByte w ≡ true
-  pub short : length w ≤ 16
 
 -- an accepted file's names are names and differ: each is found at its own place
 pub record NamesRight (st : Said) : Type 0 where

@@ -1,44 +1,46 @@
 -- What the operation *read* answers and leaves in the lent tables, on every input.
--- From: document 01, "What each operation refuses" (Reading).
+-- From: document 01, "What each operation refuses" (Reading), "The file" ("Reading fills unused entries with zeros").
 --
---   ReadAs     number, line and record, and each of the four tables at exit, for the file f and the tables at entry
+--   tablesFit t           the four tables are as long as their sizes
+--   earlyRefusal f t      1 a lent table too short, 2 the file too long, 0 otherwise
+--   unlessEarly n x y     x where there is no early refusal, otherwise y
+--   tableLeft ..          a table at exit: untouched by 1 and 2, otherwise filled in its first n entries
+--   ReadAs f t u r        the answer r and the tables u at exit, for the file f and the tables t at entry
 use mathlib.Core.Path.{_≡_}
-use mathlib.Core.List.{List, []}
-use Prim.Native.Nat.{ℕ}
+use mathlib.Core.Bool.{Bool, true, false, not, _&&_}
+use mathlib.Core.List.{List}
+use Prim.Native.Nat.{ℕ, zero, suc}
+use lib.Dec.{leb, ltb}
+use lib.ListN.{length}
+use Rattle.program.specs.Case.{tablesFull}
+use Rattle.text.specs.Choice.{pick}
 use Rattle.table.specs.Filled.{filled}
+use Rattle.names.specs.Names.{rowsOf}
+use Rattle.store.specs.Lent.{Lent}
+use Rattle.store.specs.Saying.{nothingSaid}
+use Rattle.store.specs.Tables.{clauseWords, constraintWords, formulaNodes, caseSaid}
 use Rattle.reader.specs.declared.read.Answer.{Answer}
-use Rattle.reader.specs.Reading.{readFile}
-use Rattle.reader.specs.Tables.{noCase, caseOf, refusalOf, lineOfRefusal, earlyRefusal, unlessEarly}
-use Rattle.reader.specs.Tables.{clauseEntries, constraintEntries, formulaEntries, nameEntries}
-use Rattle.reader.specs.Lent.{Lent}
+use Rattle.reader.specs.Reading.{saidIn, refusalOf, lineOfRefusal, readFile}
 
--- the tables u are t with zeros in their sizes
-pub record Zeroed (t u : Lent) : Type 0 where
-  pub clauses-zero : u .clauses ≡ filled 768 [] (t .clauses)
-  pub constraints-zero : u .constraints ≡ filled 64 [] (t .constraints)
-  pub formula-zero : u .formula ≡ filled 128 [] (t .formula)
-  pub names-zero : u .names ≡ filled 1024 [] (t .names)
+unfoldable pub tablesFit : Lent → Bool
+tablesFit t = tablesFull (t .clauses) (t .constraints) (t .formula) && leb 1024 (length (t .names))
 
-abbrev pub refusedAt : ℕ → ℕ → Answer
-refusedAt n k = record { refusal = n; line = k; found = noCase }
+unfoldable pub earlyRefusal : List ℕ → Lent → ℕ
+earlyRefusal f t = pick (not (tablesFit t)) 1 (pick (ltb 32768 (length f)) 2 0)
 
--- the file f, of at most 32,768 bytes, read into tables of full size
-pub record LinesRead (f : List ℕ) (t u : Lent) (r : Answer) : Type 0 where
-  pub refusal-is : r .refusal ≡ refusalOf (readFile f)
-  pub line-is : r .line ≡ lineOfRefusal (readFile f)
-  pub case-is : r .found ≡ caseOf (readFile f)
-  pub clauses-are : u .clauses ≡ filled 768 (clauseEntries (readFile f)) (t .clauses)
-  pub constraints-are : u .constraints ≡ filled 64 (constraintEntries (readFile f)) (t .constraints)
-  pub formula-is : u .formula ≡ filled 128 (formulaEntries (readFile f)) (t .formula)
-  pub names-are : u .names ≡ filled 1024 (nameEntries (readFile f)) (t .names)
+abbrev pub unlessEarly : {A : Type 0} → ℕ → A → A → A
+unlessEarly zero x y = x
+unlessEarly (suc n) x y = y
 
--- the file f, the tables t at entry and u at exit
+abbrev pub tableLeft : List ℕ → Lent → ℕ → List ℕ → List ℕ → List ℕ
+tableLeft f t n l old = unlessEarly (earlyRefusal f t) (filled n l old) old
+
 pub record ReadAs (f : List ℕ) (t u : Lent) (r : Answer) : Type 0 where
   pub refusal-is : r .refusal ≡ unlessEarly (earlyRefusal f t) (refusalOf (readFile f)) (earlyRefusal f t)
   pub line-is : r .line ≡ unlessEarly (earlyRefusal f t) (lineOfRefusal (readFile f)) 0
-  pub case-is : r .found ≡ unlessEarly (earlyRefusal f t) (caseOf (readFile f)) noCase
-  pub clauses-are : u .clauses ≡ unlessEarly (earlyRefusal f t) (filled 768 (clauseEntries (readFile f)) (t .clauses)) (t .clauses)
+  pub case-is : r .found ≡ caseSaid (unlessEarly (earlyRefusal f t) (saidIn (readFile f)) nothingSaid)
+  pub clauses-are : u .clauses ≡ tableLeft f t 768 (clauseWords (saidIn (readFile f) .clauses)) (t .clauses)
   pub constraints-are : u .constraints
-      ≡ unlessEarly (earlyRefusal f t) (filled 64 (constraintEntries (readFile f)) (t .constraints)) (t .constraints)
-  pub formula-is : u .formula ≡ unlessEarly (earlyRefusal f t) (filled 128 (formulaEntries (readFile f)) (t .formula)) (t .formula)
-  pub names-are : u .names ≡ unlessEarly (earlyRefusal f t) (filled 1024 (nameEntries (readFile f)) (t .names)) (t .names)
+      ≡ tableLeft f t 64 (constraintWords (saidIn (readFile f) .constraints)) (t .constraints)
+  pub formula-is : u .formula ≡ tableLeft f t 128 (formulaNodes (saidIn (readFile f) .queries)) (t .formula)
+  pub names-are : u .names ≡ tableLeft f t 1024 (rowsOf (saidIn (readFile f) .names)) (t .names)

@@ -2,10 +2,12 @@
 ghost use mathlib.Core.Path.{_≡_};
 ghost use Prim.Native.Nat.{_≤_};
 ghost use lib.ListN.{length};
-ghost use Rattle.reader.specs.Lent.{lent, Long};
-ghost use Rattle.reader.specs.Operation.{Zeroed, refusedAt, LinesRead, ReadAs};
-use crate::take::Taken;
-use crate::take::take_line;
+ghost use Rattle.store.specs.Lent.{lent};
+ghost use Rattle.store.specs.Held.{Long};
+ghost use Rattle.reader.specs.Operation.{ReadAs};
+ghost use Rattle.reader.specs.Steps.{Zeroed, refusedAt, LinesRead};
+use checks::take::Taken;
+use checks::take::take_line;
 use program::case::Case;
 
 // What reading answers: 0 and the record of the case, or a refusal's number, its line and a record of zeros.

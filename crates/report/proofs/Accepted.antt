@@ -1,6 +1,6 @@
 -- What is known of an accepted file: its case is sound, its names are names, and its question is answered. Assumes
 -- nothing.
-use mathlib.Core.Path.{_≡_, _∙_}
+use mathlib.Core.Path.{_≡_, refl, _∙_}
 use mathlib.Core.Bool.{true}
 use mathlib.Core.List.{List, [], _++_}
 use mathlib.Core.Logic.{⊎-elim}
@@ -12,6 +12,7 @@ use lib.Seq.{take-all, take-length, take-at, length-take-le}
 use Rattle.words.proofs.Tests.{lt-or-le}
 use Rattle.table.specs.Filled.{padded}
 use Rattle.table.proofs.Filled.{filled-exact, padded-length}
+use Rattle.program.specs.Case.{tablesFull}
 use Rattle.program.specs.Cause.{atomsIn}
 use Rattle.program.specs.Sound.{sound}
 use Rattle.program.proofs.Soundness.{sound-full, sound-atoms, sound-few}
@@ -25,10 +26,11 @@ use Rattle.question.proofs.Answers.{refusal-none}
 use Rattle.question.proofs.Bounds.{causes-fit, settings-few}
 use Rattle.question.proofs.Listed.{minimals-le}
 use Rattle.question.proofs.Theorems.{rounds-bounded}
-use Rattle.reader.specs.Lent.{Lent, lent, Long}
-use Rattle.reader.specs.Saying.{Said}
-use Rattle.reader.specs.Reading.{Outcome, readFile, clauseWords}
-use Rattle.reader.specs.Tables.{caseSaid, constraintWords, formulaNodes}
+use Rattle.store.specs.Lent.{Lent, lent}
+use Rattle.store.specs.Saying.{Said}
+use Rattle.store.specs.Tables.{clauseWords, constraintWords, formulaNodes, caseSaid}
+use Rattle.reader.specs.Reading.{Outcome, readFile}
+use Rattle.reader.specs.Operation.{tablesFit}
 use Rattle.reader.proofs.Theorems.{accepted-sound, accepted-names}
 use Rattle.output.specs.Writing.{nameIn}
 use Rattle.wording.specs.Text.{answerText}
@@ -65,14 +67,9 @@ module _ (l old : List ℕ) (n : ℕ) where
 zeros : Lent
 zeros = lent (padded 768 []) (padded 64 []) (padded 128 []) (padded 1024 [])
 
-zeros-long : Long zeros
-unfolding zeros
-zeros-long = record {
-  clauses-long = omega (arith, padded-length 768 []);
-  constraints-long = omega (arith, padded-length 64 []);
-  formula-long = omega (arith, padded-length 128 []);
-  names-long = omega (arith, padded-length 1024 []);
-}
+zeros-fit : tablesFit zeros ≡ true
+unfolding zeros tablesFit tablesFull padded
+zeros-fit = refl
 
 module _ (f : List ℕ) (st : Said) (e : readFile f ≡ Outcome.case st) where
   pub said-sound : sound (caseSaid st) (clausesOf st) (constraintsOf st) (formulaTable st) ≡ true
@@ -83,7 +80,7 @@ module _ (f : List ℕ) (st : Said) (e : readFile f ≡ Outcome.case st) where
         filled-exact 64 (constraintWords (st .constraints)) (padded 64 []) (padded-length 64 []),
         filled-exact 128 (formulaNodes (st .queries)) (padded 128 []) (padded-length 128 []),
       )
-      at (accepted-sound f st zeros zeros-long e)
+      at (accepted-sound f st zeros zeros-fit e)
 
   pub said-named : (a : ℕ) → Named (nameOf st a)
   said-named = every-named (st .names) (λ a h.

@@ -2,7 +2,7 @@
 use mathlib.Core.Path.{_≡_, refl}
 use lib.Count.{ones, onesIn}
 use Rattle.words.specs.Bits.{has, word}
-use Rattle.logic.specs.Formula.{valueOf, literalsBelow}
+use Rattle.logic.specs.Formula.{valueOf, depth, literalsBelow}
 use Rattle.logic.specs.Nodes.{nodes, withNode, spelled, formulaOf}
 use Rattle.program.specs.Program.{clauseAt, clausesOf, addedBelow, headsOf}
 use Rattle.program.specs.Cause.{causesAmong, causesOf, atomsFrom}
@@ -19,21 +19,21 @@ use Rattle.text.specs.Lines.{linesFrom, isComment}
 use Rattle.text.specs.Tokens.{tokensFrom}
 use Rattle.table.specs.Filled.{padded}
 use Rattle.names.specs.Names.{namesFrom, someLong, atomOf, withName, withNames, rowsOf}
-use Rattle.grammar.specs.Keyword.{nodeOf, kindOf}
-use Rattle.grammar.specs.Sentence.{isName, depthOf, withForm, itemsOf}
+use Rattle.formulas.specs.Keyword.{nodeOf, kindOf}
+use Rattle.formulas.specs.Sentence.{isName, withForm, itemsOf}
 use Rattle.grammar.specs.Line.{literalsOf, lineOf}
-use Rattle.reader.specs.Saying.{someOn, plainAtoms, negatedAtoms, encoded, saidBy}
-use Rattle.reader.specs.Checks.{formRefusal, lineRefusal}
-use Rattle.reader.specs.Reading.{saidAfter, clauseWords, ending, readLines, readFile}
-use Rattle.reader.specs.Tables.{constraintWords, formulaNodes}
+use Rattle.store.specs.Saying.{someOn, plainAtoms, negatedAtoms, encoded, saidBy}
+use Rattle.store.specs.Tables.{clauseWords, constraintWords, formulaNodes}
+use Rattle.checks.specs.Checks.{formRefusal, lineRefusal, saidAfter}
+use Rattle.reader.specs.Reading.{ending, readLines, readFile}
 use Rattle.report.specs.Marked.{MarkedRows}
 
 pub marked-rows : MarkedRows
-unfolding ones onesIn has word valueOf literalsBelow nodes withNode spelled formulaOf clauseAt clausesOf addedBelow headsOf causesAmong causesOf
-    atomsFrom choicesFor product digits digitOf settingsOf additionsOf fewCauses bodiesOf someTrue allFalse nextValue
+unfolding ones onesIn has word valueOf literalsBelow nodes withNode spelled formulaOf clauseAt clausesOf addedBelow
+    headsOf causesAmong causesOf atomsFrom choicesFor product digits digitOf settingsOf additionsOf fewCauses bodiesOf someTrue allFalse nextValue
     step rounds roundCount settled observedTrue noneBroken explainsUnder setExplains subsetOf properOf someProper
     minimal minimalsBelow roundsBelow allTrue walk.allFalse verdictOf isWordByte isAllowed allOf sameBytes linesFrom
-    isComment tokensFrom padded namesFrom someLong atomOf withName withNames rowsOf nodeOf kindOf isName depthOf
+    isComment tokensFrom padded namesFrom someLong atomOf withName withNames rowsOf nodeOf kindOf isName depth
     withForm itemsOf literalsOf lineOf someOn plainAtoms negatedAtoms encoded saidBy formRefusal lineRefusal saidAfter
     clauseWords ending readLines readFile constraintWords formulaNodes
 marked-rows = refl

@@ -18,11 +18,11 @@ use Rattle.names.specs.Names.{rowsOf}
 use Rattle.question.specs.declared.operation.Answer as question
 use Rattle.question.specs.Operation.{Asked}
 use Rattle.reader.specs.declared.read.Answer.{Answer}
-use Rattle.reader.specs.Lent.{Lent}
-use Rattle.reader.specs.Saying.{Said}
-use Rattle.reader.specs.Reading.{Outcome, readFile, clauseWords}
-use Rattle.reader.specs.Tables.{caseSaid, constraintWords, refusalOf, lineOfRefusal, earlyRefusal}
-use Rattle.reader.specs.Operation.{ReadAs}
+use Rattle.store.specs.Lent.{Lent}
+use Rattle.store.specs.Saying.{Said}
+use Rattle.store.specs.Tables.{clauseWords, constraintWords, caseSaid}
+use Rattle.reader.specs.Reading.{Outcome, refusalOf, lineOfRefusal, readFile}
+use Rattle.reader.specs.Operation.{earlyRefusal, ReadAs}
 use Rattle.reader.proofs.Cases.{tables-full}
 use Rattle.reader.proofs.ReadingEarly.{Full, early-none, early-file-long}
 use Rattle.reader.proofs.Numbered.{Numbered, file-numbered}

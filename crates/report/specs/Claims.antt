@@ -4,7 +4,7 @@ use Prim.Native.Nat.{ℕ, _≤_}
 use lib.ListN.{length}
 use Rattle.report.specs.Report.{reportText}
 
--- the longest report that there can be: the first three lines, and 1,024 settings of ten causes with names of 16 bytes
+-- a bound on the length of any report: the first three lines, and 1,024 settings of ten causes with names of 16 bytes
 abbrev pub reportLimit : ℕ
 reportLimit = 264252
 

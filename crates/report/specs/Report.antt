@@ -18,9 +18,9 @@ use Rattle.question.specs.declared.verdict.Verdict.{Verdict}
 use Rattle.question.specs.Judge.{Judge, judgeOf}
 use Rattle.question.specs.Walk.{roundsBelow, verdictOf}
 use Rattle.question.specs.Operation.{settingsIn, minimalsIn}
-use Rattle.reader.specs.Saying.{Said}
-use Rattle.reader.specs.Reading.{Outcome, readFile, clauseWords}
-use Rattle.reader.specs.Tables.{caseSaid, constraintWords, formulaNodes}
+use Rattle.store.specs.Saying.{Said}
+use Rattle.store.specs.Tables.{clauseWords, constraintWords, formulaNodes, caseSaid}
+use Rattle.reader.specs.Reading.{Outcome, readFile}
 use Rattle.wording.specs.Text.{answerText, refusalText}
 
 -- the program's list has 1,024 slots

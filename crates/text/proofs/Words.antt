@@ -6,8 +6,9 @@ use Prim.Native.Nat.{ℕ, _<_}
 use native.Mathlib.Omega.{arith}
 use lib.Dec.{eqb}
 use lib.ListN.{length}
+use Rattle.text.specs.Choice.{pick}
 use Rattle.text.specs.Bytes.{isWordByte, allOf}
-use Rattle.text.specs.Tokens.{Token, pickTokens, ended, bracket, tokensFrom, tokens}
+use Rattle.text.specs.Tokens.{Token, ended, bracket, tokensFrom, tokens}
 use Rattle.text.proofs.ByteLaws.{all-push}
 
 -- a word that holds a byte, and only bytes that stand in words
@@ -26,7 +27,7 @@ ended-bytes [] ts h k = k
 ended-bytes (b ∷ w) ts h k = ((omega arith, h), k)
 
 picked-bytes : (t : Bool) (x y : List Token) → (t ≡ true → WordBytes x) → (t ≡ false → WordBytes y)
-    → WordBytes (pickTokens t x y)
+    → WordBytes (pick t x y)
 picked-bytes true x y f g = f refl
 picked-bytes false x y f g = g refl
 

@@ -7,10 +7,7 @@ use mathlib.Core.Bool.{Bool, true, false}
 use mathlib.Core.List.{List, [], _∷_, _++_}
 use Prim.Native.Nat.{ℕ}
 use lib.Dec.{eqb}
-
-abbrev pub pickLines : Bool → List (List ℕ) → List (List ℕ) → List (List ℕ)
-pickLines true x y = x
-pickLines false x y = y
+use Rattle.text.specs.Choice.{pick}
 
 -- a last line that lacks its LF, unless it is empty
 abbrev pub lastLine : List ℕ → List (List ℕ)
@@ -23,7 +20,7 @@ linesFrom l [] = lastLine l
 linesFrom l (b ∷ f) =
     let ended = l ∷ linesFrom [] f in
     let more = linesFrom (l ++ (b ∷ [])) f in
-    pickLines (eqb b 10) ended more
+    pick (eqb b 10) ended more
 
 abbrev pub lines : List ℕ → List (List ℕ)
 lines f = linesFrom [] f

@@ -7,16 +7,13 @@ use mathlib.Core.Bool.{Bool, true, false}
 use mathlib.Core.List.{List, [], _∷_, _++_}
 use Prim.Native.Nat.{ℕ}
 use lib.Dec.{eqb}
+use Rattle.text.specs.Choice.{pick}
 use Rattle.text.specs.Bytes.{isWordByte}
 
 pub data Token : Type 0 where
   opening : Token
   closing : Token
   word : List ℕ → Token
-
-abbrev pub pickTokens : Bool → List Token → List Token → List Token
-pickTokens true x y = x
-pickTokens false x y = y
 
 -- a word that has ended, unless it is empty, in front of ts
 abbrev pub ended : List ℕ → List Token → List Token
@@ -25,7 +22,7 @@ ended (b ∷ w) ts = Token.word (b ∷ w) ∷ ts
 
 -- a byte that stands in no word, in front of ts
 abbrev pub bracket : ℕ → List Token → List Token
-bracket b ts = pickTokens (eqb b 40) (Token.opening ∷ ts) (pickTokens (eqb b 41) (Token.closing ∷ ts) ts)
+bracket b ts = pick (eqb b 40) (Token.opening ∷ ts) (pick (eqb b 41) (Token.closing ∷ ts) ts)
 
 -- the tokens of what is left, behind the part w of a word
 unfoldable pub tokensFrom : List ℕ → List ℕ → List Token
@@ -33,7 +30,7 @@ tokensFrom w [] = ended w []
 tokensFrom w (b ∷ l) =
     let more = tokensFrom (w ++ (b ∷ [])) l in
     let other = ended w (bracket b (tokensFrom [] l)) in
-    pickTokens (isWordByte b) more other
+    pick (isWordByte b) more other
 
 abbrev pub tokens : List ℕ → List Token
 tokens l = tokensFrom [] l

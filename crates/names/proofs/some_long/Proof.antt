@@ -10,8 +10,8 @@ use lib.Seq.{slice, length-slice}
 use Rattle.text.specs.Tokens.{tokens}
 use Rattle.text.specs.Scanning.{Inside}
 use Rattle.names.specs.Names.{namesIn, someLong}
-use Rattle.names.proofs.LineNames.{some-long-here, some-long-later}
-use Rattle.names.proofs.LineNames.{namesLeft, left-end, left-open, left-close, left-form, left-name}
+use Rattle.names.proofs.LineNames.{some-long-here, some-long-later, namesLeft, left-end, left-open, left-close}
+use Rattle.names.proofs.LineNames.{left-form, left-name}
 use Rattle.names.proofs.some_long.Statement.{statement}
 use Rattle.names.proofs.some_long.Tie as tie
 

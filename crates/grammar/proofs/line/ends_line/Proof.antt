@@ -1,8 +1,8 @@
 -- `line::ends_line` meets its contract: each return is one law of the tokens that are left. Assumes nothing.
 use borrow.Author.Needs.{needs}
 use mathlib.Core.Path.{sym}
-use Rattle.grammar.proofs.Formulas.{found-as}
-use Rattle.grammar.proofs.Firsts.{end-unclosed, opening-unclosed, word-unclosed}
+use Rattle.formulas.proofs.Formulas.{found-as}
+use Rattle.formulas.proofs.Firsts.{end-unclosed, opening-unclosed, word-unclosed}
 use Rattle.grammar.proofs.Lines.{ends-unclosed, ends-closed, ends-more}
 use Rattle.grammar.proofs.line.ends_line.Statement.{statement}
 use Rattle.grammar.proofs.line.ends_line.Tie as tie

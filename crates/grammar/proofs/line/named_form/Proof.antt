@@ -3,8 +3,8 @@ use borrow.Author.Needs.{needs}
 use borrow.Author.Tests.{not-true, not-false}
 use mathlib.Core.Path.{_≡_, sym, _∙_}
 use native.Mathlib.Omega.{arith}
-use Rattle.grammar.proofs.Formulas.{found-as}
-use Rattle.grammar.proofs.Firsts.{end-unnamed, opening-unnamed, closing-unnamed, word-unnamed}
+use Rattle.formulas.proofs.Formulas.{found-as}
+use Rattle.formulas.proofs.Firsts.{end-unnamed, opening-unnamed, closing-unnamed, word-unnamed}
 use Rattle.grammar.proofs.Lines.{kind-unnamed, kind-unended, kind-fact, kind-assumption}
 use Rattle.grammar.proofs.line.named_form.Statement.{statement}
 use Rattle.grammar.proofs.line.named_form.Tie as tie

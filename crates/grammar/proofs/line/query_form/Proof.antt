@@ -4,7 +4,7 @@ use borrow.Author.Tests.{not-true, not-false}
 use mathlib.Core.Path.{sym, _∙_}
 use lib.ListN.{drop}
 use Rattle.text.specs.Tokens.{tokens}
-use Rattle.grammar.proofs.Formulas.{parsed-as}
+use Rattle.formulas.proofs.Formulas.{parsed-as}
 use Rattle.grammar.proofs.Lines.{query-none, query-unended, query-ended}
 use Rattle.grammar.proofs.line.query_form.Statement.{statement}
 use Rattle.grammar.proofs.line.query_form.Tie as tie

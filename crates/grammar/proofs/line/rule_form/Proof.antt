@@ -4,9 +4,9 @@ use borrow.Author.Tests.{not-true, not-false}
 use mathlib.Core.Path.{sym, ap, _∙_}
 use native.Mathlib.Omega.{arith}
 use lib.Seq.{slice}
+use Rattle.formulas.proofs.Formulas.{found-as}
+use Rattle.formulas.proofs.Firsts.{end-unnamed, opening-unnamed, closing-unnamed, word-unnamed}
 use Rattle.grammar.specs.Line.{Line, withBody}
-use Rattle.grammar.proofs.Formulas.{found-as}
-use Rattle.grammar.proofs.Firsts.{end-unnamed, opening-unnamed, closing-unnamed, word-unnamed}
 use Rattle.grammar.proofs.Lines.{kind-unnamed, rule-is, body-as, body-empty, body-filled}
 use Rattle.grammar.proofs.line.rule_form.Statement.{statement}
 use Rattle.grammar.proofs.line.rule_form.Tie as tie
@@ -60,7 +60,7 @@ returns-2 c =
     let t = found-as (c8 .before .before .token .ensures) (c8 .a .given .1) in
     let name = sym (c4 .before .before .is-name .ensures) ∙ not-false _ (c4 .before .if1 .left) in
     let b = body-as l (p .1 .0) (c4 .body .ensures) (c .before .before .n .given .1) in
-    let e = body-empty b (Line.rule (slice (p .0) (p .1 .0) l)) (c .if2 .taken) in
+    let e = body-empty b (Line.clause 2 (slice (p .0) (p .1 .0) l)) (c .if2 .taken) in
     record { form-is = rule-is (t .tokens-are) name ∙ e }
 
 returns-3 : tie.Need-returns-3
@@ -87,7 +87,7 @@ returns-6 c =
     let t = found-as (c8 .token .ensures) (c4 .before .before .a .given .1) in
     let name = sym (c4 .is-name .ensures) ∙ not-false _ (c .before .before .before .if1 .left) in
     let b = body-as l (p .1 .0) (c .before .before .body .ensures) (c .enum-told4 .given .1) in
-    record { form-is = rule-is (t .tokens-are) name ∙ ap (withBody (Line.rule (slice (p .0) (p .1 .0) l))) b }
+    record { form-is = rule-is (t .tokens-are) name ∙ ap (withBody (Line.clause 2 (slice (p .0) (p .1 .0) l))) b }
 
 returns-7 : tie.Need-returns-7
 returns-7 c =
@@ -99,7 +99,7 @@ returns-7 c =
     let t = found-as (c8 .before .before .token .ensures) (c8 .a .given .1) in
     let name = sym (c4 .before .before .is-name .ensures) ∙ not-false _ (c4 .before .if1 .left) in
     let b = body-as l (p .1 .0) (c4 .body .ensures) (c .before .before .n .given .1) in
-    let makes = body-filled b (Line.rule (slice (p .0) (p .1 .0) l)) _ (rule-is (t .tokens-are) name) (c .if2 .left) in
+    let makes = body-filled b (Line.clause 2 (slice (p .0) (p .1 .0) l)) _ (rule-is (t .tokens-are) name) (c .if2 .left) in
     record { form-is = ((t .inside .1, t .inside .2), makes) }
 
 pub rule-form-spec : {M : Type 1} → statement M

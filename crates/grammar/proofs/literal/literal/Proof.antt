@@ -2,8 +2,8 @@
 use borrow.Author.Needs.{needs}
 use mathlib.Core.Path.{sym, ap, _∙_}
 use native.Mathlib.Omega.{arith}
+use Rattle.formulas.proofs.Formulas.{found-as}
 use Rattle.grammar.specs.Parsing.{bodyIn}
-use Rattle.grammar.proofs.Formulas.{found-as}
 use Rattle.grammar.proofs.Bodies.{body-end, body-name, body-word, body-closed, body-more, inside-from}
 use Rattle.grammar.proofs.literal.literal.Statement.{statement}
 use Rattle.grammar.proofs.literal.literal.Tie as tie

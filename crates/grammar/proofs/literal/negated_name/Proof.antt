@@ -3,11 +3,11 @@ use borrow.Author.Needs.{needs}
 use borrow.Author.Tests.{not-true, not-false}
 use mathlib.Core.Path.{sym, _∙_}
 use native.Mathlib.Omega.{arith}
-use Rattle.grammar.proofs.Formulas.{found-as}
-use Rattle.grammar.proofs.Firsts.{end-unclosed, opening-unclosed, word-unclosed}
-use Rattle.grammar.proofs.Firsts.{end-unnamed, opening-unnamed, closing-unnamed, word-unnamed}
-use Rattle.grammar.proofs.Bodies.{opened-end, opened-opening, opened-closing, opened-other}
-use Rattle.grammar.proofs.Bodies.{negation-unnamed, negation-unclosed, negation-name}
+use Rattle.formulas.proofs.Formulas.{found-as}
+use Rattle.formulas.proofs.Firsts.{end-unclosed, opening-unclosed, word-unclosed, end-unnamed, opening-unnamed}
+use Rattle.formulas.proofs.Firsts.{closing-unnamed, word-unnamed}
+use Rattle.grammar.proofs.Bodies.{opened-end, opened-opening, opened-closing, opened-other, negation-unnamed}
+use Rattle.grammar.proofs.Bodies.{negation-unclosed, negation-name}
 use Rattle.grammar.proofs.literal.negated_name.Statement.{statement}
 use Rattle.grammar.proofs.literal.negated_name.Tie as tie
 

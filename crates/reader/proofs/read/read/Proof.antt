@@ -6,10 +6,10 @@ use mathlib.Core.List.{List}
 use Prim.Native.Nat.{ℕ}
 use borrow.Author.Needs.{needs}
 use borrow.Author.Tests.{not-true, not-false}
-use Rattle.reader.specs.Lent.{Lent, lent}
+use Rattle.store.specs.Lent.{Lent, lent}
 use Rattle.reader.proofs.ReadingEnds.{lines-read-lengths}
-use Rattle.reader.proofs.ReadingEarly.{Full, long-tables, read-early, read-through}
-use Rattle.reader.proofs.ReadingEarly.{early-table-short, early-names-short, early-file-long, early-none}
+use Rattle.reader.proofs.ReadingEarly.{Full, long-tables, read-early, read-through, early-table-short}
+use Rattle.reader.proofs.ReadingEarly.{early-names-short, early-file-long, early-none}
 use Rattle.reader.proofs.read.read.Statement.{statement}
 use Rattle.reader.proofs.read.read.Tie as tie
 

@@ -7,10 +7,10 @@ use native.Mathlib.Omega.{arith}
 use lib.ListN.{length}
 use borrow.Author.Needs.{needs}
 use borrow.Author.Tests.{not-true, not-false}
-use Rattle.reader.specs.Lent.{Lent, lent}
+use Rattle.store.specs.Lent.{Lent, lent}
 use Rattle.reader.proofs.ReadingLines.{LinesTaken, no-lines-taken, line-taken, line-refused, line-refused-long}
-use Rattle.reader.proofs.ReadingEnds.{lines-read-lengths, refused-read, causes-countable}
-use Rattle.reader.proofs.ReadingEnds.{read-without-query, read-many-causes, read-case}
+use Rattle.reader.proofs.ReadingEnds.{lines-read-lengths, refused-read, causes-countable, read-without-query}
+use Rattle.reader.proofs.ReadingEnds.{read-many-causes, read-case}
 use Rattle.reader.proofs.read.read_lines.Statement.{statement}
 use Rattle.reader.proofs.read.read_lines.Tie as tie
 

@@ -6,7 +6,7 @@ use lib.ListN.{length}
 use borrow.Author.Needs.{needs}
 use Rattle.program.specs.Cause.{causesAmong, causesOf}
 use Rattle.program.proofs.Causes.{causes-of}
-use Rattle.reader.specs.Lent.{Lent, lent}
+use Rattle.store.specs.Lent.{Lent, lent}
 use Rattle.report.proofs.Reported.{Exact, Accepted, Answered, refused-report, accepted-report, accepted-held}
 use Rattle.report.proofs.Reported.{accepted-clauses, accepted-constraints, accepted-answered}
 use Rattle.report.proofs.operation.report_in.Statement.{statement}

@@ -1,0 +1,137 @@
+-- The number of a line's refusal by its checks, one law for each check in their order; and what a line with that number
+-- leaves. Assumes nothing.
+use mathlib.Core.Path.{_≡_, refl, sym, ap, subst, _∙_}
+use mathlib.Core.Bool.{true, false}
+use mathlib.Core.List.{List}
+use Prim.Native.Nat.{ℕ, _≤_, _<_}
+use native.Mathlib.Omega.{arith}
+use lib.Dec.{ltb}
+use lib.ListN.{length}
+use borrow.Author.Tests.{lt-ltb, le-ltb}
+use Rattle.text.specs.Bytes.{isAllowed, allOf}
+use Rattle.text.specs.Lines.{isComment}
+use Rattle.text.specs.Tokens.{Token, tokens}
+use Rattle.grammar.specs.Line.{Line, lineOf, isNoForm}
+use Rattle.names.specs.Names.{namesIn, someLong, withNames}
+use Rattle.store.specs.Lent.{Lent}
+use Rattle.store.specs.Saying.{Said, renamed}
+use Rattle.store.specs.Checking.{isDeep, isOneTooMany, isSecondQuery}
+use Rattle.store.specs.Held.{Limits, Spoilt}
+use Rattle.store.specs.Taking.{Allowed}
+use Rattle.checks.specs.declared.take.Taken.{Taken}
+use Rattle.checks.specs.Checks.{saidWith, formRefusal, lineRefusal, saidAfter}
+use Rattle.checks.specs.Took.{Refused, Took}
+use Rattle.checks.proofs.SaidWith.{with-names, deep-said, Many, many-said, second-said}
+
+-- a line refused by a number
+pub refused-by : (n k : ℕ) (old t : Lent) → n ≡ k → 0 < k → Spoilt old t → Refused n k old t
+refused-by n k old t e p s = record { number-is = sym e; not-zero = λ z. omega arith; spoilt = s }
+
+pub took-as : (n m : ℕ) (x y : Said) (r : Taken) (old t : Lent) → n ≡ m → x ≡ y → Took m y r old t → Took n x r old t
+took-as n m x y r old t e f h =
+    subst (λ k. Took k x r old t) (sym e) (subst (λ z. Took m z r old t) (sym f) h)
+
+-- 5 to 10, over the tokens of the line
+module _ (st : Said) (ts : List Token) where
+  abbrev more : List (List ℕ)
+  more = withNames (st .names) (namesIn ts)
+
+  pub form-refused-5 : isNoForm (lineOf ts) ≡ true → formRefusal st ts ≡ 5
+  unfolding formRefusal
+  form-refused-5 a = rw a
+
+  module _ (a : isNoForm (lineOf ts) ≡ false) where
+    pub form-refused-6 : someLong (namesIn ts) ≡ true → formRefusal st ts ≡ 6
+    unfolding formRefusal
+    form-refused-6 b = rw (a, b)
+
+    module _ (b : someLong (namesIn ts) ≡ false) where
+      pub form-refused-7 : isDeep (lineOf ts) ≡ true → formRefusal st ts ≡ 7
+      unfolding formRefusal
+      form-refused-7 d = rw (a, b, deep-said (lineOf ts) ∙ d)
+
+      module _ (d : isDeep (lineOf ts) ≡ false) where
+        pub form-refused-8 : 64 < length more → formRefusal st ts ≡ 8
+        unfolding formRefusal
+        form-refused-8 e =
+            rw (
+              a,
+              b,
+              deep-said (lineOf ts) ∙ d,
+              ap (λ (m : List (List ℕ)). ltb 64 (length m)) (with-names st ts) ∙ lt-ltb _ _ e,
+            )
+
+        module _ (e : length more ≤ 64) (lim : Limits st) where
+          few : ltb 64 (length (saidWith st ts .names)) ≡ false
+          few = ap (λ (m : List (List ℕ)). ltb 64 (length m)) (with-names st ts) ∙ le-ltb _ _ e
+
+          many : Many (saidWith st ts) ≡ isOneTooMany st (lineOf ts)
+          many = many-said st more (lim .clauses-few) (lim .constraints-few) (lineOf ts)
+
+          pub form-refused-9 : isOneTooMany st (lineOf ts) ≡ true → formRefusal st ts ≡ 9
+          unfolding formRefusal
+          form-refused-9 f = rw (a, b, deep-said (lineOf ts) ∙ d, few, many ∙ f)
+
+          module _ (f : isOneTooMany st (lineOf ts) ≡ false) where
+            pub form-refused-10 : isSecondQuery st (lineOf ts) ≡ true → formRefusal st ts ≡ 10
+            unfolding formRefusal
+            form-refused-10 g =
+                let second = second-said st more (lim .queries-few) (lineOf ts) in
+                rw (a, b, deep-said (lineOf ts) ∙ d, few, many ∙ f, second ∙ g)
+
+            pub form-passes : isSecondQuery st (lineOf ts) ≡ false → formRefusal st ts ≡ 0
+            unfolding formRefusal
+            form-passes g =
+                let second = second-said st more (lim .queries-few) (lineOf ts) in
+                rw (a, b, deep-said (lineOf ts) ∙ d, few, many ∙ f, second ∙ g)
+
+-- the checks of a form look at no name
+module _ (st : Said) (ns : List (List ℕ)) where
+  one-too-many-renamed : (y : Line) → isOneTooMany (renamed ns st) y ≡ isOneTooMany st y
+  one-too-many-renamed Line.skipped = refl
+  one-too-many-renamed Line.noForm = refl
+  one-too-many-renamed (Line.clause k w l) = refl
+  one-too-many-renamed (Line.never l) = refl
+  one-too-many-renamed (Line.seen x) = refl
+  one-too-many-renamed (Line.query f) = refl
+
+  second-query-renamed : (y : Line) → isSecondQuery (renamed ns st) y ≡ isSecondQuery st y
+  second-query-renamed Line.skipped = refl
+  second-query-renamed Line.noForm = refl
+  second-query-renamed (Line.clause k w l) = refl
+  second-query-renamed (Line.never l) = refl
+  second-query-renamed (Line.seen x) = refl
+  second-query-renamed (Line.query f) = refl
+
+  pub renamed-allowed : (y : Line) → isNoForm y ≡ false → isOneTooMany st y ≡ false → isSecondQuery st y ≡ false
+      → Allowed (renamed ns st) y
+  renamed-allowed y a b d =
+      record { form = a; room = one-too-many-renamed y ∙ b; only-query = second-query-renamed y ∙ d }
+
+-- 3 and 4, over the bytes of the line
+module _ (st : Said) (l : List ℕ) where
+  pub line-refused-3 : 200 < length l → lineRefusal st l ≡ 3
+  unfolding lineRefusal
+  line-refused-3 h = rw (lt-ltb _ _ h)
+
+  module _ (h : length l ≤ 200) where
+    pub comment-passes : isComment l ≡ true → lineRefusal st l ≡ 0
+    unfolding lineRefusal
+    comment-passes a = rw (le-ltb _ _ h, a)
+
+    module _ (a : isComment l ≡ false) where
+      pub line-refused-4 : allOf isAllowed l ≡ false → lineRefusal st l ≡ 4
+      unfolding lineRefusal
+      line-refused-4 b = rw (le-ltb _ _ h, a, b)
+
+      pub line-refused-as : allOf isAllowed l ≡ true → lineRefusal st l ≡ formRefusal st (tokens l)
+      unfolding lineRefusal
+      line-refused-as b = rw (le-ltb _ _ h, a, b)
+
+  pub comment-says : isComment l ≡ true → saidAfter st l ≡ st
+  unfolding saidAfter
+  comment-says a = rw a
+
+  pub line-says : isComment l ≡ false → saidAfter st l ≡ saidWith st (tokens l)
+  unfolding saidAfter
+  line-says a = rw a

@@ -1,0 +1,7 @@
+-- In reading order.
+-- Checks: the checks of a line, in their order, and what was read with a line that passes them.
+-- Naming: what a name is.
+-- Took: what taking a line answers and leaves.
+pub mod Checks
+pub mod Naming
+pub mod Took

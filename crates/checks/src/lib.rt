@@ -1,0 +1,2 @@
+// Taking a line that passes its checks.
+pub mod take;

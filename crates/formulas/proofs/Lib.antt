@@ -1,0 +1,14 @@
+-- Keywords: the numbers that the words of forms have.
+-- Sentences: names and formulas.
+-- Items: what a token makes of the items behind it.
+-- Sizes: how many nodes formulas have.
+-- Formulas: formulas at a place of a line.
+-- Firsts: what items begin with.
+-- Fronts: what a formula that items begin with is.
+pub mod Keywords
+pub mod Sentences
+pub mod Items
+pub mod Sizes
+pub mod Formulas
+pub mod Firsts
+pub mod Fronts

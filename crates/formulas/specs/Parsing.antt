@@ -1,0 +1,78 @@
+-- What parsing a formula from a place of a line finds, in the code's places.
+--
+--   beginsFormula x      the items begin with a formula
+--   depthOf f            a name has depth 1, a form one more than its deepest operand
+--   sizeOf f             the number of nodes of f: its names and its forms
+--   Parsed l at r        r is the formula at place at of the line l, with its depth and the place behind it, or none
+--   Closed l at d r      r is a form of depth d whose closing bracket is at or behind place at, or none
+use mathlib.Core.Path.{_≡_}
+use mathlib.Core.Bool.{Bool, true, false}
+use mathlib.Core.List.{List, [], _∷_}
+use mathlib.Core.Option.{Option}
+use Prim.Native.Nat.{ℕ, _+_, _*_, _≤_, _<_, max}
+use lib.ListN.{length, drop}
+use Rattle.text.specs.Tokens.{tokens}
+use Rattle.formulas.specs.Sentence.{prepend, Sentence, Item, closed, withFirst, itemsOf}
+use Rattle.formulas.specs.declared.formula.Parse.{Parse}
+use Rattle.formulas.specs.declared.formula.Parse.the-variants.{NoFormula, Formula}
+
+-- what tokens are read as, or that they are none
+abbrev pub Items : Type 0
+Items = Option (List Item)
+
+-- the form "not", where the next items are its operand and closing bracket
+abbrev pub withOne : List Item → Items
+withOne l = withFirst Option.none (λ f m. closed (Sentence.negation f) m) l
+
+-- the form with node k and the first operand f, where the next items are its second operand and closing bracket
+abbrev pub withSecond : ℕ → Sentence → List Item → Items
+withSecond k f l = withFirst Option.none (λ g m. closed (Sentence.joined k f g) m) l
+
+-- the form with node k, where the next items are its two operands and closing bracket
+abbrev pub withTwo : ℕ → List Item → Items
+withTwo k l = withFirst Option.none (λ f m. withSecond k f m) l
+
+abbrev pub beginsFormula : Items → Bool
+beginsFormula Option.none = false
+beginsFormula (Option.some []) = false
+beginsFormula (Option.some (Item.closing ∷ l)) = false
+beginsFormula (Option.some (Item.formula f ∷ l)) = true
+
+unfoldable pub depthOf : Sentence → ℕ
+depthOf (Sentence.name w) = 1
+depthOf (Sentence.negation f) = 1 + depthOf f
+depthOf (Sentence.joined k f g) = 1 + max (depthOf f) (depthOf g)
+
+unfoldable pub sizeOf : Sentence → ℕ
+sizeOf (Sentence.name w) = 1
+sizeOf (Sentence.negation f) = 1 + sizeOf f
+sizeOf (Sentence.joined k f g) = 1 + sizeOf f + sizeOf g
+
+-- the formula f with the rest behind place next, and room for its nodes, two bytes for each but the last
+pub record FormulaAt (l : List ℕ) (at next d : ℕ) : Type 0 where
+  pub sentence : Sentence
+  pub items-are : itemsOf (tokens (drop at l)) ≡ prepend (Item.formula sentence) (itemsOf (tokens (drop next l)))
+  pub depth-is : d ≡ depthOf sentence
+  pub onward : at < next
+  pub within : next ≤ length l
+  pub room : at + 2 * sizeOf sentence ≤ next + 1
+
+abbrev pub Parsed : List ℕ → ℕ → Parse → Type 0
+Parsed l at NoFormula = beginsFormula (itemsOf (tokens (drop at l))) ≡ false
+Parsed l at (Formula next d) = FormulaAt l at next d
+
+-- the form f, where the items begin with its closing bracket
+abbrev pub closedAmong : Sentence → Items → Items
+closedAmong f Option.none = Option.none
+closedAmong f (Option.some m) = closed f m
+
+-- a closing bracket stands at or behind place at, and the rest behind place next
+pub record ClosingAt (l : List ℕ) (at next : ℕ) : Type 0 where
+  pub items-are : (f : Sentence)
+      → closedAmong f (itemsOf (tokens (drop at l))) ≡ prepend (Item.formula f) (itemsOf (tokens (drop next l)))
+  pub onward : at < next
+  pub within : next ≤ length l
+
+abbrev pub Closed : List ℕ → ℕ → ℕ → Parse → Type 0
+Closed l at d NoFormula = (f : Sentence) → closedAmong f (itemsOf (tokens (drop at l))) ≡ Option.none
+Closed l at d (Formula next e) = (e ≡ d) × ClosingAt l at next

@@ -1,0 +1,85 @@
+// Formulas in a line.
+ghost use mathlib.Core.Path.{_≡_};
+ghost use Prim.Native.Nat.{_≤_, _<_, max};
+ghost use lib.ListN.{length};
+ghost use lib.Seq.{slice};
+ghost use Rattle.formulas.specs.Sentence.{isName};
+ghost use Rattle.formulas.specs.Parsing.{Parsed, Closed};
+use crate::keyword::node_of;
+use text::tokens::Next;
+use text::tokens::token;
+
+// A formula found in a line: the place behind it, and its depth.
+pub enum Parse {
+    NoFormula,
+    Formula(usize, usize),
+}
+
+// Whether the word from a to e is a name.
+pub fn is_name(l: &[u8], a: usize, e: usize) -> bool
+    requires { ⌜ (a < e) × (e ≤ length (now l)) ⌝ }
+    ensures { λ r. ⌜ r ≡ isName (slice a e (now (l .entry))) ⌝ }
+{
+    let b = l[a];
+    if b < 97 {
+        return false;
+    }
+    b <= 122
+}
+
+fn greater_of(a: usize, b: usize) -> usize
+    ensures { λ r. ⌜ r ≡ max a b ⌝ }
+{
+    if a < b { b } else { a }
+}
+
+// A form of a depth, where its closing bracket is at or behind a place.
+fn closed_form(l: &[u8], at: usize, depth: usize) -> Parse
+    ensures { λ r. ⌜ Closed (now (l .entry)) at depth r ⌝ }
+{
+    match token(l, at) {
+        Next::Close(next) => Parse::Formula(next, depth),
+        Next::Open(_) => Parse::NoFormula,
+        Next::Word(_, _) => Parse::NoFormula,
+        Next::End => Parse::NoFormula,
+    }
+}
+
+// The formula at or behind a place.
+pub fn formula_at(l: &[u8], at: usize) -> Parse
+    ensures { λ r. ⌜ Parsed (now (l .entry)) at r ⌝ }
+{
+    match token(l, at) {
+        Next::End => Parse::NoFormula,
+        Next::Close(_) => Parse::NoFormula,
+        Next::Word(a, e) => {
+            if is_name(l, a, e) {
+                return Parse::Formula(e, 1);
+            }
+            Parse::NoFormula
+        }
+        Next::Open(i) => match token(l, i) {
+            Next::End => Parse::NoFormula,
+            Next::Open(_) => Parse::NoFormula,
+            Next::Close(_) => Parse::NoFormula,
+            Next::Word(a, e) => {
+                let node = node_of(l, a, e);
+                if node == 0 {
+                    return Parse::NoFormula;
+                }
+                match formula_at(l, e) {
+                    Parse::NoFormula => Parse::NoFormula,
+                    Parse::Formula(j, d) => {
+                        if node == 64 {
+                            return closed_form(l, j, d + 1);
+                        }
+                        match formula_at(l, j) {
+                            Parse::NoFormula => Parse::NoFormula,
+                            Parse::Formula(k, f) => closed_form(l, k, greater_of(d, f) + 1),
+                        }
+                    }
+                }
+            }
+        },
+    }
+}

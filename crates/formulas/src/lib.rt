@@ -1,0 +1,3 @@
+// Formulas in a line of a case file.
+pub mod formula;
+pub mod keyword;

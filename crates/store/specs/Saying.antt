@@ -1,0 +1,100 @@
+-- What a file says: names, clauses, constraints, observed literals and the query, by atom numbers.
+-- From: document 01, "The file" and "Case tables and sound cases".
+--
+--   Said               what was read so far; plain and negated are the observed atoms, bit i for atom i
+--   plainAtoms ns ls   the atoms of the plain literals of ls, bit i for atom i; a literal repeated counts once
+--   negatedAtoms       the same of the negated ones
+--   encoded ns f       the formula f with the names' atoms
+--   saidBy st x        st, which has the names of the line x already, with what x says
+use mathlib.Core.Bool.{Bool, true, false, not, _&&_, _||_}
+use mathlib.Core.List.{List, [], _∷_, _++_}
+use Prim.Native.Nat.{ℕ, zero, suc, _-_}
+use lib.Dec.{eqb}
+use Rattle.words.specs.Bits.{has, word}
+use Rattle.logic.specs.Formula.{Formula}
+use Rattle.logic.specs.Nodes.{joined}
+use Rattle.text.specs.Choice.{pick}
+use Rattle.formulas.specs.Sentence.{Sentence}
+use Rattle.grammar.specs.Line.{Line, Literal}
+use Rattle.names.specs.Names.{atomOf}
+
+-- a clause by its head, its kind (0 fact, 1 assumption, 2 rule) and the atoms of its literals
+pub record ClauseRow : Type 0 where
+  pub head : ℕ
+  pub kind : ℕ
+  pub plain : ℕ
+  pub negated : ℕ
+
+-- a constraint by the atoms of its literals
+pub record ConstraintRow : Type 0 where
+  pub plain : ℕ
+  pub negated : ℕ
+
+pub record Said : Type 0 where
+  pub names : List (List ℕ)
+  pub clauses : List ClauseRow
+  pub constraints : List ConstraintRow
+  pub plain : ℕ
+  pub negated : ℕ
+  pub queries : List Formula
+
+-- what was read, by its parts
+abbrev pub said : List (List ℕ) → List ClauseRow → List ConstraintRow → ℕ → ℕ → List Formula → Said
+said ns cs ds p q fs = record { names = ns; clauses = cs; constraints = ds; plain = p; negated = q; queries = fs }
+
+abbrev pub nothingSaid : Said
+nothingSaid = said [] [] [] 0 0 []
+
+-- some literal of l is on atom a, negated where b holds and plain otherwise
+unfoldable pub someOn : List (List ℕ) → Bool → List Literal → ℕ → Bool
+someOn ns b [] a = false
+someOn ns b (Literal.literal n w ∷ l) a = (pick b n (not n) && eqb (atomOf ns w) a) || someOn ns b l a
+
+unfoldable pub plainAtoms : List (List ℕ) → List Literal → ℕ
+plainAtoms ns l = word 64 (someOn ns false l)
+
+unfoldable pub negatedAtoms : List (List ℕ) → List Literal → ℕ
+negatedAtoms ns l = word 64 (someOn ns true l)
+
+unfoldable pub encoded : List (List ℕ) → Sentence → Formula
+encoded ns (Sentence.name w) = Formula.atom (atomOf ns w)
+encoded ns (Sentence.negation f) = Formula.negation (encoded ns f)
+encoded ns (Sentence.joined k f g) = joined (k - 65) (encoded ns f) (encoded ns g)
+
+abbrev pub clauseRow : List (List ℕ) → ℕ → List ℕ → List Literal → ClauseRow
+clauseRow ns k w l = record { head = atomOf ns w; kind = k; plain = plainAtoms ns l; negated = negatedAtoms ns l }
+
+abbrev pub constraintRow : List (List ℕ) → List Literal → ConstraintRow
+constraintRow ns l = record { plain = plainAtoms ns l; negated = negatedAtoms ns l }
+
+-- the atoms of two words
+abbrev pub orAtoms : ℕ → ℕ → ℕ
+orAtoms v w = word 64 (λ a. has v a || has w a)
+
+-- st with the names ns
+abbrev pub renamed : List (List ℕ) → Said → Said
+renamed ns st = said ns (st .clauses) (st .constraints) (st .plain) (st .negated) (st .queries)
+
+-- st with a clause, a constraint, observed literals or a query more
+abbrev pub withClause : Said → ClauseRow → Said
+withClause st c = said (st .names) (st .clauses ++ (c ∷ [])) (st .constraints) (st .plain) (st .negated) (st .queries)
+
+abbrev pub withConstraint : Said → ConstraintRow → Said
+withConstraint st c =
+    said (st .names) (st .clauses) (st .constraints ++ (c ∷ [])) (st .plain) (st .negated) (st .queries)
+
+abbrev pub withObserved : Said → List Literal → Said
+withObserved st l =
+    said (st .names) (st .clauses) (st .constraints) (orAtoms (st .plain) (plainAtoms (st .names) l))
+    (orAtoms (st .negated) (negatedAtoms (st .names) l)) (st .queries)
+
+abbrev pub withQuery : Said → Formula → Said
+withQuery st f = said (st .names) (st .clauses) (st .constraints) (st .plain) (st .negated) (st .queries ++ (f ∷ []))
+
+unfoldable pub saidBy : Said → Line → Said
+saidBy st Line.skipped = st
+saidBy st Line.noForm = st
+saidBy st (Line.clause k w l) = withClause st (clauseRow (st .names) k w l)
+saidBy st (Line.never l) = withConstraint st (constraintRow (st .names) l)
+saidBy st (Line.seen x) = withObserved st (x ∷ [])
+saidBy st (Line.query f) = withQuery st (encoded (st .names) f)
