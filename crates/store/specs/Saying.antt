@@ -2,6 +2,7 @@
 -- From: document 01, "The file" and "Case tables and sound cases".
 --
 --   Said               what was read so far; plain and negated are the observed atoms, bit i for atom i
+--   nothingSaid        what was read before the first line; renamed and with.. are st with a part exchanged
 --   plainAtoms ns ls   the atoms of the plain literals of ls, bit i for atom i; a literal repeated counts once
 --   negatedAtoms       the same of the negated ones
 --   encoded ns f       the formula f with the names' atoms

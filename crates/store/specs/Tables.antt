@@ -4,7 +4,7 @@
 --   clauseWords cs       the words of clauses: three each
 --   constraintWords cs   the words of constraints: two each
 --   formulaNodes fs      the nodes of formulas
---   caseSaid st          the record of what was read
+--   caseWith ..          a record by its parts; caseSaid st the record of what was read
 use mathlib.Core.List.{List, [], _∷_, _++_}
 use Prim.Native.Nat.{ℕ, _+_, _*_}
 use lib.ListN.{length}
