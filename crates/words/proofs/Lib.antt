@@ -3,10 +3,12 @@
 -- Bits: laws of `has` and of the machine's operations on bits, for every bit number and width.
 -- Words: a number as the word of its bits.
 -- BitWalks: a word without one of its bits, and what a walk over the bits goes by.
+-- LowestBit: a word and the number one less.
 -- Counts: how the count of ones grows with the word.
 pub mod Tests
 pub mod Below
 pub mod Bits
 pub mod Words
 pub mod BitWalks
+pub mod LowestBit
 pub mod Counts

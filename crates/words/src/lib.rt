@@ -1,7 +1,7 @@
 // Words of 64 bits as sets of bit numbers: one bit, the lowest bits, the test of a bit, the count of ones, a walk over
 // the bits.
 ghost use mathlib.Core.Path.{_≡_};
-ghost use Prim.Native.Nat.{_+_, _^_, _≤_, _<_};
+ghost use Prim.Native.Nat.{ℕ, _+_, _^_, _≤_, _<_};
 ghost use lib.Count.{ones};
 ghost use Rattle.words.specs.Bits.{has, withoutBit, LowestOf};
 
@@ -51,4 +51,12 @@ pub fn without(w: u64, i: u32) -> u64
     ensures { λ r. ⌜ r ≡ withoutBit w i ⌝ }
 {
     w & !(1u64 << i)
+}
+
+// The word w without its lowest bit.
+pub fn without_lowest(w: u64) -> u64
+    requires { ⌜ (w ≡ 0 → ⊥) ⌝ }
+    ensures { λ r. ⌜ ((i : ℕ) → LowestOf w i → r ≡ withoutBit w i) ⌝ }
+{
+    w & (w - 1)
 }
