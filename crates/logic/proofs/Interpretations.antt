@@ -143,6 +143,39 @@ module _ (q : Value → Bool) (v : ℕ → Value) (w : ℕ) (a : ℕ) (x : Value
       (λ b m. has-without-one 64 w a b l m ∙ ap (λ (t : Bool). t && not (eqb b a)) (bits b)
       ∙ without-pick e (eqb b a) (v b))
 
+  -- where x passes as the value of atom a does, the same
+  pub assigned-alike : q x ≡ q (v a) → w ≡ word 64 (λ b. q (assigned v a x b))
+  assigned-alike e = is-word 64 w (λ b. q (assigned v a x b)) fits (λ b m. bits b ∙ alike b (eqb b a) refl)
+    where
+      alike : (b : ℕ) (t : Bool) → eqb b a ≡ t → q (v b) ≡ q (pickValue t x (v b))
+      alike b true p = ap (λ (y : ℕ). q (v y)) (eqb-true b a p) ∙ sym e
+      alike b false p = refl
+
+-- the words of i with the atom a assigned the value x
+module _ (i : Interpretation) (a : ℕ) (g : Good i) (l : a < 64) (x : Value) where
+  pub trues-more : isTrue x ≡ true → bitOr (i .trues) (2 ^ a) ≡ word 64 (λ b. isTrue (assigned (valueAt i) a x b))
+  trues-more = assigned-more isTrue (valueAt i) (i .trues) a x (g .trues-fit) l (λ b. sym (true-at i b))
+
+  pub trues-less : isTrue x ≡ false
+      → bitAnd (i .trues) (2 ^ 64 - 1 - 2 ^ a) ≡ word 64 (λ b. isTrue (assigned (valueAt i) a x b))
+  trues-less = assigned-less isTrue (valueAt i) (i .trues) a x (g .trues-fit) l (λ b. sym (true-at i b))
+
+  pub trues-alike : isTrue x ≡ isTrue (valueAt i a) → i .trues ≡ word 64 (λ b. isTrue (assigned (valueAt i) a x b))
+  trues-alike = assigned-alike isTrue (valueAt i) (i .trues) a x (g .trues-fit) l (λ b. sym (true-at i b))
+
+  pub falses-more : isFalse x ≡ true → bitOr (i .falses) (2 ^ a) ≡ word 64 (λ b. isFalse (assigned (valueAt i) a x b))
+  falses-more =
+      assigned-more isFalse (valueAt i) (i .falses) a x (g .falses-fit) l (λ b. sym (false-at i (g .disjoint) b))
+
+  pub falses-less : isFalse x ≡ false
+      → bitAnd (i .falses) (2 ^ 64 - 1 - 2 ^ a) ≡ word 64 (λ b. isFalse (assigned (valueAt i) a x b))
+  falses-less =
+      assigned-less isFalse (valueAt i) (i .falses) a x (g .falses-fit) l (λ b. sym (false-at i (g .disjoint) b))
+
+  pub falses-alike : isFalse x ≡ isFalse (valueAt i a) → i .falses ≡ word 64 (λ b. isFalse (assigned (valueAt i) a x b))
+  falses-alike =
+      assigned-alike isFalse (valueAt i) (i .falses) a x (g .falses-fit) l (λ b. sym (false-at i (g .disjoint) b))
+
 -- ---- the decided atoms
 pub decided-at : (i : Interpretation) → Disjoint i → (a : ℕ)
     → has (bitOr (i .trues) (i .falses)) a ≡ (isTrue (valueAt i a) || isFalse (valueAt i a))

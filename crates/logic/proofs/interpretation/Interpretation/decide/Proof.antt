@@ -1,39 +1,13 @@
 -- `Interpretation::decide` meets its contract: by the value decided, each word has the atom's bit more or less.
 -- Assumes nothing.
-use mathlib.Core.Path.{_≡_, refl, sym}
-use mathlib.Core.Bool.{true, false}
-use Prim.Native.Nat.{ℕ, _-_, _^_, _<_}
+use mathlib.Core.Path.{refl}
 use native.Mathlib.Omega.{arith}
-use lib.Bits.{bitAnd, bitOr}
 use borrow.Author.Needs.{needs}
-use Rattle.words.specs.Bits.{word}
-use Rattle.logic.specs.declared.value.Value.{Value}
 use Rattle.logic.specs.declared.value.Value.the-variants.{False, Unknown, True}
-use Rattle.logic.specs.declared.interpretation.Interpretation.{Interpretation}
-use Rattle.logic.specs.Value.{isTrue, isFalse}
-use Rattle.logic.specs.Interpretation.{valueAt, assigned}
-use Rattle.logic.proofs.Interpretations.{Good, interpretation-eq, true-at, false-at}
-use Rattle.logic.proofs.Interpretations.{assigned-more, assigned-less}
+use Rattle.logic.proofs.Interpretations.{Good, interpretation-eq}
+use Rattle.logic.proofs.Interpretations.{trues-more, trues-less, falses-more, falses-less}
 use Rattle.logic.proofs.interpretation.Interpretation.decide.Statement.{statement}
 use Rattle.logic.proofs.interpretation.Interpretation.decide.Tie as tie
-
--- the words of i with the atom a assigned the value x
-module _ (i : Interpretation) (a : ℕ) (g : Good i) (l : a < 64) (x : Value) where
-  trues-more : isTrue x ≡ true → bitOr (i .trues) (2 ^ a) ≡ word 64 (λ b. isTrue (assigned (valueAt i) a x b))
-  trues-more = assigned-more isTrue (valueAt i) (i .trues) a x (g .trues-fit) l (λ b. sym (true-at i b))
-
-  trues-less : isTrue x ≡ false
-      → bitAnd (i .trues) (2 ^ 64 - 1 - 2 ^ a) ≡ word 64 (λ b. isTrue (assigned (valueAt i) a x b))
-  trues-less = assigned-less isTrue (valueAt i) (i .trues) a x (g .trues-fit) l (λ b. sym (true-at i b))
-
-  falses-more : isFalse x ≡ true → bitOr (i .falses) (2 ^ a) ≡ word 64 (λ b. isFalse (assigned (valueAt i) a x b))
-  falses-more =
-      assigned-more isFalse (valueAt i) (i .falses) a x (g .falses-fit) l (λ b. sym (false-at i (g .disjoint) b))
-
-  falses-less : isFalse x ≡ false
-      → bitAnd (i .falses) (2 ^ 64 - 1 - 2 ^ a) ≡ word 64 (λ b. isFalse (assigned (valueAt i) a x b))
-  falses-less =
-      assigned-less isFalse (valueAt i) (i .falses) a x (g .falses-fit) l (λ b. sym (false-at i (g .disjoint) b))
 
 single-requires : tie.Need-single-requires
 single-requires c κs = search needs
