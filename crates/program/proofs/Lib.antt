@@ -2,6 +2,7 @@
 -- Causes: laws of the causes among the atoms.
 -- Atoms: the atoms of a word are as many as its ones, and below 64, and its lowest bit comes first.
 -- Settings: how many settings there are, the digits of a setting, and what it adds.
+-- NextSetting: the digit of a setting's lowest cause, and the walk that carries a setting to the next.
 -- Sets: the sets of causes that settings are.
 -- Soundness: the kinds of clauses, and what a sound case is sound of.
 -- Theorems: the claims of specs/Claims.antt.
@@ -9,6 +10,7 @@ pub mod Heads
 pub mod Causes
 pub mod Atoms
 pub mod Settings
+pub mod NextSetting
 pub mod Sets
 pub mod Soundness
 pub mod Theorems

@@ -66,14 +66,14 @@ digit-none w b (suc n) a s h = go (has w a) refl (λ t. digit-none w b n (suc a)
     go false e ih = digit-other w a n s b e ∙ ih s
 
 -- ---- what a digit adds to each word
-with-facts : (x : Additions) (a e : ℕ) → withDigit x a e .facts ≡ withBit (eqb e 1) (x .facts) a
+pub with-facts : (x : Additions) (a e : ℕ) → withDigit x a e .facts ≡ withBit (eqb e 1) (x .facts) a
 with-facts x a zero = refl
 with-facts x a (suc zero) = refl
 with-facts x a (suc (suc zero)) = refl
 with-facts x a (suc (suc (suc e))) =
     ap (λ (t : Bool). withBit t (x .facts) a) (sym (ne-eqb (suc (suc (suc e))) 1 (λ q. omega arith)))
 
-with-assumptions : (x : Additions) (a e : ℕ) → withDigit x a e .assumptions ≡ withBit (eqb e 2) (x .assumptions) a
+pub with-assumptions : (x : Additions) (a e : ℕ) → withDigit x a e .assumptions ≡ withBit (eqb e 2) (x .assumptions) a
 with-assumptions x a zero = refl
 with-assumptions x a (suc zero) = refl
 with-assumptions x a (suc (suc zero)) = refl
@@ -89,7 +89,7 @@ with-other x a (suc (suc (suc e))) p q = refl
 
 -- ---- one word of the walk
 -- atom b has digit d in setting s of the causes w
-abbrev hasDigit : ℕ → ℕ → ℕ → ℕ → Bool
+abbrev pub hasDigit : ℕ → ℕ → ℕ → ℕ → Bool
 hasDigit w s d b = eqb (digitFrom w 0 64 s b) d
 
 -- y has bit b, or what is left of the setting gives b digit d, with these causes left
@@ -101,7 +101,7 @@ pub record Gathered (w s d y rest left : ℕ) : Type 0 where
   pub fits : y < 2 ^ 64
   pub bits : (b : ℕ) → gathers d y rest left b ≡ hasDigit w s d b
 
-gathered-start : (w s d : ℕ) → Gathered w s d 0 s w
+pub gathered-start : (w s d : ℕ) → Gathered w s d 0 s w
 gathered-start w s d = record {
   fits = pow-pos 64;
   bits = λ b. ap (λ (t : Bool). t || hasDigit w s d b) (has-zero b);
@@ -115,12 +115,18 @@ taken-out false true x r d h = ap₂ _||_ (and-true (eqb x d)) (h refl) ∙ or-f
 taken-out false false x r d h = ap (λ (t : Bool). t || eqb r d) (and-false (eqb x d))
 
 -- the digit of atom b, where a is the lowest cause
-digit-lowest : (w a s b : ℕ) → LowestOf w a
+pub digit-lowest : (w a s b : ℕ) → LowestOf w a
     → digitFrom w 0 64 s b ≡ pickDigit (eqb b a) (s % 3) (digitFrom (withoutBit w a) 0 64 (s / 3) b)
 unfolding choicesFor digits digitOf
 digit-lowest w a s b h = ap (λ (l : List ℕ). digitIn l s b) (atoms-lowest w a h)
 
-gathered-next : (w s d y rest left a : ℕ) → eqb 0 d ≡ false → Gathered w s d y rest left → LowestOf left a
+-- which the causes other than a don't give to a
+pub digit-passed : (w a s : ℕ) → LowestOf w a → digitFrom (withoutBit w a) 0 64 s a ≡ 0
+digit-passed w a s h =
+    digit-none (withoutBit w a) a 64 0 s
+    (λ k l e q. true≢false (sym e ∙ ap (has (withoutBit w a)) (sym q) ∙ without-here w a (h .bit)))
+
+pub gathered-next : (w s d y rest left a : ℕ) → eqb 0 d ≡ false → Gathered w s d y rest left → LowestOf left a
     → Gathered w s d (withBit (eqb (rest % 3) d) y a) (rest / 3) (withoutBit left a)
 gathered-next w s d y rest left a z g h = record {
   fits = with-lt (eqb (rest % 3) d) 64 y a (g .fits) (h .bit .small);
@@ -131,9 +137,8 @@ gathered-next w s d y rest left a z g h = record {
   where
     later : (b : ℕ) → eqb b a ≡ true → hasDigit (withoutBit left a) (rest / 3) d b ≡ false
     later b q =
-        ap (λ (n : ℕ). eqb n d) (digit-none (withoutBit left a) b 64 0 (rest / 3)
-        (λ k m f i. true≢false (sym f ∙ ap (has (withoutBit left a)) (sym i ∙ eqb-true b a q)
-        ∙ without-here left a (h .bit)))) ∙ z
+        ap (λ (n : ℕ). eqb n d) (ap (digitFrom (withoutBit left a) 0 64 (rest / 3)) (eqb-true b a q)
+        ∙ digit-passed left a (rest / 3) h) ∙ z
 
 gathered-end : (w s d y rest : ℕ) → eqb 0 d ≡ false → Gathered w s d y rest 0 → y ≡ word 64 (hasDigit w s d)
 unfolding choicesFor digits digitOf

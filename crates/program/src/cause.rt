@@ -1,6 +1,6 @@
 // The causes of a case, its settings, and what a setting adds.
 ghost use mathlib.Core.Path.{_≡_};
-ghost use Prim.Native.Nat.{_*_, _≤_, _<_};
+ghost use Prim.Native.Nat.{ℕ, _+_, _*_, _≤_, _<_};
 ghost use lib.Count.{ones};
 ghost use lib.ListN.{length};
 ghost use Rattle.program.specs.Program.{headsOf};
@@ -71,6 +71,32 @@ impl Additions {
         }
         self
     }
+
+    // What the next setting adds: the lowest digit that isn't 2 rises by one, and those below it fall to 0.
+    pub fn next(self, causes: u64) -> Additions
+        ensures { λ r. ⌜ ((s : ℕ) → self ≡ additionsOf causes s → r ≡ additionsOf causes (s + 1)) ⌝ }
+    {
+        let mut x = self;
+        let mut left = causes;
+        while left != 0 {
+            let atom = words::lowest_bit(left);
+            if words::test(x.facts, atom) {
+                return Additions {
+                    facts: words::without(x.facts, atom),
+                    assumptions: x.assumptions | words::single(atom),
+                };
+            }
+            if !words::test(x.assumptions, atom) {
+                return Additions {
+                    facts: x.facts | words::single(atom),
+                    assumptions: x.assumptions,
+                };
+            }
+            x.assumptions = words::without(x.assumptions, atom);
+            left = words::without_lowest(left);
+        }
+        x
+    }
 }
 
 // What a setting adds: digit by digit, lowest first, a digit for each cause in atom order.
@@ -87,7 +113,7 @@ pub fn added(causes: u64, setting: u64) -> Additions
         let atom = words::lowest_bit(left);
         sum = sum.with(atom, rest % 3);
         rest = rest / 3;
-        left = words::without(left, atom);
+        left = words::without_lowest(left);
     }
     sum
 }

@@ -22,17 +22,19 @@ lowest-bit-requires c κs = search needs
 with-requires : tie.Need-with-requires Inv-loop μ-loop
 with-requires c κs = search needs
 
-without-requires : tie.Need-without-requires Inv-loop μ-loop
-without-requires c κs = search needs
+without-lowest-requires : tie.Need-without-lowest-requires Inv-loop μ-loop
+without-lowest-requires c κs = search needs
 
 loop-less : tie.Need-loop-less Inv-loop μ-loop
-loop-less c = rw (c .without .ensures) (without-less _ _ (c .before .before .lowest-bit .ensures .bit))
+loop-less c =
+    let l = c .before .before .lowest-bit .ensures in
+    rw (c .without-lowest .ensures _ l) (without-less _ _ (l .bit))
 
 loop-again : tie.Need-loop-again Inv-loop μ-loop
 loop-again c =
-    rw (c .without .ensures)
-    (walked-next _ _ _ _ _ _ _ (c .before .before .before .before .loop .inv) (c .before .before .lowest-bit .ensures)
-    (c .before .with .ensures))
+    let l = c .before .before .lowest-bit .ensures in
+    rw (c .without-lowest .ensures _ l)
+    (walked-next _ _ _ _ _ _ _ (c .before .before .before .before .loop .inv) l (c .before .with .ensures))
 
 returns : tie.Need-returns Inv-loop μ-loop
 returns c = walked-end _ _ _ _ _ (c .loop-test .left) (c .before .loop .inv)
@@ -46,7 +48,7 @@ added-spec =
     loop-holds
     lowest-bit-requires
     with-requires
-    without-requires
+    without-lowest-requires
     loop-less
     loop-again
     returns)

@@ -1,0 +1,97 @@
+-- `program::cause::Additions::next` meets its contract. The loop's invariant: the causes passed have fallen to digit 0,
+-- and the causes left carry the setting on. The measure is the word of the causes left. Assumes nothing.
+use mathlib.Core.Path.{_≡_, sym, _∙_}
+use Prim.Native.Nat.{ℕ}
+use borrow.Author.Needs.{needs}
+use Rattle.words.proofs.Tests.{failed, passed}
+use Rattle.words.proofs.BitWalks.{without-less}
+use Rattle.program.specs.Setting.{additionsOf}
+use Rattle.program.proofs.NextSetting.{Carried, carried-start, carried-end}
+use Rattle.program.proofs.NextSetting.{carried-next, carried-fact, carried-nothing}
+use Rattle.program.proofs.cause.Additions.next.Statement.{statement}
+use Rattle.program.proofs.cause.Additions.next.Tie as tie
+
+abbrev Inv-loop : tie.InvT-loop
+Inv-loop causes x₀ left₀ x left = (s : ℕ) → x₀ ≡ additionsOf causes s → Carried causes s x left
+
+abbrev μ-loop : tie.MeasureT-loop
+μ-loop causes x₀ left₀ x left = left
+
+loop-holds : tie.Need-loop-holds Inv-loop μ-loop
+loop-holds c = λ s e. carried-start _ s _ e
+
+lowest-bit-requires : tie.Need-lowest-bit-requires Inv-loop μ-loop
+lowest-bit-requires c κs = search needs
+
+test-requires : tie.Need-test-requires Inv-loop μ-loop
+test-requires c κs = search needs
+
+without-requires : tie.Need-without-requires Inv-loop μ-loop
+without-requires c κs = search needs
+
+single-requires : tie.Need-single-requires Inv-loop μ-loop
+single-requires c κs = search needs
+
+returns : tie.Need-returns Inv-loop μ-loop
+returns c =
+    let t = c .before .before .before .before in
+    rw (c .before .before .without .ensures, c .before .single .ensures)
+    (λ s e. carried-fact _ s _ _ _ (t .before .before .before .loop .inv s e) (t .before .lowest-bit .ensures)
+    (sym (t .test .ensures) ∙ c .before .before .before .if1 .taken))
+
+test-requires-2 : tie.Need-test-requires-2 Inv-loop μ-loop
+test-requires-2 c κs = search needs
+
+single-requires-2 : tie.Need-single-requires-2 Inv-loop μ-loop
+single-requires-2 c κs = search needs
+
+returns-2 : tie.Need-returns-2 Inv-loop μ-loop
+returns-2 c =
+    let t = c .before .before .before .before .before in
+    rw (c .before .single2 .ensures)
+    (λ s e. carried-nothing _ s _ _ _ (t .before .before .before .loop .inv s e) (t .before .lowest-bit .ensures)
+    (sym (t .test .ensures) ∙ c .before .before .before .before .if1 .left)
+    (failed (c .before .before .before .test2 .ensures) (c .before .before .if2 .taken)))
+
+without-requires-2 : tie.Need-without-requires-2 Inv-loop μ-loop
+without-requires-2 c κs = search needs
+
+without-lowest-requires : tie.Need-without-lowest-requires Inv-loop μ-loop
+without-lowest-requires c κs = search needs
+
+loop-less : tie.Need-loop-less Inv-loop μ-loop
+loop-less c =
+    let l = c .before .before .before .before .before .before .lowest-bit .ensures in
+    rw (c .without-lowest .ensures _ l) (without-less _ _ (l .bit))
+
+loop-again : tie.Need-loop-again Inv-loop μ-loop
+loop-again c =
+    let t = c .before .before .before .before .before in
+    let l = t .before .lowest-bit .ensures in
+    rw (c .without-lowest .ensures _ l, c .before .without2 .ensures)
+    (λ s e. carried-next _ s _ _ _ (t .before .before .before .loop .inv s e) l
+    (passed (c .before .before .before .test2 .ensures) (c .before .before .if2 .left)))
+
+returns-3 : tie.Need-returns-3 Inv-loop μ-loop
+returns-3 c = λ s e. carried-end _ s _ _ (c .loop-test .left) (c .before .loop .inv s e)
+
+pub next-spec : {M : Type 1} → statement M
+next-spec =
+    tie.close
+    (tie.spec
+    Inv-loop
+    μ-loop
+    loop-holds
+    lowest-bit-requires
+    test-requires
+    without-requires
+    single-requires
+    returns
+    test-requires-2
+    single-requires-2
+    returns-2
+    without-requires-2
+    without-lowest-requires
+    loop-less
+    loop-again
+    returns-3)
