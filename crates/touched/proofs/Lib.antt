@@ -2,11 +2,13 @@
 -- Filling: how the tables fill, clause by clause.
 -- Bodies: an atom's next value, by its rules and by the atoms that its clauses name.
 -- Openings: the first round from what was prepared.
--- Touching: the walk over fresh atoms, and the walk over the atoms decided anew.
+-- Touching: the heads that atoms touch, the walk over fresh atoms, and the walk over the atoms decided anew.
 -- Redoing: the step on the touched, undecided atoms alone is the step.
+-- Turns: the rounds of the loop, from the first.
 pub mod Along
 pub mod Filling
 pub mod Bodies
 pub mod Openings
 pub mod Touching
 pub mod Redoing
+pub mod Turns

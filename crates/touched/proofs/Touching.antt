@@ -1,7 +1,7 @@
--- Two walks over a word's bits: over fresh atoms, gathering the heads they touch, and over atoms that are decided anew.
--- What is done and what is left is always all. Assumes nothing.
+-- The heads that the atoms of a word touch, and two walks over a word's bits: over fresh atoms, gathering the heads they
+-- touch, and over atoms that are decided anew. What is done and what is left is always all. Assumes nothing.
 use mathlib.Core.Path.{_≡_, refl, sym, ap, ap₂, _∙_}
-use mathlib.Core.Bool.{Bool, true, false, _&&_, _||_, or-false}
+use mathlib.Core.Bool.{Bool, true, false, _&&_, _||_, or-false, true≢false}
 use mathlib.Core.List.{List}
 use Prim.Native.Nat.{ℕ, _^_, _<_}
 use lib.Bits.{bitOr, or-lt}
@@ -9,18 +9,55 @@ use lib.Dec.{eqb, lit<}
 use lib.ListN.{getD}
 use borrow.Author.Tests.{eqb-true, eqb-false}
 use Rattle.words.specs.Bits.{has, word, withoutBit, BitOf}
-use Rattle.words.proofs.Below.{all-false}
+use Rattle.words.specs.Below.{any}
+use Rattle.words.proofs.Below.{any-ext, any-or, all-false}
 use Rattle.words.proofs.Bits.{has-zero, has-or}
-use Rattle.words.proofs.Words.{is-word}
+use Rattle.words.proofs.Words.{word-lt, has-word, is-word, word-ext}
 use Rattle.words.proofs.BitWalks.{without-here, without-other, any-without}
 use Rattle.logic.specs.declared.value.Value.{Value}
+use Rattle.logic.specs.declared.value.Value.the-variants.{Unknown}
 use Rattle.logic.specs.declared.interpretation.Interpretation.{Interpretation}
 use Rattle.logic.specs.Interpretation.{valueAt, ofValues, pickValue, assigned}
 use Rattle.logic.proofs.Interpretations.{Good, values-at, values-ext, values-good, of-values-at}
 use Rattle.logic.proofs.Interpretations.{assigned-same, assigned-other}
-use Rattle.touched.specs.Dependents.{touchedBy}
+use Rattle.touched.specs.Dependents.{dependentsOf, touchedFrom, Dependents, touchedBy}
 use Rattle.touched.specs.Chains.{rulesValue}
-use Rattle.touched.specs.Prepared.{redone}
+use Rattle.touched.specs.Prepared.{redone, Open}
+
+-- ---- the heads that the atoms of a word touch
+module _ (cl : List ℕ) (n : ℕ) where
+  -- an atom of w has the dependent a
+  abbrev touches : ℕ → ℕ → ℕ → Bool
+  touches w a i = has w i && has (dependentsOf cl n i) a
+
+  pub has-touched : (w a : ℕ) → a < 64 → has (touchedFrom cl n w) a ≡ any 64 (λ i. has w i && has (dependentsOf cl n i) a)
+  unfolding touchedFrom
+  has-touched w a l = has-word 64 (λ b. any 64 (touches w b)) a l
+
+  -- by the table of dependents
+  pub touched-from : (t : List ℕ) → Dependents cl n t → (w : ℕ) → word 64 (touchedBy t w) ≡ touchedFrom cl n w
+  unfolding touchedBy touchedFrom
+  touched-from t d w =
+      word-ext 64 (touchedBy t w) (λ a. any 64 (touches w a))
+      (λ a l. any-ext 64 (λ i. has w i && has (getD t i 0) a) (touches w a)
+      (λ i m. ap (λ (e : ℕ). has w i && has e a) (d i m)))
+
+  pub touched-or : (u w : ℕ) → bitOr (touchedFrom cl n u) (touchedFrom cl n w) ≡ touchedFrom cl n (bitOr u w)
+  unfolding touchedFrom
+  touched-or u w =
+      is-word 64 _ (λ a. any 64 (touches (bitOr u w) a)) (or-lt 64 _ _ (word-lt 64 _) (word-lt 64 _))
+      (λ a l. has-or (touchedFrom cl n u) (touchedFrom cl n w) a
+      ∙ ap₂ _||_ (has-touched u a l) (has-touched w a l)
+      ∙ sym (any-or 64 (touches u a) (touches w a))
+      ∙ any-ext 64 (λ i. touches u a i || touches w a i) (touches (bitOr u w) a)
+      (λ i m. join (has u i) (has w i) (has (dependentsOf cl n i) a)
+      ∙ ap (λ (b : Bool). b && has (dependentsOf cl n i) a) (sym (has-or u w i))))
+    where
+      join : (x y z : Bool) → (x && z || y && z) ≡ ((x || y) && z)
+      join true true true = refl
+      join true true false = refl
+      join true false z = or-false z
+      join false y z = refl
 
 -- ---- the heads that fresh atoms touch
 module _ (t : List ℕ) (fresh : ℕ) where
@@ -70,20 +107,29 @@ module _ (cl : List ℕ) (n : ℕ) (i : Interpretation) (d : ℕ) where
 
   pub record Redoing (j : Interpretation) (left : ℕ) : Type 0 where
     pub good : Good j
+    pub undecided : Open j left
     pub all : (a : ℕ) → a < 64 → redoneIn left j a ≡ redoneIn d i a
 
-  pub redoing-start : Good i → Redoing i d
-  redoing-start g = record { good = g; all = λ a l. refl }
+  pub redoing-start : Good i → Open i d → Redoing i d
+  redoing-start g o = record { good = g; undecided = o; all = λ a l. refl }
 
   pub redoing-next : (j k : Interpretation) (left b : ℕ) (x : Value) → Redoing j left → BitOf left b
       → x ≡ rulesValue (valueAt i) cl b n → k ≡ ofValues (assigned (valueAt j) b x) → Redoing k (withoutBit left b)
   redoing-next j k left b x r q e f = record {
     good = rw f (values-good (assigned (valueAt j) b x));
+    undecided = still;
     all = λ a l. go a l (eqb a b) refl ∙ r .all a l;
   }
     where
       value-is : (a : ℕ) → a < 64 → valueAt k a ≡ assigned (valueAt j) b x a
       value-is a l = ap (λ (m : Interpretation). valueAt m a) f ∙ values-at (assigned (valueAt j) b x) a l
+
+      still : Open k (withoutBit left b)
+      still a h =
+          let ne : a ≡ b → ⊥ =
+          λ z. true≢false (sym (h .there) ∙ ap (has (withoutBit left b)) z ∙ without-here left b q) in
+          value-is a (h .small) ∙ assigned-other (valueAt j) b x a ne
+          ∙ r .undecided a (record { small = h .small; there = sym (without-other left b q a (h .small) ne) ∙ h .there })
 
       here : redoneIn (withoutBit left b) k b ≡ redoneIn left j b
       here =

@@ -2,6 +2,7 @@
 --
 --   names cl k i          clause k names the atom i
 --   dependentsOf cl n i   the heads of those of the first n clauses that name i, bit a for atom a
+--   touchedFrom cl n w    the dependents of the atoms of w
 --   Dependents cl n t     the table t has the dependents of each atom
 --   Words t, Zeros t      the first 64 entries of t are words of 64 bits, are 0
 --   Spread t w h u        u is t with the head h added to the dependents of the atoms of w
@@ -21,6 +22,9 @@ names cl k i = has (plainAt cl k) i || has (negatedAt cl k) i
 
 unfoldable pub dependentsOf : List ℕ → ℕ → ℕ → ℕ
 dependentsOf cl n i = word 64 (λ a. any n (λ k. eqb a (headAt cl k) && names cl k i))
+
+unfoldable pub touchedFrom : List ℕ → ℕ → ℕ → ℕ
+touchedFrom cl n w = word 64 (λ a. any 64 (λ i. has w i && has (dependentsOf cl n i) a))
 
 abbrev pub Dependents : List ℕ → ℕ → List ℕ → Type 0
 Dependents cl n t = (i : ℕ) → i < 64 → getD t i 0 ≡ dependentsOf cl n i

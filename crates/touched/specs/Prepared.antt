@@ -1,13 +1,15 @@
 -- What settling by touched heads goes by.
 --
 --   redone cl n i d   i with the atoms of the word d alone brought to what their rules are worth under i
+--   Open i d          i leaves the atoms of the word d undecided
 --   Blank ..          tables of full size, of which those that need it are all 0
 --   Prepared ..       what is prepared once a case: the opening, the dependents, and the chains of rules
 use mathlib.Core.Path.{_≡_}
 use mathlib.Core.List.{List}
 use Prim.Native.Nat.{ℕ, _*_, _≤_}
 use lib.ListN.{length}
-use Rattle.words.specs.Bits.{has}
+use Rattle.words.specs.Bits.{has, BitOf}
+use Rattle.logic.specs.declared.value.Value.the-variants.{Unknown}
 use Rattle.logic.specs.declared.interpretation.Interpretation.{Interpretation}
 use Rattle.logic.specs.Interpretation.{valueAt, ofValues, pickValue}
 use Rattle.touched.specs.declared.opening.Opening.{Opening}
@@ -17,6 +19,9 @@ use Rattle.touched.specs.Chains.{rulesValue, Lasts, Linked}
 
 unfoldable pub redone : List ℕ → ℕ → Interpretation → ℕ → Interpretation
 redone cl n i d = ofValues (λ a. pickValue (has d a) (rulesValue (valueAt i) cl a n) (valueAt i a))
+
+abbrev pub Open : Interpretation → ℕ → Type 0
+Open i d = (a : ℕ) → BitOf d a → valueAt i a ≡ Unknown
 
 pub record Blank (dependents last prev : List ℕ) : Type 0 where
   pub dependents-size : length dependents ≡ 64

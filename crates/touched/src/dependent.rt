@@ -16,7 +16,7 @@ fn spread(dependents: &mut [u64; 64], w: u64, head: u32)
         let i = words::lowest_bit(left);
         let at = i as usize;
         dependents[at] = dependents[at] | bit;
-        left = words::without(left, i);
+        left = words::without_lowest(left);
     }
 }
 
@@ -48,7 +48,7 @@ pub fn touched(dependents: &[u64; 64], fresh: u64) -> u64
     while left != 0 {
         let i = words::lowest_bit(left);
         heads = heads | dependents[i as usize];
-        left = words::without(left, i);
+        left = words::without_lowest(left);
     }
     heads
 }

@@ -22,5 +22,5 @@ pub fn prepare(
 {
     crate::dependent::fill(clauses, n, dependents);
     crate::chain::fill(clauses, n, last, prev);
-    crate::opening::first_round(clauses, n, heads)
+    crate::opening::first_round(clauses, n, heads, dependents)
 }

@@ -6,7 +6,7 @@ ghost use Rattle.logic.specs.Interpretation.{Disjoint};
 ghost use Rattle.program.specs.Program.{programWith};
 ghost use Rattle.settle.specs.Rounds.{settled};
 ghost use Rattle.touched.specs.Chains.{Lasts, Linked};
-ghost use Rattle.touched.specs.Prepared.{redone, Prepared};
+ghost use Rattle.touched.specs.Prepared.{redone, Open, Prepared};
 use crate::chain::rules_value;
 use crate::dependent::touched;
 use crate::opening::Opening;
@@ -14,7 +14,7 @@ use logic::interpretation::Interpretation;
 use program::cause::Additions;
 use settle::settle::Settled;
 
-// The interpretation i with the atoms of d alone decided anew, each as its rules say.
+// The interpretation i with the atoms of d, which i leaves undecided, decided as their rules say.
 fn redo(
     i: Interpretation,
     d: u64,
@@ -24,15 +24,15 @@ fn redo(
     prev: &[usize; 256],
 ) -> Interpretation
     requires { ⌜ Disjoint i × (n ≤ 256) × (3 * n ≤ length (now clauses)) × Lasts (now clauses) n (now last)
-        × Linked (now clauses) n (now prev) ⌝ }
+        × Linked (now clauses) n (now prev) × Open i d ⌝ }
     ensures { λ r. ⌜ r ≡ redone (now (clauses .entry)) n i d ⌝ }
 {
     let mut next = i;
     let mut left = d;
     while left != 0 {
         let a = words::lowest_bit(left);
-        next = next.decide(a, rules_value(i, clauses, n, prev, a, last[a as usize]));
-        left = words::without(left, a);
+        next = next.extend(a, rules_value(i, clauses, n, prev, a, last[a as usize]));
+        left = words::without_lowest(left);
     }
     next
 }
@@ -50,20 +50,27 @@ pub fn run(
     requires { ⌜ Prepared (now clauses) n opening (now dependents) (now last) (now prev) ⌝ }
     ensures { λ r. ⌜ r ≡ settled (programWith (now (clauses .entry)) n added) ⌝ }
 {
-    let mut interpretation = Interpretation::nothing();
-    let mut next = opening.with(added);
-    let mut rounds: u32 = 0;
+    let mut interpretation = opening.with(added);
+    if interpretation.trues | interpretation.falses == 0 {
+        return Settled {
+            interpretation,
+            rounds: 0,
+        };
+    }
+    let mut heads = opening.touched | touched(dependents, added.facts | added.assumptions);
+    let mut rounds: u32 = 1;
     loop {
+        let open = heads & !(interpretation.trues | interpretation.falses);
+        let next = redo(interpretation, open, clauses, n, last, prev);
         let fresh = (next.trues ^ interpretation.trues) | (next.falses ^ interpretation.falses);
-        if words::count(fresh) == 0 {
+        if fresh == 0 {
             break Settled {
                 interpretation,
                 rounds,
             };
         }
-        let d = touched(dependents, fresh) & !(next.trues | next.falses);
+        heads = touched(dependents, fresh);
         interpretation = next;
-        next = redo(interpretation, d, clauses, n, last, prev);
         rounds += 1;
     }
 }

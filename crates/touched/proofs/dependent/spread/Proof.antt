@@ -36,18 +36,20 @@ mul-dependents-2 c = search needs
 element-write-dependents : tie.Need-element-write-dependents Inv-loop μ-loop
 element-write-dependents c = search needs
 
-without-requires : tie.Need-without-requires Inv-loop μ-loop
-without-requires c κs = search needs
+without-lowest-requires : tie.Need-without-lowest-requires Inv-loop μ-loop
+without-lowest-requires c κs = search needs
 
 loop-less : tie.Need-loop-less Inv-loop μ-loop
-loop-less c = rw (c .without .ensures) (without-less _ _ (c .before .before .lowest-bit .ensures .bit))
+loop-less c =
+    let b = c .before .before .lowest-bit .ensures in
+    rw (c .without-lowest .ensures _ b) (without-less _ _ (b .bit))
 
 loop-again : tie.Need-loop-again Inv-loop μ-loop
 loop-again c =
     let l = c .before .before .before .before in
-    rw (c .without .ensures)
-    (spreading-next _ _ _ _ _ _ _ (l .loop .inv) (c .before .before .lowest-bit .ensures .bit)
-    (l .before .single .ensures))
+    let b = c .before .before .lowest-bit .ensures in
+    rw (c .without-lowest .ensures _ b)
+    (spreading-next _ _ _ _ _ _ _ (l .loop .inv) (b .bit) (l .before .single .ensures))
 
 returns : tie.Need-returns Inv-loop μ-loop
 returns c = spreading-end _ _ _ _ _ (c .before .loop .inv) (c .loop-test .left)
@@ -66,7 +68,7 @@ spread-spec =
     element-copy-out-dependents
     mul-dependents-2
     element-write-dependents
-    without-requires
+    without-lowest-requires
     loop-less
     loop-again
     returns)

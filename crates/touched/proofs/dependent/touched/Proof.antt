@@ -27,18 +27,20 @@ mul-heads c = search needs
 element-copy-out-heads : tie.Need-element-copy-out-heads Inv-loop μ-loop
 element-copy-out-heads c = search needs
 
-without-requires : tie.Need-without-requires Inv-loop μ-loop
-without-requires c κs = search needs
+without-lowest-requires : tie.Need-without-lowest-requires Inv-loop μ-loop
+without-lowest-requires c κs = search needs
 
 loop-less : tie.Need-loop-less Inv-loop μ-loop
-loop-less c = rw (c .without .ensures) (without-less _ _ (c .before .before .lowest-bit .ensures .bit))
+loop-less c =
+    let b = c .before .before .lowest-bit .ensures in
+    rw (c .without-lowest .ensures _ b) (without-less _ _ (b .bit))
 
 loop-again : tie.Need-loop-again Inv-loop μ-loop
 loop-again c =
-    let b = c .before .before .lowest-bit .ensures .bit in
-    rw (c .without .ensures)
-    (gathered-next _ _ _ _ _ (c .before .before .before .before .loop .inv) b
-    (c .before .before .before .before .before .pre _ (b .small)))
+    let b = c .before .before .lowest-bit .ensures in
+    rw (c .without-lowest .ensures _ b)
+    (gathered-next _ _ _ _ _ (c .before .before .before .before .loop .inv) (b .bit)
+    (c .before .before .before .before .before .pre _ (b .bit .small)))
 
 returns : tie.Need-returns Inv-loop μ-loop
 returns c = gathered-end _ _ _ _ (c .before .loop .inv) (c .loop-test .left)
@@ -54,7 +56,7 @@ touched-spec =
     cast-heads
     mul-heads
     element-copy-out-heads
-    without-requires
+    without-lowest-requires
     loop-less
     loop-again
     returns)

@@ -1,8 +1,11 @@
--- `first_round` meets its contract: it is the step from nothing with nothing added. Assumes nothing.
+-- `first_round` meets its contract: it is the step from nothing with nothing added, and the heads that its atoms touch.
+-- Assumes nothing.
 use mathlib.Core.Path.{refl, ap, _∙_}
 use borrow.Author.Needs.{needs}
 use Rattle.settle.specs.Step.{step}
+use Rattle.touched.proofs.Filling.{dependents-words}
 use Rattle.touched.proofs.Openings.{opening-is}
+use Rattle.touched.proofs.Touching.{touched-from}
 use Rattle.touched.proofs.opening.first_round.Statement.{statement}
 use Rattle.touched.proofs.opening.first_round.Tie as tie
 
@@ -12,10 +15,17 @@ nothing-requires c κs = search needs
 apply-requires : tie.Need-apply-requires
 apply-requires c κs = rw (c .nothing .ensures) (refl, search needs, search needs, search needs)
 
+touched-requires : tie.Need-touched-requires
+touched-requires c κs =
+    let b = c .before .before .before .before in
+    dependents-words _ _ (b .args .dependents .now) (b .pre .3)
+
 returns : tie.Need-returns
 returns c =
-    opening-is _ _ (c .apply .result) _ (c .apply .ensures ∙ ap (step _) (c .before .nothing .ensures))
-    (c .before .before .before .pre .2)
+    let a = c .before .before in
+    let b = a .before .before .before in
+    opening-is _ _ (a .apply .result) _ _ (a .apply .ensures ∙ ap (step _) (a .before .nothing .ensures)) (b .pre .2)
+    (c .touched .ensures ∙ touched-from _ _ (b .args .dependents .now) (b .pre .3) _)
 
 pub first-round-spec : {M : Type 1} → statement M
-first-round-spec = tie.close (tie.spec nothing-requires apply-requires returns)
+first-round-spec = tie.close (tie.spec nothing-requires apply-requires touched-requires returns)

@@ -16,6 +16,7 @@ abbrev μ-loop : tie.MeasureT-loop
 loop-holds : tie.Need-loop-holds Inv-loop μ-loop
 loop-holds c =
     redoing-start _ _ _ _ (record { trues-fit = omega arith; falses-fit = omega arith; disjoint = c .before .pre .0 })
+    (c .before .pre .5)
 
 lowest-bit-requires : tie.Need-lowest-bit-requires Inv-loop μ-loop
 lowest-bit-requires c κs = search needs
@@ -34,23 +35,26 @@ rules-value-requires c κs =
     let p = c .before .before .before .before .before .pre in
     (p .0, p .1, p .2, p .3 _ (c .before .lowest-bit .ensures .bit .small), p .4)
 
-decide-requires : tie.Need-decide-requires Inv-loop μ-loop
-decide-requires c κs =
-    (c .before .before .lowest-bit .ensures .bit .small, c .before .before .before .before .loop .inv .good .disjoint)
+extend-requires : tie.Need-extend-requires Inv-loop μ-loop
+extend-requires c κs =
+    let b = c .before .before .lowest-bit .ensures .bit in
+    let r = c .before .before .before .before .loop .inv in
+    (b .small, r .good .disjoint, r .undecided _ b)
 
-without-requires : tie.Need-without-requires Inv-loop μ-loop
-without-requires c κs = search needs
+without-lowest-requires : tie.Need-without-lowest-requires Inv-loop μ-loop
+without-lowest-requires c κs = search needs
 
 loop-less : tie.Need-loop-less Inv-loop μ-loop
 loop-less c =
-    rw (c .without .ensures) (without-less _ _ (c .before .before .before .before .lowest-bit .ensures .bit))
+    let b = c .before .before .before .before .lowest-bit .ensures in
+    rw (c .without-lowest .ensures _ b) (without-less _ _ (b .bit))
 
 loop-again : tie.Need-loop-again Inv-loop μ-loop
 loop-again c =
-    rw (c .without .ensures)
-    (redoing-next _ _ _ _ _ _ _ _ _ (c .before .before .before .before .before .before .loop .inv)
-    (c .before .before .before .before .lowest-bit .ensures .bit) (c .before .before .rules-value .ensures)
-    (c .before .decide .ensures))
+    let b = c .before .before .before .before .lowest-bit .ensures in
+    rw (c .without-lowest .ensures _ b)
+    (redoing-next _ _ _ _ _ _ _ _ _ (c .before .before .before .before .before .before .loop .inv) (b .bit)
+    (c .before .before .rules-value .ensures) (c .before .extend .ensures))
 
 returns : tie.Need-returns Inv-loop μ-loop
 returns c = redoing-end _ _ _ _ _ _ (c .before .loop .inv) (c .loop-test .left)
@@ -67,8 +71,8 @@ redo-spec =
     mul-rules-value
     element-copy-out-rules-value
     rules-value-requires
-    decide-requires
-    without-requires
+    extend-requires
+    without-lowest-requires
     loop-less
     loop-again
     returns)
