@@ -30,7 +30,7 @@ use Rattle.touched.specs.Chains.{rulesValue}
 use Rattle.touched.specs.Prepared.{redone, Open}
 use Rattle.touched.proofs.Filling.{dependents-has}
 use Rattle.touched.proofs.Bodies.{next-defined, next-same, bodies-same, bodies-rules}
-use Rattle.touched.proofs.Touching.{has-touched}
+use Rattle.touched.proofs.Touching.{touches, has-touched}
 
 -- ---- the atoms of a word that an interpretation leaves undecided
 abbrev pub openIn : Interpretation → ℕ → ℕ
@@ -54,7 +54,7 @@ module _ (i : Interpretation) (g : Good i) (w : ℕ) where
 module _ (cl : List ℕ) (n u : ℕ) where
   touched-headed : (a : ℕ) → a < 64 → has (touchedFrom cl n u) a ≡ true → headed cl n a ≡ true
   touched-headed a l q =
-      let f = any-found 64 (λ i. has u i && has (dependentsOf cl n i) a) (sym (has-touched cl n u a l) ∙ q) in
+      let f = any-found 64 (touches cl n u a) (sym (has-touched cl n u a l) ∙ q) in
       any-gives n (λ k j. and-true-l (eqb a (headAt cl k)) (names cl k (f .0)))
       (sym (dependents-has cl n (f .0) a l) ∙ and-true-r (has u (f .0)) _ (f .2))
 
@@ -84,7 +84,7 @@ module _ (cl : List ℕ) (n : ℕ) (x : Additions) (s t : Interpretation) (e : t
         sym
         (gives-false (has u i) (has (changed t s) i) (all i m)
         (sym (ap (λ (b : Bool). has u i && b) d ∙ and-true (has u i))
-        ∙ any-false 64 (λ i. has u i && has (dependentsOf cl n i) a) (sym (has-touched cl n u a l) ∙ q) i m))
+        ∙ any-false 64 (touches cl n u a) (sym (has-touched cl n u a l) ∙ q) i m))
 
     untouched : valueAt t a ≡ nextValue p (valueAt t) a
     untouched =
@@ -99,7 +99,7 @@ module _ (cl : List ℕ) (n : ℕ) (x : Additions) (s t : Interpretation) (e : t
   abbrev decided : ℕ
   decided = bitOr (t .trues) (t .falses)
 
-  -- an undecided one is worth what its rules are
+  -- a head that one touches is worth what its rules are, where it is undecided
   undecided : (a : ℕ) → a < 64 → has (touchedFrom cl n u) a ≡ true → has decided a ≡ false
       → rulesValue (valueAt t) cl a n ≡ nextValue p (valueAt t) a
   undecided a l q d =

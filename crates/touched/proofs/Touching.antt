@@ -1,5 +1,5 @@
--- The heads that the atoms of a word touch, and two walks over a word's bits: over fresh atoms, gathering the heads they
--- touch, and over atoms that are decided anew. What is done and what is left is always all. Assumes nothing.
+-- The heads that the atoms of a word touch, and two walks over a word's bits: over fresh atoms, gathering the heads
+-- they touch, and over atoms that are decided anew. What is done and what is left is always all. Assumes nothing.
 use mathlib.Core.Path.{_≡_, refl, sym, ap, ap₂, _∙_}
 use mathlib.Core.Bool.{Bool, true, false, _&&_, _||_, or-false, true≢false}
 use mathlib.Core.List.{List}
@@ -15,7 +15,6 @@ use Rattle.words.proofs.Bits.{has-zero, has-or}
 use Rattle.words.proofs.Words.{word-lt, has-word, is-word, word-ext}
 use Rattle.words.proofs.BitWalks.{without-here, without-other, any-without}
 use Rattle.logic.specs.declared.value.Value.{Value}
-use Rattle.logic.specs.declared.value.Value.the-variants.{Unknown}
 use Rattle.logic.specs.declared.interpretation.Interpretation.{Interpretation}
 use Rattle.logic.specs.Interpretation.{valueAt, ofValues, pickValue, assigned}
 use Rattle.logic.proofs.Interpretations.{Good, values-at, values-ext, values-good, of-values-at}
@@ -26,11 +25,11 @@ use Rattle.touched.specs.Prepared.{redone, Open}
 
 -- ---- the heads that the atoms of a word touch
 module _ (cl : List ℕ) (n : ℕ) where
-  -- an atom of w has the dependent a
-  abbrev touches : ℕ → ℕ → ℕ → Bool
+  -- the atom i is in w and has the dependent a
+  abbrev pub touches : ℕ → ℕ → ℕ → Bool
   touches w a i = has w i && has (dependentsOf cl n i) a
 
-  pub has-touched : (w a : ℕ) → a < 64 → has (touchedFrom cl n w) a ≡ any 64 (λ i. has w i && has (dependentsOf cl n i) a)
+  pub has-touched : (w a : ℕ) → a < 64 → has (touchedFrom cl n w) a ≡ any 64 (touches w a)
   unfolding touchedFrom
   has-touched w a l = has-word 64 (λ b. any 64 (touches w b)) a l
 
@@ -129,7 +128,8 @@ module _ (cl : List ℕ) (n : ℕ) (i : Interpretation) (d : ℕ) where
           let ne : a ≡ b → ⊥ =
           λ z. true≢false (sym (h .there) ∙ ap (has (withoutBit left b)) z ∙ without-here left b q) in
           value-is a (h .small) ∙ assigned-other (valueAt j) b x a ne
-          ∙ r .undecided a (record { small = h .small; there = sym (without-other left b q a (h .small) ne) ∙ h .there })
+          ∙ r .undecided a
+          (record { small = h .small; there = sym (without-other left b q a (h .small) ne) ∙ h .there })
 
       here : redoneIn (withoutBit left b) k b ≡ redoneIn left j b
       here =

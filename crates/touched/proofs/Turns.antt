@@ -106,7 +106,8 @@ module _ (cl : List ℕ) (n : ℕ) (x : Additions) (hf : x .facts < 2 ^ 64) (hs 
       ap (λ (i : Interpretation). made i 0) (changed-none t nothing (t-good first-turn) nothing-good c)
       ∙ turn-ends first-turn c
 
-  first-within : Within 64 (changed t nothing) (bitOr (bitOr (o .trues) (o .falses)) (bitOr (x .facts) (x .assumptions)))
+  first-within : Within 64 (changed t nothing)
+      (bitOr (bitOr (o .trues) (o .falses)) (bitOr (x .facts) (x .assumptions)))
   first-within = rw (first-changed, e) (opened-within o x)
 
   first-touched : o .touched ≡ touchedFrom cl n (bitOr (o .trues) (o .falses))

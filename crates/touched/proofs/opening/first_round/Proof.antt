@@ -1,8 +1,7 @@
 -- `first_round` meets its contract: it is the step from nothing with nothing added, and the heads that its atoms touch.
 -- Assumes nothing.
-use mathlib.Core.Path.{refl, ap, _∙_}
+use mathlib.Core.Path.{refl, _∙_}
 use borrow.Author.Needs.{needs}
-use Rattle.settle.specs.Step.{step}
 use Rattle.touched.proofs.Filling.{dependents-words}
 use Rattle.touched.proofs.Openings.{opening-is}
 use Rattle.touched.proofs.Touching.{touched-from}
@@ -22,9 +21,9 @@ touched-requires c κs =
 
 returns : tie.Need-returns
 returns c =
-    let a = c .before .before in
-    let b = a .before .before .before in
-    opening-is _ _ (a .apply .result) _ _ (a .apply .ensures ∙ ap (step _) (a .before .nothing .ensures)) (b .pre .2)
+    let b = c .before .before .before .before .before in
+    opening-is _ _ (c .before .before .apply .result) _ _
+    (rw (c .before .before .before .nothing .ensures) at (c .before .before .apply .ensures)) (b .pre .2)
     (c .touched .ensures ∙ touched-from _ _ (b .args .dependents .now) (b .pre .3) _)
 
 pub first-round-spec : {M : Type 1} → statement M

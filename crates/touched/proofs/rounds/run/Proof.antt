@@ -1,8 +1,8 @@
 -- `rounds::run` meets its contract: the loop's interpretation is reached by as many rounds as it counts, each of which
--- changed something, and its open atoms of `heads` decided anew make the next round (`Standing`). The added set does not
--- stand in the loop, so the invariant speaks of every set for which the loop starts so. The measure is what is left of
--- 64 decided atoms. Assumes nothing.
-use mathlib.Core.Path.{_≡_, _∙_}
+-- changed something, and its open atoms of `heads` decided anew make the next round (`Standing`). The added set does
+-- not stand in the loop, so the invariant speaks of every set for which the loop starts so. The measure is what is left
+-- of 64 decided atoms. Assumes nothing.
+use mathlib.Core.Path.{_∙_}
 use Prim.Native.Nat.{_-_}
 use native.Mathlib.Omega.{arith}
 use borrow.Author.Needs.{needs}
@@ -10,7 +10,7 @@ use Rattle.logic.specs.Interpretation.{decidedIn}
 use Rattle.program.specs.declared.cause.Additions.{Additions}
 use Rattle.touched.proofs.Filling.{dependents-words}
 use Rattle.touched.proofs.Touching.{touched-from}
-use Rattle.touched.proofs.Turns.{Standing, Turn, first-none, first-standing, standing-good, standing-open}
+use Rattle.touched.proofs.Turns.{Standing, first-none, first-standing, standing-good, standing-open}
 use Rattle.touched.proofs.Turns.{standing-few, standing-turn, turn-ends, turn-falls, turn-next}
 use Rattle.touched.proofs.rounds.run.Statement.{statement}
 use Rattle.touched.proofs.rounds.run.Tie as tie
@@ -42,8 +42,8 @@ with-requires c κs = search needs
 returns : tie.Need-returns Inv-loop μ-loop
 returns c =
     let b = c .before .before .before .before in
-    first-none _ _ (b .args .added) (omega arith) (omega arith) _ (b .pre .opening-is) _ (c .before .before .with .ensures)
-    (c .if1 .taken)
+    first-none _ _ (b .args .added) (omega arith) (omega arith) _ (b .pre .opening-is) _
+    (c .before .before .with .ensures) (c .if1 .taken)
 
 touched-requires : tie.Need-touched-requires Inv-loop μ-loop
 touched-requires c κs =
@@ -79,7 +79,8 @@ loop-again : tie.Need-loop-again Inv-loop μ-loop
 loop-again c = λ x s.
     let r = c .before .before .before .before .before .before in
     let b = r .before .before .before .before .before .before .before .before .before .before in
-    turn-next (standing-turn (r .before .before .loop .inv x s) _ (r .redo .ensures)) (c .before .if2 .left) _ (λ a l h. h) _
+    turn-next (standing-turn (r .before .before .loop .inv x s) _ (r .redo .ensures)) (c .before .if2 .left) _
+    (λ a l h. h) _
     (c .touched2 .ensures ∙ touched-from _ _ (b .args .dependents .now) (b .pre .dependents-are) _)
 
 returns-2 : tie.Need-returns-2 Inv-loop μ-loop
