@@ -11,7 +11,7 @@ use Rattle.text.specs.Choice.{pick}
 use Rattle.text.specs.Bytes.{isAllowed, allOf}
 use Rattle.text.specs.Lines.{isComment}
 use Rattle.text.specs.Tokens.{Token, tokens}
-use Rattle.grammar.specs.Line.{lineOf, isNoForm}
+use Rattle.grammar.specs.LineOf.{lineOf, isNoForm}
 use Rattle.names.specs.Names.{namesIn, someLong, withNames}
 use Rattle.store.specs.Saying.{Said, nothingSaid, saidBy}
 use Rattle.store.specs.Checking.{isDeep}

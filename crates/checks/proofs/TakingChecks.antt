@@ -11,7 +11,8 @@ use borrow.Author.Tests.{lt-ltb, le-ltb}
 use Rattle.text.specs.Bytes.{isAllowed, allOf}
 use Rattle.text.specs.Lines.{isComment}
 use Rattle.text.specs.Tokens.{Token, tokens}
-use Rattle.grammar.specs.Line.{Line, lineOf, isNoForm}
+use Rattle.grammar.specs.Line.{Line}
+use Rattle.grammar.specs.LineOf.{lineOf, isNoForm}
 use Rattle.names.specs.Names.{namesIn, someLong, withNames}
 use Rattle.store.specs.Lent.{Lent}
 use Rattle.store.specs.Saying.{Said, renamed}

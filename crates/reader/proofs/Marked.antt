@@ -16,8 +16,9 @@ use Rattle.text.specs.Lines.{linesFrom, isComment}
 use Rattle.text.specs.Tokens.{tokensFrom}
 use Rattle.table.specs.Filled.{padded}
 use Rattle.formulas.specs.Keyword.{nodeOf, kindOf}
-use Rattle.formulas.specs.Sentence.{isName, withForm, itemsOf}
-use Rattle.grammar.specs.Line.{literalsOf, lineOf}
+use Rattle.formulas.specs.Sentence.{isName}
+use Rattle.formulas.specs.Items.{withForm, itemsOf}
+use Rattle.grammar.specs.LineOf.{literalsOf, lineOf}
 use Rattle.names.specs.Names.{namesFrom, someLong, atomOf, withName, withNames, rowsOf}
 use Rattle.store.specs.Saying.{someOn, plainAtoms, negatedAtoms, encoded, saidBy}
 use Rattle.store.specs.Tables.{clauseWords, constraintWords, formulaNodes, caseSaid}

@@ -20,8 +20,9 @@ use Rattle.text.specs.Tokens.{tokensFrom}
 use Rattle.table.specs.Filled.{padded}
 use Rattle.names.specs.Names.{namesFrom, someLong, atomOf, withName, withNames, rowsOf}
 use Rattle.formulas.specs.Keyword.{nodeOf, kindOf}
-use Rattle.formulas.specs.Sentence.{isName, withForm, itemsOf}
-use Rattle.grammar.specs.Line.{literalsOf, lineOf}
+use Rattle.formulas.specs.Sentence.{isName}
+use Rattle.formulas.specs.Items.{withForm, itemsOf}
+use Rattle.grammar.specs.LineOf.{literalsOf, lineOf}
 use Rattle.store.specs.Saying.{someOn, plainAtoms, negatedAtoms, encoded, saidBy}
 use Rattle.store.specs.Tables.{clauseWords, constraintWords, formulaNodes}
 use Rattle.checks.specs.Checks.{formRefusal, lineRefusal, saidAfter}
