@@ -152,7 +152,7 @@ empty-body : (line : List Literal → Line) (ls : List Literal) → length ls �
 empty-body line [] h = refl
 empty-body line (x ∷ ls) h = absurd (omega arith)
 
-filled-body : (line : List Literal → Line) (ls : List Literal) → (length ls ≡ 0 → ⊥)
+pub filled-body : (line : List Literal → Line) (ls : List Literal) → (length ls ≡ 0 → ⊥)
     → withBody line (Option.some ls) ≡ line ls
 filled-body line [] h = absurd (h refl)
 filled-body line (x ∷ ls) h = refl
