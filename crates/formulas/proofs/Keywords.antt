@@ -9,28 +9,28 @@ use mathlib.Core.List.{List, [], _∷_}
 use mathlib.Core.Logic.{_⊎_, inl, inr}
 use Prim.Native.Nat.{ℕ, zero, suc, _+_, _-_, _≤_, _<_}
 use native.Mathlib.Omega.{arith}
-use lib.ListN.{length}
+use lib.ListN.{length, getD}
 use Rattle.text.specs.Choice.{pick}
 use Rattle.text.specs.Bytes.{sameBytes}
 use Rattle.text.proofs.Same.{same-eq}
-use Rattle.formulas.specs.Sentence.{formWords, wordAt}
+use Rattle.formulas.specs.Sentence.{formWords}
 use Rattle.formulas.specs.Keyword.{nodeOf, kindOf}
 
 abbrev pub WordOf : List (List ℕ) → ℕ → List ℕ → ℕ → Type 0
-WordOf ws b w k = (k ≡ 0) ⊎ ((b ≤ k) × (k < b + length ws) × (w ≡ wordAt ws (k - b)))
+WordOf ws b w k = (k ≡ 0) ⊎ ((b ≤ k) × (k < b + length ws) × (w ≡ getD ws (k - b) []))
 
 module _ (ws : List (List ℕ)) (b : ℕ) {w : List ℕ} where
-  tested-word : (t : Bool) (i : ℕ) {y : ℕ} → i < length ws → sameBytes w (wordAt ws i) ≡ t → WordOf ws b w y
+  tested-word : (t : Bool) (i : ℕ) {y : ℕ} → i < length ws → sameBytes w (getD ws i []) ≡ t → WordOf ws b w y
       → WordOf ws b w (pick t (b + i) y)
   tested-word true i h e r =
       let z : (b + i) - b ≡ i = omega arith in
-      inr (omega arith, omega arith, rw z (same-eq w (wordAt ws i) e))
+      inr (omega arith, omega arith, rw z (same-eq w (getD ws i []) e))
   tested-word false i h e r = r
 
   -- a test for word i in front of others
   pub picked-word : (i : ℕ) {y : ℕ} → i < length ws → WordOf ws b w y
-      → WordOf ws b w (pick (sameBytes w (wordAt ws i)) (b + i) y)
-  picked-word i h r = tested-word (sameBytes w (wordAt ws i)) i h refl r
+      → WordOf ws b w (pick (sameBytes w (getD ws i [])) (b + i) y)
+  picked-word i h r = tested-word (sameBytes w (getD ws i [])) i h refl r
 
 pub node-word : (w : List ℕ) → WordOf formWords 64 w (nodeOf w)
 unfolding nodeOf
@@ -50,7 +50,7 @@ number-of k (inr r) = inr (r .0, omega arith)
 pub node-number : (w : List ℕ) → NodeNumber (nodeOf w)
 node-number w = number-of (nodeOf w) (node-word w)
 
-word-number : (i : ℕ) → i < 5 → nodeOf (wordAt formWords i) ≡ 64 + i
+word-number : (i : ℕ) → i < 5 → nodeOf (getD formWords i []) ≡ 64 + i
 unfolding nodeOf sameBytes
 word-number zero h = refl
 word-number (suc zero) h = refl
@@ -59,7 +59,7 @@ word-number (suc (suc (suc zero))) h = refl
 word-number (suc (suc (suc (suc zero)))) h = refl
 word-number (suc (suc (suc (suc (suc i))))) h = absurd (omega arith)
 
-pub word-node : (k : ℕ) → 64 ≤ k → k ≤ 68 → nodeOf (wordAt formWords (k - 64)) ≡ k
+pub word-node : (k : ℕ) → 64 ≤ k → k ≤ 68 → nodeOf (getD formWords (k - 64) []) ≡ k
 word-node k h m = omega (arith, word-number (k - 64) (omega arith))
 
 picked-le : (b : Bool) (x y n : ℕ) → x ≤ n → y ≤ n → pick b x y ≤ n

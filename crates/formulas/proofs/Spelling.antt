@@ -13,12 +13,13 @@ use mathlib.Core.Option.{Option}
 use Prim.Native.Nat.{ℕ, _-_, _≤_}
 use native.Mathlib.Omega.{arith}
 use lib.Dec.{eqb}
+use lib.ListN.{getD}
 use borrow.Author.Tests.{eqb-true, eqb-false, leb-true, le-leb}
 use Rattle.text.specs.Choice.{pick}
 use Rattle.text.specs.Tokens.{Token}
 use Rattle.text.proofs.ByteLaws.{and-true-both}
 use Rattle.formulas.specs.Parsing.{Items, withOne, withTwo}
-use Rattle.formulas.specs.Sentence.{Sentence, isName, wordAt, formWords, spelled, isSentence}
+use Rattle.formulas.specs.Sentence.{Sentence, isName, formWords, spelled, isSentence}
 use Rattle.formulas.specs.Items.{prepend, Item, withForm, itemsOf}
 use Rattle.formulas.specs.Keyword.{nodeOf}
 use Rattle.formulas.proofs.Keywords.{WordOf, node-word, word-node}
@@ -92,7 +93,7 @@ name-spells true w ts Option.none e h = tt
 name-spells true w ts (Option.some m) e h = (ap (λ us. Token.word w ∷ us) (h .0), (e, h .1))
 
 module _ (w : List ℕ) (ts : List Token) where
-  one-spells : (m : List Item) → w ≡ wordAt formWords 0 → Spells ts (Option.some m)
+  one-spells : (m : List Item) → w ≡ getD formWords 0 [] → Spells ts (Option.some m)
       → Spells (Token.opening ∷ (Token.word w ∷ ts)) (withOne m)
   unfolding spelledItems spelled isSentence
   one-spells [] e h = tt
@@ -101,7 +102,7 @@ module _ (w : List ℕ) (ts : List Token) where
   one-spells (Item.formula f ∷ (Item.formula g ∷ m)) e h = tt
   one-spells (Item.formula f ∷ (Item.closing ∷ m)) e h = (rw (append-assoc, e, h .0), h .1)
 
-  two-spells : (k : ℕ) (m : List Item) → w ≡ wordAt formWords (k - 64) → 65 ≤ k → k ≤ 68 → Spells ts (Option.some m)
+  two-spells : (k : ℕ) (m : List Item) → w ≡ getD formWords (k - 64) [] → 65 ≤ k → k ≤ 68 → Spells ts (Option.some m)
       → Spells (Token.opening ∷ (Token.word w ∷ ts)) (withTwo k m)
   unfolding spelledItems spelled isSentence
   two-spells k [] e a b h = tt

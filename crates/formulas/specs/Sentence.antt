@@ -3,14 +3,14 @@
 --
 --   isName w        w begins with a letter; the rest of a word is letters, digits and `-` anyway
 --   Sentence        a formula over names: F
---   wordAt ws k     word k of the list ws
 --   form w ts       the form with the word w and with the tokens ts behind it
 --   spelled f       the tokens of the formula f
 --   isSentence f    the names of f are names, and its nodes are those of the words
 use mathlib.Core.Bool.{Bool, true, false, _&&_}
 use mathlib.Core.List.{List, [], _∷_, _++_}
-use Prim.Native.Nat.{ℕ, zero, suc, _-_}
+use Prim.Native.Nat.{ℕ, _-_}
 use lib.Dec.{leb}
+use lib.ListN.{getD}
 use Rattle.text.specs.Bytes.{isLetter}
 use Rattle.text.specs.Tokens.{Token}
 
@@ -30,18 +30,13 @@ formWords =
     (110 ∷ 111 ∷ 116 ∷ []) ∷ (97 ∷ 110 ∷ 100 ∷ []) ∷ (111 ∷ 114 ∷ []) ∷ (116 ∷ 104 ∷ 101 ∷ 110 ∷ [])
     ∷ (115 ∷ 97 ∷ 109 ∷ 101 ∷ []) ∷ []
 
-abbrev pub wordAt : List (List ℕ) → ℕ → List ℕ
-wordAt [] k = []
-wordAt (w ∷ ws) zero = w
-wordAt (w ∷ ws) (suc k) = wordAt ws k
-
 abbrev pub form : List ℕ → List Token → List Token
 form w ts = Token.opening ∷ (Token.word w ∷ (ts ++ (Token.closing ∷ [])))
 
 unfoldable pub spelled : Sentence → List Token
 spelled (Sentence.name w) = Token.word w ∷ []
-spelled (Sentence.negation f) = form (wordAt formWords 0) (spelled f)
-spelled (Sentence.joined k f g) = form (wordAt formWords (k - 64)) (spelled f ++ spelled g)
+spelled (Sentence.negation f) = form (getD formWords 0 []) (spelled f)
+spelled (Sentence.joined k f g) = form (getD formWords (k - 64) []) (spelled f ++ spelled g)
 
 unfoldable pub isSentence : Sentence → Bool
 isSentence (Sentence.name w) = isName w

@@ -12,14 +12,14 @@ use mathlib.Core.Option.{Option}
 use Prim.Native.Nat.{ℕ, zero, suc, _-_, _<_}
 use native.Mathlib.Omega.{arith}
 use lib.Dec.{eqb, ltb}
-use lib.ListN.{length}
+use lib.ListN.{length, getD}
 use borrow.Author.Tests.{ltb-true, lt-ltb, le-ltb, eqb-true, ne-eqb}
 use Rattle.text.specs.Choice.{pick}
 use Rattle.text.specs.Bytes.{sameBytes}
 use Rattle.text.specs.Tokens.{Token}
 use Rattle.text.proofs.ByteLaws.{and-true-both}
 use Rattle.formulas.specs.Parsing.{Items}
-use Rattle.formulas.specs.Sentence.{Sentence, isName, wordAt, spelled, isSentence}
+use Rattle.formulas.specs.Sentence.{Sentence, isName, spelled, isSentence}
 use Rattle.formulas.specs.Items.{prepend, Item, itemsOf}
 use Rattle.formulas.specs.Keyword.{kindOf}
 use Rattle.formulas.proofs.Keywords.{WordOf, picked-word}
@@ -151,7 +151,7 @@ module _ (w : List ℕ) (ts : List Token) where
   opened = Token.opening ∷ (Token.word w ∷ ts)
 
   -- a clause without literals
-  head-right : (k : ℕ) (f : Sentence) (m : List Item) → k < 2 → w ≡ wordAt lineWords k
+  head-right : (k : ℕ) (f : Sentence) (m : List Item) → k < 2 → w ≡ getD lineWords k []
       → Spells ts (Option.some (Item.formula f ∷ m)) → Right opened (headOnly k f m)
   unfolding spelledItems spelled spelledLine spelledBody isLine isSentence areNamed
   head-right k f [] i e h = inl refl
@@ -162,7 +162,7 @@ module _ (w : List ℕ) (ts : List Token) where
   head-right k (Sentence.name v) (Item.closing ∷ []) i e h =
       inr (rw (h .1 .0, ne-eqb k 2 (λ z. omega arith), lt-ltb k 2 i), rw (e, h .0))
 
-  rule-right : (v : List ℕ) (m : List Item) (x : Option (List Literal)) → w ≡ wordAt lineWords 2
+  rule-right : (v : List ℕ) (m : List Item) (x : Option (List Literal)) → w ≡ getD lineWords 2 []
       → Spells ts (Option.some (Item.formula (Sentence.name v) ∷ m)) → BodySpells m x
       → Right opened (withBody (Line.clause 2 v) x)
   unfolding spelledItems spelled spelledLine isLine isSentence
@@ -170,14 +170,14 @@ module _ (w : List ℕ) (ts : List Token) where
   rule-right v m (Option.some []) e h b = inl refl
   rule-right v m (Option.some (x ∷ ls)) e h b = inr (rw (h .1 .0, b .1, filled x ls), rw (e, h .0, b .0))
 
-  never-right : (m : List Item) (x : Option (List Literal)) → w ≡ wordAt lineWords 3
+  never-right : (m : List Item) (x : Option (List Literal)) → w ≡ getD lineWords 3 []
       → Spells ts (Option.some m) → BodySpells m x → Right opened (withBody Line.never x)
   unfolding spelledLine isLine
   never-right m Option.none e h b = inl refl
   never-right m (Option.some []) e h b = inl refl
   never-right m (Option.some (x ∷ ls)) e h b = inr (rw (b .1, filled x ls), rw (e, h .0, b .0))
 
-  seen-right : (m : List Item) (x : Option (List Literal)) → w ≡ wordAt lineWords 4
+  seen-right : (m : List Item) (x : Option (List Literal)) → w ≡ getD lineWords 4 []
       → Spells ts (Option.some m) → BodySpells m x → Right opened (withOnly Line.seen x)
   unfolding spelledLine isLine areNamed spelledBody
   seen-right m Option.none e h b = inl refl
@@ -186,7 +186,7 @@ module _ (w : List ℕ) (ts : List Token) where
   seen-right m (Option.some (x ∷ [])) e h b =
       inr (and-true-both _ _ (b .1) .0, rw (e, h .0, b .0, append-nil))
 
-  query-right : (m : List Item) → w ≡ wordAt lineWords 5 → Spells ts (Option.some m) → Right opened (ofKind 6 m)
+  query-right : (m : List Item) → w ≡ getD lineWords 5 [] → Spells ts (Option.some m) → Right opened (ofKind 6 m)
   unfolding spelledItems spelledLine isLine
   query-right [] e h = inl refl
   query-right (Item.closing ∷ m) e h = inl refl
@@ -195,7 +195,7 @@ module _ (w : List ℕ) (ts : List Token) where
   query-right (Item.formula f ∷ (Item.closing ∷ (i ∷ m))) e h = inl refl
   query-right (Item.formula f ∷ (Item.closing ∷ [])) e h = inr (h .1 .0, rw (e, h .0))
 
-  kind-right : (k : ℕ) (m : List Item) → k < 7 → w ≡ wordAt lineWords (k - 1) → Spells ts (Option.some m)
+  kind-right : (k : ℕ) (m : List Item) → k < 7 → w ≡ getD lineWords (k - 1) [] → Spells ts (Option.some m)
       → Right opened (ofKind k m)
   kind-right zero m i e h = inl refl
   kind-right (suc zero) [] i e h = inl refl

@@ -9,10 +9,10 @@ use mathlib.Core.Bool.{Bool, true, false, _&&_}
 use mathlib.Core.List.{List, [], _∷_, _++_}
 use Prim.Native.Nat.{ℕ}
 use lib.Dec.{eqb, ltb}
-use lib.ListN.{length}
+use lib.ListN.{length, getD}
 use Rattle.text.specs.Choice.{pick}
 use Rattle.text.specs.Tokens.{Token}
-use Rattle.formulas.specs.Sentence.{isName, Sentence, wordAt, form, spelled, isSentence}
+use Rattle.formulas.specs.Sentence.{isName, Sentence, form, spelled, isSentence}
 
 -- the literal of the name w, negated where the test holds
 pub data Literal : Type 0 where
@@ -45,10 +45,10 @@ spelledBody (x ∷ l) = spelled (ofLiteral x) ++ spelledBody l
 unfoldable pub spelledLine : Line → List Token
 spelledLine Line.skipped = []
 spelledLine Line.noForm = []
-spelledLine (Line.clause k w l) = form (wordAt lineWords k) (Token.word w ∷ spelledBody l)
-spelledLine (Line.never l) = form (wordAt lineWords 3) (spelledBody l)
-spelledLine (Line.seen x) = form (wordAt lineWords 4) (spelled (ofLiteral x))
-spelledLine (Line.query f) = form (wordAt lineWords 5) (spelled f)
+spelledLine (Line.clause k w l) = form (getD lineWords k []) (Token.word w ∷ spelledBody l)
+spelledLine (Line.never l) = form (getD lineWords 3 []) (spelledBody l)
+spelledLine (Line.seen x) = form (getD lineWords 4 []) (spelled (ofLiteral x))
+spelledLine (Line.query f) = form (getD lineWords 5 []) (spelled f)
 
 -- each literal is one of a name
 unfoldable pub areNamed : List Literal → Bool
