@@ -11,7 +11,9 @@ use Rattle.text.specs.Choice.{pick}
 use Rattle.text.specs.Bytes.{isAllowed, allOf}
 use Rattle.text.specs.Lines.{isComment}
 use Rattle.text.specs.Tokens.{Token, tokens}
-use Rattle.grammar.specs.Line.{lineOf, isNoForm}
+use Rattle.grammar.specs.Line.{isLine}
+use Rattle.grammar.specs.LineOf.{lineOf, isNoForm}
+use Rattle.grammar.proofs.Spelling.{no-form-is}
 use Rattle.names.specs.Names.{namesIn, someLong, withNames}
 use Rattle.store.specs.Saying.{Said, nothingSaid, saidBy}
 use Rattle.store.specs.Checking.{isDeep}
@@ -40,14 +42,14 @@ not-refused false n later e = (refl, e)
 pub form-passes : (st : Said) (ts : List Token) → formRefusal st ts ≡ 0 → FormPasses st ts
 unfolding formRefusal
 form-passes st ts e =
-    let five = not-refused (isNoForm (lineOf ts)) 4 _ e in
+    let five = not-refused (not (isLine (lineOf ts))) 4 _ e in
     let six = not-refused (someLong (namesIn ts)) 5 _ (five .1) in
     let seven = not-refused (someDeep (saidBy nothingSaid (lineOf ts) .queries)) 6 _ (six .1) in
     let eight = not-refused (ltb 64 (length (saidWith st ts .names))) 7 _ (seven .1) in
     let nine = not-refused (Many (saidWith st ts)) 8 _ (eight .1) in
     let ten = not-refused (ltb 1 (length (saidWith st ts .queries))) 9 _ (nine .1) in
     record {
-      is-form = five .0;
+      is-form = no-form-is ts ∙ five .0;
       names-short = six .0;
       not-deep = sym (deep-said (lineOf ts)) ∙ seven .0;
       names-few = subst (λ (m : List (List ℕ)). length m ≤ 64) (with-names st ts) (ltb-false 64 _ (eight .0));

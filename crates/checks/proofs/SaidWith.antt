@@ -8,7 +8,8 @@ use lib.Dec.{ltb, leb}
 use lib.ListN.{length, length-append}
 use borrow.Author.Tests.{leb-true, leb-false, lt-ltb, le-ltb}
 use Rattle.text.specs.Tokens.{Token}
-use Rattle.grammar.specs.Line.{Line, lineOf}
+use Rattle.grammar.specs.Line.{Line}
+use Rattle.grammar.specs.LineOf.{lineOf}
 use Rattle.names.specs.Names.{namesIn, withNames}
 use Rattle.store.specs.Saying.{Said, nothingSaid, renamed, saidBy}
 use Rattle.store.specs.Checking.{isDeep, isOneTooMany, isSecondQuery}

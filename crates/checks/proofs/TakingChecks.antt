@@ -1,7 +1,7 @@
 -- The number of a line's refusal by its checks, one law for each check in their order; and what a line with that number
 -- leaves. Assumes nothing.
 use mathlib.Core.Path.{_≡_, refl, sym, ap, subst, _∙_}
-use mathlib.Core.Bool.{true, false}
+use mathlib.Core.Bool.{true, false, not}
 use mathlib.Core.List.{List}
 use Prim.Native.Nat.{ℕ, _≤_, _<_}
 use native.Mathlib.Omega.{arith}
@@ -11,7 +11,9 @@ use borrow.Author.Tests.{lt-ltb, le-ltb}
 use Rattle.text.specs.Bytes.{isAllowed, allOf}
 use Rattle.text.specs.Lines.{isComment}
 use Rattle.text.specs.Tokens.{Token, tokens}
-use Rattle.grammar.specs.Line.{Line, lineOf, isNoForm}
+use Rattle.grammar.specs.Line.{Line, isLine}
+use Rattle.grammar.specs.LineOf.{lineOf, isNoForm}
+use Rattle.grammar.proofs.Spelling.{no-form-is}
 use Rattle.names.specs.Names.{namesIn, someLong, withNames}
 use Rattle.store.specs.Lent.{Lent}
 use Rattle.store.specs.Saying.{Said, renamed}
@@ -38,24 +40,27 @@ module _ (st : Said) (ts : List Token) where
 
   pub form-refused-5 : isNoForm (lineOf ts) ≡ true → formRefusal st ts ≡ 5
   unfolding formRefusal
-  form-refused-5 a = rw a
+  form-refused-5 a = rw (sym (no-form-is ts) ∙ a)
 
   module _ (a : isNoForm (lineOf ts) ≡ false) where
+    line : not (isLine (lineOf ts)) ≡ false
+    line = sym (no-form-is ts) ∙ a
+
     pub form-refused-6 : someLong (namesIn ts) ≡ true → formRefusal st ts ≡ 6
     unfolding formRefusal
-    form-refused-6 b = rw (a, b)
+    form-refused-6 b = rw (line, b)
 
     module _ (b : someLong (namesIn ts) ≡ false) where
       pub form-refused-7 : isDeep (lineOf ts) ≡ true → formRefusal st ts ≡ 7
       unfolding formRefusal
-      form-refused-7 d = rw (a, b, deep-said (lineOf ts) ∙ d)
+      form-refused-7 d = rw (line, b, deep-said (lineOf ts) ∙ d)
 
       module _ (d : isDeep (lineOf ts) ≡ false) where
         pub form-refused-8 : 64 < length more → formRefusal st ts ≡ 8
         unfolding formRefusal
         form-refused-8 e =
             rw (
-              a,
+              line,
               b,
               deep-said (lineOf ts) ∙ d,
               ap (λ (m : List (List ℕ)). ltb 64 (length m)) (with-names st ts) ∙ lt-ltb _ _ e,
@@ -70,20 +75,20 @@ module _ (st : Said) (ts : List Token) where
 
           pub form-refused-9 : isOneTooMany st (lineOf ts) ≡ true → formRefusal st ts ≡ 9
           unfolding formRefusal
-          form-refused-9 f = rw (a, b, deep-said (lineOf ts) ∙ d, few, many ∙ f)
+          form-refused-9 f = rw (line, b, deep-said (lineOf ts) ∙ d, few, many ∙ f)
 
           module _ (f : isOneTooMany st (lineOf ts) ≡ false) where
             pub form-refused-10 : isSecondQuery st (lineOf ts) ≡ true → formRefusal st ts ≡ 10
             unfolding formRefusal
             form-refused-10 g =
                 let second = second-said st more (lim .queries-few) (lineOf ts) in
-                rw (a, b, deep-said (lineOf ts) ∙ d, few, many ∙ f, second ∙ g)
+                rw (line, b, deep-said (lineOf ts) ∙ d, few, many ∙ f, second ∙ g)
 
             pub form-passes : isSecondQuery st (lineOf ts) ≡ false → formRefusal st ts ≡ 0
             unfolding formRefusal
             form-passes g =
                 let second = second-said st more (lim .queries-few) (lineOf ts) in
-                rw (a, b, deep-said (lineOf ts) ∙ d, few, many ∙ f, second ∙ g)
+                rw (line, b, deep-said (lineOf ts) ∙ d, few, many ∙ f, second ∙ g)
 
 -- the checks of a form look at no name
 module _ (st : Said) (ns : List (List ℕ)) where

@@ -11,7 +11,8 @@ use Rattle.text.specs.Tokens.{tokens}
 use Rattle.formulas.specs.Sentence.{Sentence}
 use Rattle.formulas.proofs.Sentences.{EachName}
 use Rattle.grammar.specs.declared.line.Form.{Form}
-use Rattle.grammar.specs.Line.{Line, Literal, lineOf, isNoForm}
+use Rattle.grammar.specs.Line.{Line, Literal}
+use Rattle.grammar.specs.LineOf.{lineOf, isNoForm}
 use Rattle.grammar.specs.Parsing.{FormFound}
 use Rattle.grammar.proofs.Names.{EachLiteral, EachOfLine}
 use Rattle.names.specs.Names.{namesIn, someLong, atomOf, withNames}

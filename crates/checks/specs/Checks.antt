@@ -16,7 +16,8 @@ use Rattle.text.specs.Choice.{pick}
 use Rattle.text.specs.Bytes.{isAllowed, allOf}
 use Rattle.text.specs.Lines.{isComment}
 use Rattle.text.specs.Tokens.{Token, tokens}
-use Rattle.grammar.specs.Line.{lineOf, isNoForm}
+use Rattle.grammar.specs.Line.{isLine}
+use Rattle.grammar.specs.LineOf.{lineOf}
 use Rattle.names.specs.Names.{namesIn, someLong, withNames}
 use Rattle.store.specs.Saying.{Said, nothingSaid, renamed, saidBy}
 
@@ -32,7 +33,7 @@ saidWith st ts = saidBy (renamed (withNames (st .names) (namesIn ts)) st) (lineO
 unfoldable pub formRefusal : Said → List Token → ℕ
 formRefusal st ts =
     let after = saidWith st ts in
-    pick (isNoForm (lineOf ts)) 5
+    pick (not (isLine (lineOf ts))) 5
     (pick (someLong (namesIn ts)) 6
     (pick (someDeep (saidBy nothingSaid (lineOf ts) .queries)) 7
     (pick (ltb 64 (length (after .names))) 8

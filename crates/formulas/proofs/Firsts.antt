@@ -14,7 +14,8 @@ use Prim.Native.Nat.{ℕ}
 use lib.Dec.{eqb}
 use Rattle.text.specs.Tokens.{Token}
 use Rattle.formulas.specs.Parsing.{Items, withOne, withTwo, closedAmong}
-use Rattle.formulas.specs.Sentence.{prepend, Sentence, Item, isName, closed, withForm, itemsOf}
+use Rattle.formulas.specs.Sentence.{Sentence, isName}
+use Rattle.formulas.specs.Items.{prepend, Item, closed, withForm, itemsOf}
 use Rattle.formulas.specs.Keyword.{nodeOf}
 use Rattle.formulas.proofs.Items.{picked-items}
 use Rattle.formulas.proofs.Items as items

@@ -10,7 +10,8 @@ use Rattle.text.specs.Tokens.{tokens}
 use Rattle.text.specs.declared.tokens.Next.{Next}
 use Rattle.text.specs.declared.tokens.Next.the-variants.{End, Open, Close, Word}
 use Rattle.text.specs.Scanning.{Found}
-use Rattle.formulas.specs.Sentence.{prepend, Sentence, Item, isName, withForm, itemsOf}
+use Rattle.formulas.specs.Sentence.{Sentence, isName}
+use Rattle.formulas.specs.Items.{prepend, Item, withForm, itemsOf}
 use Rattle.formulas.specs.declared.formula.Parse.{Parse}
 use Rattle.formulas.specs.declared.formula.Parse.the-variants.{NoFormula, Formula}
 use Rattle.formulas.specs.Keyword.{nodeOf}

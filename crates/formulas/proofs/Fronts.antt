@@ -13,7 +13,8 @@ use lib.Dec.{eqb}
 use borrow.Author.Tests.{eqb-true, eqb-false}
 use Rattle.text.specs.Choice.{pick}
 use Rattle.formulas.specs.Parsing.{Items, withOne, withTwo}
-use Rattle.formulas.specs.Sentence.{prepend, Sentence, Item, withForm}
+use Rattle.formulas.specs.Sentence.{Sentence}
+use Rattle.formulas.specs.Items.{prepend, Item, withForm}
 
 -- no items are items
 pub none-items : {A : Type 0} {m : List Item} → Option.none ≡ Option.some m → A

@@ -10,7 +10,8 @@ use lib.Dec.{eqb}
 use Rattle.text.specs.Choice.{pick}
 use Rattle.text.specs.Tokens.{Token}
 use Rattle.formulas.specs.Parsing.{Items, withOne, withSecond, withTwo, beginsFormula, closedAmong}
-use Rattle.formulas.specs.Sentence.{prepend, Sentence, Item, isName, closed, withForm, itemsOf}
+use Rattle.formulas.specs.Sentence.{Sentence, isName}
+use Rattle.formulas.specs.Items.{prepend, Item, closed, withForm, itemsOf}
 use Rattle.formulas.specs.Keyword.{nodeOf}
 use Rattle.formulas.proofs.Sentences.{EachName}
 

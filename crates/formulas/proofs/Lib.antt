@@ -1,6 +1,7 @@
 -- Keywords: the numbers that the words of forms have.
 -- Sentences: names and formulas.
 -- Items: what a token makes of the items behind it.
+-- Spelling: formulas are read as they are spelled.
 -- Sizes: how many nodes formulas have.
 -- Formulas: formulas at a place of a line.
 -- Firsts: what items begin with.
@@ -8,6 +9,7 @@
 pub mod Keywords
 pub mod Sentences
 pub mod Items
+pub mod Spelling
 pub mod Sizes
 pub mod Formulas
 pub mod Firsts

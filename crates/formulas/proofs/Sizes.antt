@@ -11,7 +11,8 @@ use Rattle.text.specs.Choice.{pick}
 use Rattle.text.specs.Bytes.{isWordByte}
 use Rattle.text.specs.Tokens.{Token, ended, bracket, tokensFrom, tokens}
 use Rattle.formulas.specs.Parsing.{Items, withOne, withSecond, withTwo, sizeOf}
-use Rattle.formulas.specs.Sentence.{prepend, Sentence, Item, isName, closed, withForm, itemsOf}
+use Rattle.formulas.specs.Sentence.{Sentence, isName}
+use Rattle.formulas.specs.Items.{prepend, Item, closed, withForm, itemsOf}
 use Rattle.formulas.specs.Keyword.{nodeOf}
 use Rattle.formulas.proofs.Sentences.{tokenCount, size-le-tokens}
 use Rattle.formulas.proofs.Items.{picked-items}

@@ -1,4 +1,4 @@
--- The words of forms, as bytes.
+-- The words of forms, told apart.
 -- From: document 01, "The file".
 --
 --   nodeOf w     the node of the form with the word w: 64 not, 65 and, 66 or, 67 then, 68 same; 0 for any other word

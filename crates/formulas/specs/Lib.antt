@@ -1,7 +1,9 @@
 -- In reading order.
--- Keyword: the words of forms.
--- Sentence: formulas over names.
+-- Sentence: formulas over names, and how a line spells them.
+-- Keyword: the words of forms, told apart.
+-- Items: formulas read from tokens.
 -- Parsing: what parsing a formula from a place finds.
-pub mod Keyword
 pub mod Sentence
+pub mod Keyword
+pub mod Items
 pub mod Parsing

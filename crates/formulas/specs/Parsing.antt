@@ -12,7 +12,8 @@ use mathlib.Core.Option.{Option}
 use Prim.Native.Nat.{ℕ, _+_, _*_, _≤_, _<_, max}
 use lib.ListN.{length, drop}
 use Rattle.text.specs.Tokens.{tokens}
-use Rattle.formulas.specs.Sentence.{prepend, Sentence, Item, closed, withFirst, itemsOf}
+use Rattle.formulas.specs.Sentence.{Sentence}
+use Rattle.formulas.specs.Items.{prepend, Item, closed, withFirst, itemsOf}
 use Rattle.formulas.specs.declared.formula.Parse.{Parse}
 use Rattle.formulas.specs.declared.formula.Parse.the-variants.{NoFormula, Formula}
 

@@ -1,20 +1,18 @@
--- Formulas over names, as the tokens of a line spell them.
--- From: document 01, "The file" ("F is N, `(not F)`, or `(and F F)`, likewise or, then, same") and "Case tables".
+-- Formulas over names, and how a line spells them.
+-- From: document 01, "The file" ("F is N, `(not F)`, or `(and F F)`, likewise or, then, same").
 --
 --   isName w        w begins with a letter; the rest of a word is letters, digits and `-` anyway
 --   Sentence        a formula over names: F
---   Item            what tokens are read as: a formula, or the closing bracket of a form around it
---   withForm k x    the form with node k in front of the items x
---   itemsOf ts      the formulas and closing brackets that the tokens ts are, one after the other, or none
-use mathlib.Core.Bool.{Bool, true, false}
-use mathlib.Core.List.{List, [], _∷_}
-use mathlib.Core.Option.{Option}
-use Prim.Native.Nat.{ℕ}
-use lib.Dec.{eqb}
-use Rattle.text.specs.Choice.{pick}
+--   form w ts       the form with the word w and with the tokens ts behind it
+--   spelled f       the tokens of the formula f
+--   isSentence f    the names of f are names, and its nodes are those of the words
+use mathlib.Core.Bool.{Bool, true, false, _&&_}
+use mathlib.Core.List.{List, [], _∷_, _++_}
+use Prim.Native.Nat.{ℕ, _-_}
+use lib.Dec.{leb}
+use lib.ListN.{getD}
 use Rattle.text.specs.Bytes.{isLetter}
 use Rattle.text.specs.Tokens.{Token}
-use Rattle.formulas.specs.Keyword.{nodeOf}
 
 unfoldable pub isName : List ℕ → Bool
 isName [] = false
@@ -26,41 +24,21 @@ pub data Sentence : Type 0 where
   negation : Sentence → Sentence
   joined : ℕ → Sentence → Sentence → Sentence
 
--- what tokens are read as, one after the other: formulas, and the closing brackets of forms around them
-pub data Item : Type 0 where
-  formula : Sentence → Item
-  closing : Item
+-- "not", "and", "or", "then", "same": the words of the nodes 64 to 68
+abbrev pub formWords : List (List ℕ)
+formWords =
+    (110 ∷ 111 ∷ 116 ∷ []) ∷ (97 ∷ 110 ∷ 100 ∷ []) ∷ (111 ∷ 114 ∷ []) ∷ (116 ∷ 104 ∷ 101 ∷ 110 ∷ [])
+    ∷ (115 ∷ 97 ∷ 109 ∷ 101 ∷ []) ∷ []
 
--- x in front of a list, where there is one
-abbrev pub prepend : {A : Type 0} → A → Option (List A) → Option (List A)
-prepend x Option.none = Option.none
-prepend x (Option.some l) = Option.some (x ∷ l)
+abbrev pub form : List ℕ → List Token → List Token
+form w ts = Token.opening ∷ (Token.word w ∷ (ts ++ (Token.closing ∷ [])))
 
--- the form f, where the next item is its closing bracket
-abbrev pub closed : Sentence → List Item → Option (List Item)
-closed f [] = Option.none
-closed f (Item.formula g ∷ l) = Option.none
-closed f (Item.closing ∷ l) = Option.some (Item.formula f ∷ l)
+unfoldable pub spelled : Sentence → List Token
+spelled (Sentence.name w) = Token.word w ∷ []
+spelled (Sentence.negation f) = form (getD formWords 0 []) (spelled f)
+spelled (Sentence.joined k f g) = form (getD formWords (k - 64) []) (spelled f ++ spelled g)
 
--- what make makes of the formula that items begin with and of the items behind it, otherwise other
-abbrev pub withFirst : {A : Type 0} → A → (Sentence → List Item → A) → List Item → A
-withFirst other make [] = other
-withFirst other make (Item.closing ∷ l) = other
-withFirst other make (Item.formula f ∷ l) = make f l
-
--- the form with node k, 0 for none, where the next items are its one or two operands and its closing bracket
-unfoldable pub withForm : ℕ → Option (List Item) → Option (List Item)
-withForm k Option.none = Option.none
-withForm k (Option.some l) =
-    let one = withFirst Option.none (λ f m. closed (Sentence.negation f) m) l in
-    let two = withFirst Option.none (λ f m. withFirst Option.none (λ g n. closed (Sentence.joined k f g) n) m) l in
-    pick (eqb k 0) Option.none (pick (eqb k 64) one two)
-
-unfoldable pub itemsOf : List Token → Option (List Item)
-itemsOf [] = Option.some []
-itemsOf (Token.closing ∷ ts) = prepend Item.closing (itemsOf ts)
-itemsOf (Token.word w ∷ ts) = pick (isName w) (prepend (Item.formula (Sentence.name w)) (itemsOf ts)) Option.none
-itemsOf (Token.opening ∷ []) = Option.none
-itemsOf (Token.opening ∷ (Token.opening ∷ ts)) = Option.none
-itemsOf (Token.opening ∷ (Token.closing ∷ ts)) = Option.none
-itemsOf (Token.opening ∷ (Token.word w ∷ ts)) = withForm (nodeOf w) (itemsOf ts)
+unfoldable pub isSentence : Sentence → Bool
+isSentence (Sentence.name w) = isName w
+isSentence (Sentence.negation f) = isSentence f
+isSentence (Sentence.joined k f g) = leb 65 k && leb k 68 && isSentence f && isSentence g

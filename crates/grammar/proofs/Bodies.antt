@@ -15,11 +15,13 @@ use lib.Dec.{eqb}
 use borrow.Author.Tests.{ne-eqb}
 use Rattle.text.specs.Tokens.{Token, tokens}
 use Rattle.formulas.specs.Parsing.{Items, withTwo}
-use Rattle.formulas.specs.Sentence.{prepend, Sentence, Item, isName, closed, withForm, itemsOf}
+use Rattle.formulas.specs.Sentence.{Sentence, isName}
+use Rattle.formulas.specs.Items.{prepend, Item, closed, withForm, itemsOf}
 use Rattle.formulas.specs.Keyword.{nodeOf}
 use Rattle.formulas.proofs.Items.{picked-items, negation-items}
 use Rattle.formulas.proofs.Firsts.{Filled, nameFirst, Unnamed, Unclosed, token-filled}
-use Rattle.grammar.specs.Line.{Literal, literalsOf}
+use Rattle.grammar.specs.Line.{Literal}
+use Rattle.grammar.specs.LineOf.{literalsOf}
 use Rattle.grammar.specs.Parsing.{literalsAmong, bodyIn, LiteralInside, LiteralFound, LiteralsAt}
 use Rattle.grammar.specs.declared.literal.Lit.{Lit}
 use Rattle.grammar.specs.declared.literal.Lit.the-variants.{NoLiteral, BodyEnd, Plain, Negated}

@@ -10,10 +10,12 @@ use lib.ListN.{length, drop}
 use Rattle.text.specs.Choice.{pick}
 use Rattle.text.specs.Tokens.{Token, tokens}
 use Rattle.formulas.specs.Parsing.{Items, beginsFormula, closedAmong, FormulaAt}
-use Rattle.formulas.specs.Sentence.{prepend, Sentence, Item, isName, itemsOf, withFirst}
+use Rattle.formulas.specs.Sentence.{Sentence, isName}
+use Rattle.formulas.specs.Items.{prepend, Item, itemsOf, withFirst}
 use Rattle.formulas.specs.Keyword.{kindOf}
 use Rattle.formulas.proofs.Firsts.{Filled, nameFirst, Unnamed, Unclosed, token-filled}
-use Rattle.grammar.specs.Line.{Line, Literal, literalsOf, withBody, withOnly, isEnd, named, withItems, lineOf}
+use Rattle.grammar.specs.Line.{Line, Literal}
+use Rattle.grammar.specs.LineOf.{literalsOf, withBody, withOnly, isEnd, named, withItems, lineOf}
 use Rattle.grammar.specs.Parsing.{endsItems, literalsAmong, bodyIn, LiteralsAt, BodyFound, BodyMakes, SeenMakes}
 use Rattle.grammar.specs.Parsing.{QueryMakes, endsLine, FormIs, FormAfter, FormFound}
 use Rattle.grammar.specs.declared.literal.Run.{Run}
@@ -150,7 +152,7 @@ empty-body : (line : List Literal → Line) (ls : List Literal) → length ls �
 empty-body line [] h = refl
 empty-body line (x ∷ ls) h = absurd (omega arith)
 
-filled-body : (line : List Literal → Line) (ls : List Literal) → (length ls ≡ 0 → ⊥)
+pub filled-body : (line : List Literal → Line) (ls : List Literal) → (length ls ≡ 0 → ⊥)
     → withBody line (Option.some ls) ≡ line ls
 filled-body line [] h = absurd (h refl)
 filled-body line (x ∷ ls) h = refl

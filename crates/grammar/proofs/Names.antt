@@ -11,12 +11,14 @@ use Prim.Native.Nat.{ℕ, zero, suc}
 use Rattle.text.specs.Choice.{pick}
 use Rattle.text.specs.Tokens.{Token}
 use Rattle.formulas.specs.Parsing.{Items}
-use Rattle.formulas.specs.Sentence.{prepend, Sentence, Item, itemsOf}
+use Rattle.formulas.specs.Sentence.{Sentence}
+use Rattle.formulas.specs.Items.{prepend, Item, itemsOf}
 use Rattle.formulas.specs.Keyword.{kindOf}
 use Rattle.formulas.proofs.Sentences.{EachName}
 use Rattle.formulas.proofs.Items.{EachWord, EachFormula, items-names}
-use Rattle.grammar.specs.Line.{Literal, Line, withSentence, literalsOf, withBody, withOnly, isEnd, named, ofKind}
-use Rattle.grammar.specs.Line.{withItems, lineOf}
+use Rattle.grammar.specs.Line.{Literal, Line}
+use Rattle.grammar.specs.LineOf.{withSentence, literalsOf, withBody, withOnly, isEnd, named, ofKind}
+use Rattle.grammar.specs.LineOf.{withItems, lineOf}
 use Rattle.grammar.specs.Parsing.{literalsAmong, bodyIn}
 
 abbrev pub EachLiteral : (List ℕ → Type 0) → List Literal → Type 0

@@ -16,10 +16,12 @@ use Rattle.text.specs.Choice.{pick}
 use Rattle.text.specs.Tokens.{Token}
 use Rattle.formulas.specs.Parsing.{Items, sizeOf}
 use Rattle.formulas.specs.Keyword.{kindOf}
-use Rattle.formulas.specs.Sentence.{Sentence, Item, itemsOf, withFirst}
+use Rattle.formulas.specs.Sentence.{Sentence}
+use Rattle.formulas.specs.Items.{Item, itemsOf, withFirst}
 use Rattle.formulas.proofs.Sizes.{formula-size}
-use Rattle.grammar.specs.Line.{Literal, Line, literalsOf, withBody, withOnly, isEnd, named, ofKind, withItems}
-use Rattle.grammar.specs.Line.{lineOf}
+use Rattle.grammar.specs.Line.{Literal, Line}
+use Rattle.grammar.specs.LineOf.{literalsOf, withBody, withOnly, isEnd, named, ofKind, withItems}
+use Rattle.grammar.specs.LineOf.{lineOf}
 
 abbrev pub Bodied : List Literal → Type 0
 Bodied [] = ⊥

@@ -1,5 +1,9 @@
 -- In reading order.
--- Line: the form of a line as a tree.
+-- Line: the forms of a line, and how they are spelled.
+-- LineOf: the form of a line, read from its tokens.
+-- Claims: that the one is the other.
 -- Parsing: what parsing a line from a place finds.
 pub mod Line
+pub mod LineOf
+pub mod Claims
 pub mod Parsing

@@ -1,19 +1,18 @@
--- The form of a line as a tree.
--- From: document 01, "The file" and refusal 5 ("not a form, with length of names and depth left aside").
+-- The forms of a line, and how they are spelled.
+-- From: document 01, "The file" ("(true N) (false N) (if N L .. L) (never L .. L) (seen L) (query F); L is N or (not N)").
 --
 --   Literal         a name or its negation: L
 --   Line            what a line is: skipped, one of the six forms, or no form
---   literalsOf l    the literals that the items l are, up to the line's closing bracket, or that they are none
---   lineOf ts       the line with the tokens ts
---   isNoForm x      the line x is no form
-use mathlib.Core.Bool.{Bool, true, false}
-use mathlib.Core.List.{List, [], _∷_}
-use mathlib.Core.Option.{Option}
-use Prim.Native.Nat.{ℕ, zero, suc}
+--   spelledLine x   the tokens of the line x; a skipped one has none
+--   isLine x        x is a skipped line or one of the forms, with names where names stand and literals where they must
+use mathlib.Core.Bool.{Bool, true, false, _&&_}
+use mathlib.Core.List.{List, [], _∷_, _++_}
+use Prim.Native.Nat.{ℕ}
+use lib.Dec.{eqb, ltb}
+use lib.ListN.{length, getD}
 use Rattle.text.specs.Choice.{pick}
 use Rattle.text.specs.Tokens.{Token}
-use Rattle.formulas.specs.Sentence.{prepend, Sentence, Item, withFirst, itemsOf}
-use Rattle.formulas.specs.Keyword.{kindOf}
+use Rattle.formulas.specs.Sentence.{isName, Sentence, form, spelled, isSentence}
 
 -- the literal of the name w, negated where the test holds
 pub data Literal : Type 0 where
@@ -28,80 +27,40 @@ pub data Line : Type 0 where
   seen : Literal → Line
   query : Sentence → Line
 
--- a formula that is a literal, in front of literals
-abbrev pub withSentence : Sentence → Option (List Literal) → Option (List Literal)
-withSentence (Sentence.name w) ls = prepend (Literal.literal false w) ls
-withSentence (Sentence.negation (Sentence.name w)) ls = prepend (Literal.literal true w) ls
-withSentence (Sentence.negation (Sentence.negation f)) ls = Option.none
-withSentence (Sentence.negation (Sentence.joined k f g)) ls = Option.none
-withSentence (Sentence.joined k f g) ls = Option.none
+-- "true", "false", "if": the words of the kinds of clauses; then "never", "seen", "query"
+abbrev pub lineWords : List (List ℕ)
+lineWords =
+    (116 ∷ 114 ∷ 117 ∷ 101 ∷ []) ∷ (102 ∷ 97 ∷ 108 ∷ 115 ∷ 101 ∷ []) ∷ (105 ∷ 102 ∷ [])
+    ∷ (110 ∷ 101 ∷ 118 ∷ 101 ∷ 114 ∷ []) ∷ (115 ∷ 101 ∷ 101 ∷ 110 ∷ []) ∷ (113 ∷ 117 ∷ 101 ∷ 114 ∷ 121 ∷ []) ∷ []
 
--- the items of a body: literals, and the line's closing bracket
-unfoldable pub literalsOf : List Item → Option (List Literal)
-literalsOf [] = Option.none
-literalsOf (Item.closing ∷ []) = Option.some []
-literalsOf (Item.closing ∷ (i ∷ l)) = Option.none
-literalsOf (Item.formula f ∷ l) = withSentence f (literalsOf l)
+-- the formula that a literal is
+abbrev pub ofLiteral : Literal → Sentence
+ofLiteral (Literal.literal false w) = Sentence.name w
+ofLiteral (Literal.literal true w) = Sentence.negation (Sentence.name w)
 
--- a line with at least one literal
-abbrev pub withBody : (List Literal → Line) → Option (List Literal) → Line
-withBody line Option.none = Line.noForm
-withBody line (Option.some []) = Line.noForm
-withBody line (Option.some (x ∷ l)) = line (x ∷ l)
+unfoldable pub spelledBody : List Literal → List Token
+spelledBody [] = []
+spelledBody (x ∷ l) = spelled (ofLiteral x) ++ spelledBody l
 
--- a line with exactly one literal
-abbrev pub withOnly : (Literal → Line) → Option (List Literal) → Line
-withOnly line Option.none = Line.noForm
-withOnly line (Option.some []) = Line.noForm
-withOnly line (Option.some (x ∷ [])) = line x
-withOnly line (Option.some (x ∷ (y ∷ l))) = Line.noForm
+unfoldable pub spelledLine : Line → List Token
+spelledLine Line.skipped = []
+spelledLine Line.noForm = []
+spelledLine (Line.clause k w l) = form (getD lineWords k []) (Token.word w ∷ spelledBody l)
+spelledLine (Line.never l) = form (getD lineWords 3 []) (spelledBody l)
+spelledLine (Line.seen x) = form (getD lineWords 4 []) (spelled (ofLiteral x))
+spelledLine (Line.query f) = form (getD lineWords 5 []) (spelled f)
 
--- the line's closing bracket is all that is left
-abbrev pub isEnd : List Item → Bool
-isEnd [] = false
-isEnd (Item.formula f ∷ l) = false
-isEnd (Item.closing ∷ []) = true
-isEnd (Item.closing ∷ (i ∷ l)) = false
+-- each literal is one of a name
+unfoldable pub areNamed : List Literal → Bool
+areNamed [] = true
+areNamed (x ∷ l) = isSentence (ofLiteral x) && areNamed l
 
--- a line whose first item is a name, with what the rest makes of it
-abbrev pub named : (List ℕ → Line) → Sentence → Line
-named line (Sentence.name w) = line w
-named line (Sentence.negation f) = Line.noForm
-named line (Sentence.joined k f g) = Line.noForm
-
--- the clause of a kind without literals, by its head and the items behind it
-abbrev pub headOnly : ℕ → Sentence → List Item → Line
-headOnly k f m = pick (isEnd m) (named (λ w. Line.clause k w []) f) Line.noForm
-
--- the line of a kind of Keyword with these items
-abbrev pub ofKind : ℕ → List Item → Line
-ofKind zero l = Line.noForm
-ofKind (suc zero) l = withFirst Line.noForm (headOnly 0) l
-ofKind (suc (suc zero)) l = withFirst Line.noForm (headOnly 1) l
-ofKind (suc (suc (suc zero))) l =
-    withFirst Line.noForm (λ f m. named (λ w. withBody (Line.clause 2 w) (literalsOf m)) f) l
-ofKind (suc (suc (suc (suc zero)))) l = withBody Line.never (literalsOf l)
-ofKind (suc (suc (suc (suc (suc zero))))) l = withOnly Line.seen (literalsOf l)
-ofKind (suc (suc (suc (suc (suc (suc n)))))) l =
-    withFirst Line.noForm (λ f m. pick (isEnd m) (Line.query f) Line.noForm) l
-
-abbrev pub withItems : ℕ → Option (List Item) → Line
-withItems k Option.none = Line.noForm
-withItems k (Option.some l) = ofKind k l
-
-unfoldable pub lineOf : List Token → Line
-lineOf [] = Line.skipped
-lineOf (Token.closing ∷ ts) = Line.noForm
-lineOf (Token.word w ∷ ts) = Line.noForm
-lineOf (Token.opening ∷ []) = Line.noForm
-lineOf (Token.opening ∷ (Token.opening ∷ ts)) = Line.noForm
-lineOf (Token.opening ∷ (Token.closing ∷ ts)) = Line.noForm
-lineOf (Token.opening ∷ (Token.word w ∷ ts)) = withItems (kindOf w) (itemsOf ts)
-
-abbrev pub isNoForm : Line → Bool
-isNoForm Line.skipped = false
-isNoForm Line.noForm = true
-isNoForm (Line.clause k w l) = false
-isNoForm (Line.never l) = false
-isNoForm (Line.seen x) = false
-isNoForm (Line.query f) = false
+-- a rule and a constraint have one literal or more, facts and assumptions have none
+unfoldable pub isLine : Line → Bool
+isLine Line.skipped = true
+isLine Line.noForm = false
+isLine (Line.clause k w l) =
+    isName w && areNamed l && pick (eqb k 2) (ltb 0 (length l)) (ltb k 2 && eqb (length l) 0)
+isLine (Line.never l) = areNamed l && ltb 0 (length l)
+isLine (Line.seen x) = isSentence (ofLiteral x)
+isLine (Line.query f) = isSentence f

@@ -13,7 +13,8 @@ use lib.ListN.{length, drop}
 use lib.Seq.{slice}
 use Rattle.text.specs.Tokens.{Token, tokens}
 use Rattle.formulas.specs.Parsing.{Items, depthOf}
-use Rattle.formulas.specs.Sentence.{prepend, Sentence, Item, itemsOf}
+use Rattle.formulas.specs.Sentence.{Sentence}
+use Rattle.formulas.specs.Items.{prepend, Item, itemsOf}
 use Rattle.grammar.specs.declared.literal.Lit.{Lit}
 use Rattle.grammar.specs.declared.literal.Lit.the-variants.{NoLiteral, BodyEnd, Plain, Negated}
 use Rattle.grammar.specs.declared.literal.Run.{Run}
@@ -21,7 +22,8 @@ use Rattle.grammar.specs.declared.literal.Run.the-variants.{NoBody, Lite
 use Rattle.grammar.specs.declared.line.Form.{Form}
 use Rattle.grammar.specs.declared.line.Form.the-variants.{Skipped, NoForm, Fact, Assumption, Rule, Never, Seen}
 use Rattle.grammar.specs.declared.line.Form.the-variants.{Query}
-use Rattle.grammar.specs.Line.{Line, Literal, literalsOf, isEnd, withItems, lineOf}
+use Rattle.grammar.specs.Line.{Line, Literal}
+use Rattle.grammar.specs.LineOf.{literalsOf, isEnd, withItems, lineOf}
 
 abbrev pub endsItems : Items → Bool
 endsItems Option.none = false

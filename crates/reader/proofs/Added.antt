@@ -17,7 +17,8 @@ use Rattle.formulas.specs.Sentence.{Sentence}
 use Rattle.formulas.specs.Parsing.{depthOf, sizeOf}
 use Rattle.formulas.proofs.Sentences.{EachName}
 use Rattle.formulas.proofs.Sizes.{tokens-le-bytes}
-use Rattle.grammar.specs.Line.{Line, Literal, lineOf}
+use Rattle.grammar.specs.Line.{Line, Literal}
+use Rattle.grammar.specs.LineOf.{lineOf}
 use Rattle.grammar.proofs.Names.{EachLiteral, EachOfLine}
 use Rattle.grammar.proofs.Shapes.{Bodied, ClauseShaped, Shaped, line-shaped}
 use Rattle.names.specs.Names.{namesIn, withNames}

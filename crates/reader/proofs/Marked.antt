@@ -16,8 +16,10 @@ use Rattle.text.specs.Lines.{linesFrom, isComment}
 use Rattle.text.specs.Tokens.{tokensFrom}
 use Rattle.table.specs.Filled.{padded}
 use Rattle.formulas.specs.Keyword.{nodeOf, kindOf}
-use Rattle.formulas.specs.Sentence.{isName, withForm, itemsOf}
-use Rattle.grammar.specs.Line.{literalsOf, lineOf}
+use Rattle.formulas.specs.Sentence.{isName, isSentence}
+use Rattle.formulas.specs.Items.{withForm, itemsOf}
+use Rattle.grammar.specs.Line.{areNamed, isLine}
+use Rattle.grammar.specs.LineOf.{literalsOf, lineOf}
 use Rattle.names.specs.Names.{namesFrom, someLong, atomOf, withName, withNames, rowsOf}
 use Rattle.store.specs.Saying.{someOn, plainAtoms, negatedAtoms, encoded, saidBy}
 use Rattle.store.specs.Tables.{clauseWords, constraintWords, formulaNodes, caseSaid}
@@ -97,5 +99,5 @@ pub marked-read : map (λ (r : Row). rowOf (r .file)) rows ≡ rows
 unfolding ones onesIn has word nodes headsOf causesAmong fewCauses isWordByte isAllowed allOf sameBytes linesFrom
     isComment tokensFrom padded namesFrom someLong atomOf withName withNames rowsOf nodeOf kindOf isName depth
     withForm itemsOf literalsOf lineOf someOn plainAtoms negatedAtoms encoded saidBy formRefusal lineRefusal saidAfter
-    clauseWords ending readLines readFile constraintWords formulaNodes
+    clauseWords ending readLines readFile constraintWords formulaNodes isSentence areNamed isLine
 marked-read = refl

@@ -11,7 +11,8 @@ use Rattle.text.specs.Lines.{lines}
 use Rattle.text.specs.Tokens.{tokens}
 use Rattle.table.specs.Filled.{filled}
 use Rattle.formulas.specs.Sentence.{Sentence}
-use Rattle.grammar.specs.Line.{Line, lineOf}
+use Rattle.grammar.specs.Line.{Line}
+use Rattle.grammar.specs.LineOf.{lineOf}
 use Rattle.names.specs.Names.{atomOf}
 use Rattle.store.specs.Lent.{Lent}
 use Rattle.store.specs.Saying.{Said, nothingSaid, encoded}

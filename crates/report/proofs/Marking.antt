@@ -20,8 +20,10 @@ use Rattle.text.specs.Tokens.{tokensFrom}
 use Rattle.table.specs.Filled.{padded}
 use Rattle.names.specs.Names.{namesFrom, someLong, atomOf, withName, withNames, rowsOf}
 use Rattle.formulas.specs.Keyword.{nodeOf, kindOf}
-use Rattle.formulas.specs.Sentence.{isName, withForm, itemsOf}
-use Rattle.grammar.specs.Line.{literalsOf, lineOf}
+use Rattle.formulas.specs.Sentence.{isName, isSentence}
+use Rattle.formulas.specs.Items.{withForm, itemsOf}
+use Rattle.grammar.specs.Line.{areNamed, isLine}
+use Rattle.grammar.specs.LineOf.{literalsOf, lineOf}
 use Rattle.store.specs.Saying.{someOn, plainAtoms, negatedAtoms, encoded, saidBy}
 use Rattle.store.specs.Tables.{clauseWords, constraintWords, formulaNodes}
 use Rattle.checks.specs.Checks.{formRefusal, lineRefusal, saidAfter}
@@ -35,5 +37,5 @@ unfolding ones onesIn has word valueOf literalsBelow nodes withNode spelled form
     minimal minimalsBelow roundsBelow allTrue walk.allFalse verdictOf isWordByte isAllowed allOf sameBytes linesFrom
     isComment tokensFrom padded namesFrom someLong atomOf withName withNames rowsOf nodeOf kindOf isName depth
     withForm itemsOf literalsOf lineOf someOn plainAtoms negatedAtoms encoded saidBy formRefusal lineRefusal saidAfter
-    clauseWords ending readLines readFile constraintWords formulaNodes
+    clauseWords ending readLines readFile constraintWords formulaNodes isSentence areNamed isLine
 marked-rows = refl

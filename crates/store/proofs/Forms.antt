@@ -12,7 +12,8 @@ use Rattle.logic.specs.Formula.{Formula}
 use Rattle.program.specs.declared.case.Case.{Case}
 use Rattle.grammar.specs.declared.line.Form.{Form}
 use Rattle.grammar.specs.declared.line.Form.the-variants.{Skipped, NoForm, Fact, Assumption, Rule, Never, Seen, Query}
-use Rattle.grammar.specs.Line.{Line, isNoForm}
+use Rattle.grammar.specs.Line.{Line}
+use Rattle.grammar.specs.LineOf.{isNoForm}
 use Rattle.grammar.specs.Parsing.{FormIs}
 use Rattle.store.specs.Saying.{Said}
 use Rattle.store.specs.Checking.{isDeep, isOneTooMany, isSecondQuery}

@@ -16,7 +16,7 @@ use Rattle.words.proofs.Tests.{eqb-comm}
 use Rattle.words.proofs.Bits.{has-zero}
 use Rattle.words.proofs.Words.{is-word, has-or-one, or-one-lt}
 use Rattle.text.specs.Tokens.{tokens}
-use Rattle.formulas.specs.Sentence.{prepend}
+use Rattle.formulas.specs.Items.{prepend}
 use Rattle.grammar.specs.Line.{Literal}
 use Rattle.grammar.specs.Parsing.{bodyIn}
 use Rattle.names.specs.Names.{atomOf}

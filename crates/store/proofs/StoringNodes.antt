@@ -19,7 +19,8 @@ use Rattle.text.specs.Scanning.{Found}
 use Rattle.table.specs.Filled.{filled}
 use Rattle.table.proofs.Filled.{filled-length, filled-push}
 use Rattle.formulas.specs.declared.formula.Parse.the-variants.{NoFormula}
-use Rattle.formulas.specs.Sentence.{Sentence, Item, isName, itemsOf}
+use Rattle.formulas.specs.Sentence.{Sentence, isName}
+use Rattle.formulas.specs.Items.{Item, itemsOf}
 use Rattle.formulas.specs.Parsing.{beginsFormula, Parsed, closedAmong}
 use Rattle.formulas.proofs.Keywords.{NodeNumber}
 use Rattle.formulas.proofs.Fronts.{none-items, behind-item, NameFront, name-front, FormFront, form-front}

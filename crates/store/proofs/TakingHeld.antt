@@ -14,7 +14,8 @@ use Rattle.logic.specs.Nodes.{nodes}
 use Rattle.program.specs.declared.case.Case.{Case}
 use Rattle.text.specs.Tokens.{tokens}
 use Rattle.table.proofs.Filled.{filled-length}
-use Rattle.formulas.specs.Sentence.{Sentence, Item, itemsOf}
+use Rattle.formulas.specs.Sentence.{Sentence}
+use Rattle.formulas.specs.Items.{Item, itemsOf}
 use Rattle.grammar.specs.Line.{Literal}
 use Rattle.names.specs.Names.{withNames, rowsOf}
 use Rattle.names.specs.Held.{LineInterned}

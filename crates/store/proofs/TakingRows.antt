@@ -16,7 +16,7 @@ use Rattle.logic.specs.Nodes.{nodes}
 use Rattle.program.specs.declared.case.Case.{Case}
 use Rattle.table.specs.Filled.{filled}
 use Rattle.table.proofs.Filled.{filled-pushes}
-use Rattle.formulas.specs.Sentence.{Item}
+use Rattle.formulas.specs.Items.{Item}
 use Rattle.names.specs.Held.{FoundIn}
 use Rattle.names.specs.Names.{atomOf}
 use Rattle.store.specs.declared.store.Masks.{Masks}

@@ -16,7 +16,8 @@ use Rattle.logic.specs.Nodes.{nodes}
 use Rattle.text.specs.Choice.{pick}
 use Rattle.text.specs.Tokens.{tokens}
 use Rattle.table.specs.Filled.{filled}
-use Rattle.formulas.specs.Sentence.{Sentence, Item, itemsOf}
+use Rattle.formulas.specs.Sentence.{Sentence}
+use Rattle.formulas.specs.Items.{Item, itemsOf}
 use Rattle.grammar.specs.Line.{Literal}
 use Rattle.grammar.specs.Parsing.{bodyIn}
 use Rattle.names.specs.Names.{atomOf}

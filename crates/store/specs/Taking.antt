@@ -15,10 +15,12 @@ use Rattle.logic.specs.Nodes.{nodes}
 use Rattle.program.specs.declared.case.Case.{Case}
 use Rattle.text.specs.Tokens.{tokens}
 use Rattle.table.specs.Filled.{filled}
-use Rattle.formulas.specs.Sentence.{Sentence, Item, itemsOf}
+use Rattle.formulas.specs.Sentence.{Sentence}
+use Rattle.formulas.specs.Items.{Item, itemsOf}
 use Rattle.grammar.specs.declared.line.Form.{Form}
 use Rattle.grammar.specs.declared.line.Form.the-variants.{Skipped, NoForm, Fact, Assumption, Rule, Never, Seen, Query}
-use Rattle.grammar.specs.Line.{Line, Literal, isNoForm}
+use Rattle.grammar.specs.Line.{Line, Literal}
+use Rattle.grammar.specs.LineOf.{isNoForm}
 use Rattle.grammar.specs.Parsing.{FormIs, Part}
 use Rattle.names.specs.Names.{atomOf}
 use Rattle.names.specs.Held.{Holds}

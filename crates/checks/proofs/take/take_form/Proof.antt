@@ -6,7 +6,7 @@ use native.Mathlib.Omega.{arith}
 use borrow.Author.Needs.{needs}
 use lib.ListN.{length}
 use Rattle.text.specs.Tokens.{tokens}
-use Rattle.grammar.specs.Line.{lineOf}
+use Rattle.grammar.specs.LineOf.{lineOf}
 use Rattle.names.specs.Names.{namesIn, withNames}
 use Rattle.store.specs.Lent.{lent}
 use Rattle.store.proofs.TakingHeld.{held-spoilt, held-atoms, named-spoilt}

@@ -5,10 +5,10 @@ use native.Mathlib.Omega.{arith}
 use lib.ListN.{drop}
 use lib.Seq.{slice}
 use Rattle.text.specs.Tokens.{tokens}
-use Rattle.formulas.specs.Sentence.{itemsOf}
+use Rattle.formulas.specs.Items.{itemsOf}
 use Rattle.formulas.proofs.Formulas.{found-as}
 use Rattle.formulas.proofs.Keywords.{kind-le}
-use Rattle.grammar.specs.Line.{withItems}
+use Rattle.grammar.specs.LineOf.{withItems}
 use Rattle.grammar.proofs.Lines.{form-found, line-end, line-closing, line-word, opened-line-end}
 use Rattle.grammar.proofs.Lines.{opened-line-opening, opened-line-closing, opened-line-word}
 use Rattle.grammar.proofs.line.form_of.Statement.{statement}

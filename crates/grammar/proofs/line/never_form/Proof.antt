@@ -3,7 +3,8 @@ use borrow.Author.Needs.{needs}
 use mathlib.Core.Path.{ap, _∙_}
 use lib.ListN.{drop}
 use Rattle.text.specs.Tokens.{tokens}
-use Rattle.grammar.specs.Line.{Line, withBody}
+use Rattle.grammar.specs.Line.{Line}
+use Rattle.grammar.specs.LineOf.{withBody}
 use Rattle.grammar.proofs.Lines.{never-is, body-as, body-empty, body-filled}
 use Rattle.grammar.proofs.line.never_form.Statement.{statement}
 use Rattle.grammar.proofs.line.never_form.Tie as tie

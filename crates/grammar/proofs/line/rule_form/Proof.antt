@@ -6,7 +6,8 @@ use native.Mathlib.Omega.{arith}
 use lib.Seq.{slice}
 use Rattle.formulas.proofs.Formulas.{found-as}
 use Rattle.formulas.proofs.Firsts.{end-unnamed, opening-unnamed, closing-unnamed, word-unnamed}
-use Rattle.grammar.specs.Line.{Line, withBody}
+use Rattle.grammar.specs.Line.{Line}
+use Rattle.grammar.specs.LineOf.{withBody}
 use Rattle.grammar.proofs.Lines.{kind-unnamed, rule-is, body-as, body-empty, body-filled}
 use Rattle.grammar.proofs.line.rule_form.Statement.{statement}
 use Rattle.grammar.proofs.line.rule_form.Tie as tie

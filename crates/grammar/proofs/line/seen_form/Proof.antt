@@ -3,7 +3,8 @@ use borrow.Author.Needs.{needs}
 use mathlib.Core.Path.{ap, _∙_}
 use lib.ListN.{drop}
 use Rattle.text.specs.Tokens.{tokens}
-use Rattle.grammar.specs.Line.{Line, withOnly}
+use Rattle.grammar.specs.Line.{Line}
+use Rattle.grammar.specs.LineOf.{withOnly}
 use Rattle.grammar.proofs.Lines.{seen-is, body-as, only-other, only-one}
 use Rattle.grammar.proofs.line.seen_form.Statement.{statement}
 use Rattle.grammar.proofs.line.seen_form.Tie as tie

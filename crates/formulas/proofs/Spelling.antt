@@ -1,0 +1,146 @@
+-- Formulas are read as they are spelled: the tokens of a formula are read as this formula, and the items that tokens
+-- are read as spell these tokens.
+--
+--   spelledItems m     the tokens of the items m
+--   AreSentences m     the formulas of m pass isSentence
+--   Spells ts x        the items x, if any, are of formulas, and their tokens are ts
+-- Assumes nothing.
+use mathlib.Core.Path.{_≡_, refl, ap, _∙_}
+use mathlib.Core.Bool.{Bool, true, false}
+use mathlib.Core.List.{List, [], _∷_, _++_, append-assoc}
+use mathlib.Core.Logic.{inl, inr}
+use mathlib.Core.Option.{Option}
+use Prim.Native.Nat.{ℕ, _-_, _≤_}
+use native.Mathlib.Omega.{arith}
+use lib.Dec.{eqb}
+use lib.ListN.{getD}
+use borrow.Author.Tests.{eqb-true, eqb-false, leb-true, le-leb}
+use Rattle.text.specs.Choice.{pick}
+use Rattle.text.specs.Tokens.{Token}
+use Rattle.text.proofs.ByteLaws.{and-true-both}
+use Rattle.formulas.specs.Parsing.{Items, withOne, withTwo}
+use Rattle.formulas.specs.Sentence.{Sentence, isName, formWords, spelled, isSentence}
+use Rattle.formulas.specs.Items.{prepend, Item, withForm, itemsOf}
+use Rattle.formulas.specs.Keyword.{nodeOf}
+use Rattle.formulas.proofs.Keywords.{WordOf, node-word, word-node}
+use Rattle.formulas.proofs.Items.{closed-among, negation-items, joined-items}
+
+-- What is spelled is read
+
+-- what a form that passes isSentence is made of
+record JoinedSentence (k : ℕ) (f g : Sentence) : Type 0 where
+  low : 65 ≤ k
+  high : k ≤ 68
+  first : isSentence f ≡ true
+  second : isSentence g ≡ true
+
+joined-sentence : (k : ℕ) (f g : Sentence) → isSentence (Sentence.joined k f g) ≡ true → JoinedSentence k f g
+unfolding isSentence
+joined-sentence k f g h =
+    let a = and-true-both _ _ h in
+    let b = and-true-both _ _ (a .0) in
+    let c = and-true-both _ _ (b .0) in
+    record { low = leb-true 65 k (c .0); high = leb-true k 68 (c .1); first = b .1; second = a .1 }
+
+pub spelled-read : (f : Sentence) (ts : List Token) → isSentence f ≡ true
+    → itemsOf (spelled f ++ ts) ≡ prepend (Item.formula f) (itemsOf ts)
+unfolding spelled isSentence itemsOf
+spelled-read (Sentence.name w) ts h = rw h
+spelled-read (Sentence.negation f) ts h =
+    let x = itemsOf ts in
+    rw (append-assoc, word-node 64 (omega arith) (omega arith), spelled-read f (Token.closing ∷ ts) h)
+    (negation-items 64 f (prepend Item.closing x) refl ∙ closed-among (Sentence.negation f) x)
+spelled-read (Sentence.joined k f g) ts h =
+    let x = itemsOf ts in
+    let j = joined-sentence k f g h in
+    rw (
+      word-node k (omega arith) (j .high),
+      append-assoc,
+      append-assoc,
+      spelled-read f _ (j .first),
+      spelled-read g (Token.closing ∷ ts) (j .second),
+    )
+    (joined-items k f g (prepend Item.closing x) (λ z. omega arith) (λ z. omega arith)
+    ∙ closed-among (Sentence.joined k f g) x)
+
+-- What is read is spelled
+
+unfoldable pub spelledItems : List Item → List Token
+spelledItems [] = []
+spelledItems (Item.closing ∷ m) = Token.closing ∷ spelledItems m
+spelledItems (Item.formula f ∷ m) = spelled f ++ spelledItems m
+
+abbrev pub AreSentences : List Item → Type 0
+AreSentences [] = Unit {0}
+AreSentences (Item.closing ∷ m) = AreSentences m
+AreSentences (Item.formula f ∷ m) = (isSentence f ≡ true) × AreSentences m
+
+abbrev pub Spells : List Token → Items → Type 0
+Spells ts Option.none = Unit {0}
+Spells ts (Option.some m) = (ts ≡ spelledItems m) × AreSentences m
+
+-- a token in front of tokens that items spell
+closing-spells : (ts : List Token) (x : Items) → Spells ts x → Spells (Token.closing ∷ ts) (prepend Item.closing x)
+unfolding spelledItems
+closing-spells ts Option.none h = tt
+closing-spells ts (Option.some m) h = (ap (λ us. Token.closing ∷ us) (h .0), h .1)
+
+name-spells : (t : Bool) (w : List ℕ) (ts : List Token) (x : Items) → isName w ≡ t → Spells ts x
+    → Spells (Token.word w ∷ ts) (pick t (prepend (Item.formula (Sentence.name w)) x) Option.none)
+unfolding spelledItems spelled isSentence
+name-spells false w ts x e h = tt
+name-spells true w ts Option.none e h = tt
+name-spells true w ts (Option.some m) e h = (ap (λ us. Token.word w ∷ us) (h .0), (e, h .1))
+
+module _ (w : List ℕ) (ts : List Token) where
+  one-spells : (m : List Item) → w ≡ getD formWords 0 [] → Spells ts (Option.some m)
+      → Spells (Token.opening ∷ (Token.word w ∷ ts)) (withOne m)
+  unfolding spelledItems spelled isSentence
+  one-spells [] e h = tt
+  one-spells (Item.closing ∷ m) e h = tt
+  one-spells (Item.formula f ∷ []) e h = tt
+  one-spells (Item.formula f ∷ (Item.formula g ∷ m)) e h = tt
+  one-spells (Item.formula f ∷ (Item.closing ∷ m)) e h = (rw (append-assoc, e, h .0), h .1)
+
+  two-spells : (k : ℕ) (m : List Item) → w ≡ getD formWords (k - 64) [] → 65 ≤ k → k ≤ 68 → Spells ts (Option.some m)
+      → Spells (Token.opening ∷ (Token.word w ∷ ts)) (withTwo k m)
+  unfolding spelledItems spelled isSentence
+  two-spells k [] e a b h = tt
+  two-spells k (Item.closing ∷ m) e a b h = tt
+  two-spells k (Item.formula f ∷ []) e a b h = tt
+  two-spells k (Item.formula f ∷ (Item.closing ∷ m)) e a b h = tt
+  two-spells k (Item.formula f ∷ (Item.formula g ∷ [])) e a b h = tt
+  two-spells k (Item.formula f ∷ (Item.formula g ∷ (Item.formula i ∷ m))) e a b h = tt
+  two-spells k (Item.formula f ∷ (Item.formula g ∷ (Item.closing ∷ m))) e a b h = (
+    rw (append-assoc, append-assoc, e, h .0),
+    (rw (le-leb 65 k a, le-leb k 68 b, h .1 .0, h .1 .1 .0), h .1 .1 .1),
+  )
+
+  picked-spells : (s t : Bool) (k : ℕ) (m : List Item) → eqb k 0 ≡ s → eqb k 64 ≡ t → WordOf formWords 64 w k
+      → Spells ts (Option.some m)
+      → Spells (Token.opening ∷ (Token.word w ∷ ts)) (pick s Option.none (pick t (withOne m) (withTwo k m)))
+  picked-spells true t k m p q (inl z) h = tt
+  picked-spells true t k m p q (inr r) h = tt
+  picked-spells false t k m p q (inl z) h = absurd (eqb-false k 0 p z)
+  picked-spells false true k m p q (inr r) h =
+      let z : k - 64 ≡ 0 = omega (arith, eqb-true k 64 q) in
+      one-spells m (rw z at (r .2)) h
+  picked-spells false false k m p q (inr r) h =
+      two-spells k m (r .2) (omega (arith, eqb-false k 64 q)) (omega arith) h
+
+  form-spells : (k : ℕ) (x : Items) → WordOf formWords 64 w k → Spells ts x
+      → Spells (Token.opening ∷ (Token.word w ∷ ts)) (withForm k x)
+  unfolding withForm
+  form-spells k Option.none r h = tt
+  form-spells k (Option.some m) r h = picked-spells (eqb k 0) (eqb k 64) k m refl refl r h
+
+pub items-spell : (ts : List Token) → Spells ts (itemsOf ts)
+unfolding itemsOf spelledItems
+items-spell [] = (refl, tt)
+items-spell (Token.closing ∷ ts) = closing-spells ts (itemsOf ts) (items-spell ts)
+items-spell (Token.word w ∷ ts) = name-spells (isName w) w ts (itemsOf ts) refl (items-spell ts)
+items-spell (Token.opening ∷ []) = tt
+items-spell (Token.opening ∷ (Token.opening ∷ ts)) = tt
+items-spell (Token.opening ∷ (Token.closing ∷ ts)) = tt
+items-spell (Token.opening ∷ (Token.word w ∷ ts)) =
+    form-spells w ts (nodeOf w) (itemsOf ts) (node-word w) (items-spell ts)
