@@ -19,7 +19,7 @@ use Rattle.text.specs.Choice.{pick}
 use Rattle.text.specs.Tokens.{Token}
 use Rattle.text.proofs.ByteLaws.{and-true-both}
 use Rattle.formulas.specs.Parsing.{Items, withOne, withTwo}
-use Rattle.formulas.specs.Sentence.{Sentence, isName, formWords, spelled, isSentence}
+use Rattle.formulas.specs.Sentence.{Sentence, isName, formWords, tokensOf, isSentence}
 use Rattle.formulas.specs.Items.{prepend, Item, withForm, itemsOf}
 use Rattle.formulas.specs.Keyword.{nodeOf}
 use Rattle.formulas.proofs.Keywords.{WordOf, node-word, word-node}
@@ -42,23 +42,23 @@ joined-sentence k f g h =
     let c = and-true-both _ _ (b .0) in
     record { low = leb-true 65 k (c .0); high = leb-true k 68 (c .1); first = b .1; second = a .1 }
 
-pub spelled-read : (f : Sentence) (ts : List Token) → isSentence f ≡ true
-    → itemsOf (spelled f ++ ts) ≡ prepend (Item.formula f) (itemsOf ts)
-unfolding spelled isSentence itemsOf
-spelled-read (Sentence.name w) ts h = rw h
-spelled-read (Sentence.negation f) ts h =
+pub tokensOf-read : (f : Sentence) (ts : List Token) → isSentence f ≡ true
+    → itemsOf (tokensOf f ++ ts) ≡ prepend (Item.formula f) (itemsOf ts)
+unfolding tokensOf isSentence itemsOf
+tokensOf-read (Sentence.name w) ts h = rw h
+tokensOf-read (Sentence.negation f) ts h =
     let x = itemsOf ts in
-    rw (append-assoc, word-node 64 (omega arith) (omega arith), spelled-read f (Token.closing ∷ ts) h)
+    rw (append-assoc, word-node 64 (omega arith) (omega arith), tokensOf-read f (Token.closing ∷ ts) h)
     (negation-items 64 f (prepend Item.closing x) refl ∙ closed-among (Sentence.negation f) x)
-spelled-read (Sentence.joined k f g) ts h =
+tokensOf-read (Sentence.joined k f g) ts h =
     let x = itemsOf ts in
     let j = joined-sentence k f g h in
     rw (
       word-node k (omega arith) (j .high),
       append-assoc,
       append-assoc,
-      spelled-read f _ (j .first),
-      spelled-read g (Token.closing ∷ ts) (j .second),
+      tokensOf-read f _ (j .first),
+      tokensOf-read g (Token.closing ∷ ts) (j .second),
     )
     (joined-items k f g (prepend Item.closing x) (λ z. omega arith) (λ z. omega arith)
     ∙ closed-among (Sentence.joined k f g) x)
@@ -68,7 +68,7 @@ spelled-read (Sentence.joined k f g) ts h =
 unfoldable pub spelledItems : List Item → List Token
 spelledItems [] = []
 spelledItems (Item.closing ∷ m) = Token.closing ∷ spelledItems m
-spelledItems (Item.formula f ∷ m) = spelled f ++ spelledItems m
+spelledItems (Item.formula f ∷ m) = tokensOf f ++ spelledItems m
 
 abbrev pub AreSentences : List Item → Type 0
 AreSentences [] = Unit {0}
@@ -87,7 +87,7 @@ closing-spells ts (Option.some m) h = (ap (λ us. Token.closing ∷ us) (h .0), 
 
 name-spells : (t : Bool) (w : List ℕ) (ts : List Token) (x : Items) → isName w ≡ t → Spells ts x
     → Spells (Token.word w ∷ ts) (pick t (prepend (Item.formula (Sentence.name w)) x) Option.none)
-unfolding spelledItems spelled isSentence
+unfolding spelledItems tokensOf isSentence
 name-spells false w ts x e h = tt
 name-spells true w ts Option.none e h = tt
 name-spells true w ts (Option.some m) e h = (ap (λ us. Token.word w ∷ us) (h .0), (e, h .1))
@@ -95,7 +95,7 @@ name-spells true w ts (Option.some m) e h = (ap (λ us. Token.word w ∷ us) (h 
 module _ (w : List ℕ) (ts : List Token) where
   one-spells : (m : List Item) → w ≡ getD formWords 0 [] → Spells ts (Option.some m)
       → Spells (Token.opening ∷ (Token.word w ∷ ts)) (withOne m)
-  unfolding spelledItems spelled isSentence
+  unfolding spelledItems tokensOf isSentence
   one-spells [] e h = tt
   one-spells (Item.closing ∷ m) e h = tt
   one-spells (Item.formula f ∷ []) e h = tt
@@ -104,7 +104,7 @@ module _ (w : List ℕ) (ts : List Token) where
 
   two-spells : (k : ℕ) (m : List Item) → w ≡ getD formWords (k - 64) [] → 65 ≤ k → k ≤ 68 → Spells ts (Option.some m)
       → Spells (Token.opening ∷ (Token.word w ∷ ts)) (withTwo k m)
-  unfolding spelledItems spelled isSentence
+  unfolding spelledItems tokensOf isSentence
   two-spells k [] e a b h = tt
   two-spells k (Item.closing ∷ m) e a b h = tt
   two-spells k (Item.formula f ∷ []) e a b h = tt

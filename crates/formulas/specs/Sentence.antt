@@ -4,7 +4,7 @@
 --   isName w        w begins with a letter; the rest of a word is letters, digits and `-` anyway
 --   Sentence        a formula over names: F
 --   form w ts       the form with the word w and with the tokens ts behind it
---   spelled f       the tokens of the formula f
+--   tokensOf f      the tokens of the formula f
 --   isSentence f    the names of f are names, and its nodes are those of the words
 use mathlib.Core.Bool.{Bool, true, false, _&&_}
 use mathlib.Core.List.{List, [], _∷_, _++_}
@@ -33,10 +33,10 @@ formWords =
 abbrev pub form : List ℕ → List Token → List Token
 form w ts = Token.opening ∷ (Token.word w ∷ (ts ++ (Token.closing ∷ [])))
 
-unfoldable pub spelled : Sentence → List Token
-spelled (Sentence.name w) = Token.word w ∷ []
-spelled (Sentence.negation f) = form (getD formWords 0 []) (spelled f)
-spelled (Sentence.joined k f g) = form (getD formWords (k - 64) []) (spelled f ++ spelled g)
+unfoldable pub tokensOf : Sentence → List Token
+tokensOf (Sentence.name w) = Token.word w ∷ []
+tokensOf (Sentence.negation f) = form (getD formWords 0 []) (tokensOf f)
+tokensOf (Sentence.joined k f g) = form (getD formWords (k - 64) []) (tokensOf f ++ tokensOf g)
 
 unfoldable pub isSentence : Sentence → Bool
 isSentence (Sentence.name w) = isName w

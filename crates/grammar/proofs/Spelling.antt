@@ -19,12 +19,12 @@ use Rattle.text.specs.Bytes.{sameBytes}
 use Rattle.text.specs.Tokens.{Token}
 use Rattle.text.proofs.ByteLaws.{and-true-both}
 use Rattle.formulas.specs.Parsing.{Items}
-use Rattle.formulas.specs.Sentence.{Sentence, isName, spelled, isSentence}
+use Rattle.formulas.specs.Sentence.{Sentence, isName, tokensOf, isSentence}
 use Rattle.formulas.specs.Items.{prepend, Item, itemsOf}
 use Rattle.formulas.specs.Keyword.{kindOf}
 use Rattle.formulas.proofs.Keywords.{WordOf, picked-word}
-use Rattle.formulas.proofs.Spelling.{spelled-read, spelledItems, AreSentences, Spells, items-spell}
-use Rattle.grammar.specs.Line.{Literal, Line, lineWords, ofLiteral, spelledBody, spelledLine, areNamed, isLine}
+use Rattle.formulas.proofs.Spelling.{tokensOf-read, spelledItems, AreSentences, Spells, items-spell}
+use Rattle.grammar.specs.Line.{Literal, Line, lineWords, ofLiteral, bodyTokens, lineTokens, areNamed, isLine}
 use Rattle.grammar.specs.LineOf.{withSentence, literalsOf, withBody, withOnly, headOnly, ofKind, withItems}
 use Rattle.grammar.specs.LineOf.{lineOf, isNoForm}
 use Rattle.grammar.specs.Parsing.{literalsAmong, bodyIn}
@@ -49,33 +49,33 @@ among-literal (Literal.literal false w) (Option.some m) = refl
 among-literal (Literal.literal true w) Option.none = refl
 among-literal (Literal.literal true w) (Option.some m) = refl
 
-body-read : (ls : List Literal) → areNamed ls ≡ true → bodyIn (spelledBody ls ++ (Token.closing ∷ [])) ≡ Option.some ls
-unfolding spelledBody areNamed itemsOf literalsOf
+body-read : (ls : List Literal) → areNamed ls ≡ true → bodyIn (bodyTokens ls ++ (Token.closing ∷ [])) ≡ Option.some ls
+unfolding bodyTokens areNamed itemsOf literalsOf
 body-read [] h = refl
 body-read (x ∷ ls) h =
     let k = and-true-both _ _ h in
-    let us = spelledBody ls ++ (Token.closing ∷ []) in
-    rw (append-assoc, spelled-read (ofLiteral x) us (k .0))
+    let us = bodyTokens ls ++ (Token.closing ∷ []) in
+    rw (append-assoc, tokensOf-read (ofLiteral x) us (k .0))
     (among-literal x (itemsOf us) ∙ ap (prepend x) (body-read ls (k .1)))
 
-never-read : (ls : List Literal) → isLine (Line.never ls) ≡ true → lineOf (spelledLine (Line.never ls)) ≡ Line.never ls
-unfolding isLine spelledLine lineOf kindOf sameBytes
+never-read : (ls : List Literal) → isLine (Line.never ls) ≡ true → lineOf (lineTokens (Line.never ls)) ≡ Line.never ls
+unfolding isLine lineTokens lineOf kindOf sameBytes
 never-read ls h =
     let k = and-true-both _ _ h in
-    let us = spelledBody ls ++ (Token.closing ∷ []) in
+    let us = bodyTokens ls ++ (Token.closing ∷ []) in
     never-is us ∙ ap (withBody Line.never) (body-read ls (k .0))
     ∙ filled-body Line.never ls (λ z. omega (arith, ltb-true 0 (length ls) (k .1)))
 
-seen-read : (x : Literal) → isLine (Line.seen x) ≡ true → lineOf (spelledLine (Line.seen x)) ≡ Line.seen x
-unfolding isLine spelledLine lineOf kindOf sameBytes itemsOf literalsOf
+seen-read : (x : Literal) → isLine (Line.seen x) ≡ true → lineOf (lineTokens (Line.seen x)) ≡ Line.seen x
+unfolding isLine lineTokens lineOf kindOf sameBytes itemsOf literalsOf
 seen-read x h =
-    let us = spelled (ofLiteral x) ++ (Token.closing ∷ []) in
-    let e = ap literalsAmong (spelled-read (ofLiteral x) (Token.closing ∷ []) h) in
+    let us = tokensOf (ofLiteral x) ++ (Token.closing ∷ []) in
+    let e = ap literalsAmong (tokensOf-read (ofLiteral x) (Token.closing ∷ []) h) in
     seen-is us ∙ ap (withOnly Line.seen) (e ∙ among-literal x (Option.some (Item.closing ∷ [])))
 
-query-read : (f : Sentence) → isLine (Line.query f) ≡ true → lineOf (spelledLine (Line.query f)) ≡ Line.query f
-unfolding isLine spelledLine lineOf kindOf sameBytes itemsOf
-query-read f h = ap (withItems 6) (spelled-read f (Token.closing ∷ []) h)
+query-read : (f : Sentence) → isLine (Line.query f) ≡ true → lineOf (lineTokens (Line.query f)) ≡ Line.query f
+unfolding isLine lineTokens lineOf kindOf sameBytes itemsOf
+query-read f h = ap (withItems 6) (tokensOf-read f (Token.closing ∷ []) h)
 
 -- what a clause that passes isLine is made of
 record ClauseParts (k : ℕ) (w : List ℕ) (ls : List Literal) : Type 0 where
@@ -91,14 +91,14 @@ clause-parts k w ls h =
     record { head = b .0; body = b .1; count = a .1 }
 
 clause-read : (k : ℕ) (w : List ℕ) (ls : List Literal) → ClauseParts k w ls
-    → lineOf (spelledLine (Line.clause k w ls)) ≡ Line.clause k w ls
-unfolding spelledLine spelledBody lineOf kindOf sameBytes itemsOf
+    → lineOf (lineTokens (Line.clause k w ls)) ≡ Line.clause k w ls
+unfolding lineTokens bodyTokens lineOf kindOf sameBytes itemsOf
 clause-read zero w [] p = rw (p .head)
 clause-read zero w (x ∷ ls) p = absurd (omega (arith, eqb-true (length (x ∷ ls)) 0 (p .count)))
 clause-read (suc zero) w [] p = rw (p .head)
 clause-read (suc zero) w (x ∷ ls) p = absurd (omega (arith, eqb-true (length (x ∷ ls)) 0 (p .count)))
 clause-read (suc (suc zero)) w ls p =
-    let us = spelledBody ls ++ (Token.closing ∷ []) in
+    let us = bodyTokens ls ++ (Token.closing ∷ []) in
     rule-is {us = us} refl (p .head) ∙ ap (withBody (Line.clause 2 w)) (body-read ls (p .body))
     ∙ filled-body (Line.clause 2 w) ls (λ z. omega (arith, ltb-true 0 (length ls) (p .count)))
 clause-read (suc (suc (suc k))) w ls p =
@@ -106,8 +106,8 @@ clause-read (suc (suc (suc k))) w ls p =
     let b = le-ltb (suc (suc (suc k))) 2 (omega arith) in
     absurd (true≢false (sym (rw (a, b) at (p .count))))
 
-pub line-read : (x : Line) → isLine x ≡ true → lineOf (spelledLine x) ≡ x
-unfolding isLine spelledLine lineOf
+pub line-read : (x : Line) → isLine x ≡ true → lineOf (lineTokens x) ≡ x
+unfolding isLine lineTokens lineOf
 line-read Line.skipped h = refl
 line-read Line.noForm h = absurd (true≢false (sym h))
 line-read (Line.clause k w ls) h = clause-read k w ls (clause-parts k w ls h)
@@ -119,11 +119,11 @@ line-read (Line.query f) h = query-read f h
 
 abbrev BodySpells : List Item → Option (List Literal) → Type 0
 BodySpells m Option.none = Unit {0}
-BodySpells m (Option.some ls) = (spelledItems m ≡ spelledBody ls ++ (Token.closing ∷ [])) × (areNamed ls ≡ true)
+BodySpells m (Option.some ls) = (spelledItems m ≡ bodyTokens ls ++ (Token.closing ∷ [])) × (areNamed ls ≡ true)
 
 sentence-spells : (f : Sentence) (m : List Item) (x : Option (List Literal)) → isSentence f ≡ true → BodySpells m x
     → BodySpells (Item.formula f ∷ m) (withSentence f x)
-unfolding spelledItems spelledBody areNamed
+unfolding spelledItems bodyTokens areNamed
 sentence-spells (Sentence.name w) m Option.none e h = tt
 sentence-spells (Sentence.name w) m (Option.some ls) e h = (rw (append-assoc, h .0), rw (e, h .1))
 sentence-spells (Sentence.negation (Sentence.name w)) m Option.none e h = tt
@@ -133,7 +133,7 @@ sentence-spells (Sentence.negation (Sentence.joined k f g)) m x e h = tt
 sentence-spells (Sentence.joined k f g) m x e h = tt
 
 body-spells : (m : List Item) → AreSentences m → BodySpells m (literalsOf m)
-unfolding literalsOf spelledItems spelledBody areNamed
+unfolding literalsOf spelledItems bodyTokens areNamed
 body-spells [] h = tt
 body-spells (Item.closing ∷ []) h = (refl, refl)
 body-spells (Item.closing ∷ (i ∷ m)) h = tt
@@ -143,7 +143,7 @@ filled : (x : Literal) (ls : List Literal) → ltb 0 (length (x ∷ ls)) ≡ tru
 filled x ls = lt-ltb 0 (length (x ∷ ls)) (omega arith)
 
 abbrev pub Right : List Token → Line → Type 0
-Right ts x = (x ≡ Line.noForm) ⊎ ((isLine x ≡ true) × (spelledLine x ≡ ts))
+Right ts x = (x ≡ Line.noForm) ⊎ ((isLine x ≡ true) × (lineTokens x ≡ ts))
 
 module _ (w : List ℕ) (ts : List Token) where
   -- the tokens of a line with the word w
@@ -153,7 +153,7 @@ module _ (w : List ℕ) (ts : List Token) where
   -- a clause without literals
   head-right : (k : ℕ) (f : Sentence) (m : List Item) → k < 2 → w ≡ getD lineWords k []
       → Spells ts (Option.some (Item.formula f ∷ m)) → Right opened (headOnly k f m)
-  unfolding spelledItems spelled spelledLine spelledBody isLine isSentence areNamed
+  unfolding spelledItems tokensOf lineTokens bodyTokens isLine isSentence areNamed
   head-right k f [] i e h = inl refl
   head-right k f (Item.formula g ∷ m) i e h = inl refl
   head-right k f (Item.closing ∷ (j ∷ m)) i e h = inl refl
@@ -165,21 +165,21 @@ module _ (w : List ℕ) (ts : List Token) where
   rule-right : (v : List ℕ) (m : List Item) (x : Option (List Literal)) → w ≡ getD lineWords 2 []
       → Spells ts (Option.some (Item.formula (Sentence.name v) ∷ m)) → BodySpells m x
       → Right opened (withBody (Line.clause 2 v) x)
-  unfolding spelledItems spelled spelledLine isLine isSentence
+  unfolding spelledItems tokensOf lineTokens isLine isSentence
   rule-right v m Option.none e h b = inl refl
   rule-right v m (Option.some []) e h b = inl refl
   rule-right v m (Option.some (x ∷ ls)) e h b = inr (rw (h .1 .0, b .1, filled x ls), rw (e, h .0, b .0))
 
   never-right : (m : List Item) (x : Option (List Literal)) → w ≡ getD lineWords 3 []
       → Spells ts (Option.some m) → BodySpells m x → Right opened (withBody Line.never x)
-  unfolding spelledLine isLine
+  unfolding lineTokens isLine
   never-right m Option.none e h b = inl refl
   never-right m (Option.some []) e h b = inl refl
   never-right m (Option.some (x ∷ ls)) e h b = inr (rw (b .1, filled x ls), rw (e, h .0, b .0))
 
   seen-right : (m : List Item) (x : Option (List Literal)) → w ≡ getD lineWords 4 []
       → Spells ts (Option.some m) → BodySpells m x → Right opened (withOnly Line.seen x)
-  unfolding spelledLine isLine areNamed spelledBody
+  unfolding lineTokens isLine areNamed bodyTokens
   seen-right m Option.none e h b = inl refl
   seen-right m (Option.some []) e h b = inl refl
   seen-right m (Option.some (x ∷ (y ∷ ls))) e h b = inl refl
@@ -187,7 +187,7 @@ module _ (w : List ℕ) (ts : List Token) where
       inr (and-true-both _ _ (b .1) .0, rw (e, h .0, b .0, append-nil))
 
   query-right : (m : List Item) → w ≡ getD lineWords 5 [] → Spells ts (Option.some m) → Right opened (ofKind 6 m)
-  unfolding spelledItems spelledLine isLine
+  unfolding spelledItems lineTokens isLine
   query-right [] e h = inl refl
   query-right (Item.closing ∷ m) e h = inl refl
   query-right (Item.formula f ∷ []) e h = inl refl
@@ -221,7 +221,7 @@ module _ (w : List ℕ) (ts : List Token) where
   items-right k (Option.some m) (inr r) h = kind-right k m (r .1) (r .2) h
 
 pub line-right : (ts : List Token) → Right ts (lineOf ts)
-unfolding lineOf isLine spelledLine
+unfolding lineOf isLine lineTokens
 line-right [] = inr (refl, refl)
 line-right (Token.closing ∷ ts) = inl refl
 line-right (Token.word w ∷ ts) = inl refl
@@ -243,7 +243,7 @@ form-true (Line.seen x) h = refl
 form-true (Line.query f) h = refl
 
 module _ (ts : List Token) (x : Line) where
-  right-spells : Right ts x → isLine x ≡ true → spelledLine x ≡ ts
+  right-spells : Right ts x → isLine x ≡ true → lineTokens x ≡ ts
   unfolding isLine
   right-spells (inl e) h = absurd (true≢false (sym (rw e at h)))
   right-spells (inr r) h = r .1
@@ -258,7 +258,7 @@ module _ (ts : List Token) (x : Line) where
   right-is (inr r) = rw (r .0) (form-true x (r .0))
 
 module _ (ts : List Token) where
-  pub line-spells : isLine (lineOf ts) ≡ true → spelledLine (lineOf ts) ≡ ts
+  pub line-spells : isLine (lineOf ts) ≡ true → lineTokens (lineOf ts) ≡ ts
   line-spells h = right-spells ts (lineOf ts) (line-right ts) h
 
   pub line-other : isLine (lineOf ts) ≡ false → lineOf ts ≡ Line.noForm

@@ -3,7 +3,7 @@
 --
 --   Literal         a name or its negation: L
 --   Line            what a line is: skipped, one of the six forms, or no form
---   spelledLine x   the tokens of the line x; a skipped one has none
+--   lineTokens x    the tokens of the line x; a skipped one has none
 --   isLine x        x is a skipped line or one of the forms, with names where names stand and literals where they must
 use mathlib.Core.Bool.{Bool, true, false, _&&_}
 use mathlib.Core.List.{List, [], _∷_, _++_}
@@ -12,7 +12,7 @@ use lib.Dec.{eqb, ltb}
 use lib.ListN.{length, getD}
 use Rattle.text.specs.Choice.{pick}
 use Rattle.text.specs.Tokens.{Token}
-use Rattle.formulas.specs.Sentence.{isName, Sentence, form, spelled, isSentence}
+use Rattle.formulas.specs.Sentence.{isName, Sentence, form, tokensOf, isSentence}
 
 -- the literal of the name w, negated where the test holds
 pub data Literal : Type 0 where
@@ -38,17 +38,17 @@ abbrev pub ofLiteral : Literal → Sentence
 ofLiteral (Literal.literal false w) = Sentence.name w
 ofLiteral (Literal.literal true w) = Sentence.negation (Sentence.name w)
 
-unfoldable pub spelledBody : List Literal → List Token
-spelledBody [] = []
-spelledBody (x ∷ l) = spelled (ofLiteral x) ++ spelledBody l
+unfoldable pub bodyTokens : List Literal → List Token
+bodyTokens [] = []
+bodyTokens (x ∷ l) = tokensOf (ofLiteral x) ++ bodyTokens l
 
-unfoldable pub spelledLine : Line → List Token
-spelledLine Line.skipped = []
-spelledLine Line.noForm = []
-spelledLine (Line.clause k w l) = form (getD lineWords k []) (Token.word w ∷ spelledBody l)
-spelledLine (Line.never l) = form (getD lineWords 3 []) (spelledBody l)
-spelledLine (Line.seen x) = form (getD lineWords 4 []) (spelled (ofLiteral x))
-spelledLine (Line.query f) = form (getD lineWords 5 []) (spelled f)
+unfoldable pub lineTokens : Line → List Token
+lineTokens Line.skipped = []
+lineTokens Line.noForm = []
+lineTokens (Line.clause k w l) = form (getD lineWords k []) (Token.word w ∷ bodyTokens l)
+lineTokens (Line.never l) = form (getD lineWords 3 []) (bodyTokens l)
+lineTokens (Line.seen x) = form (getD lineWords 4 []) (tokensOf (ofLiteral x))
+lineTokens (Line.query f) = form (getD lineWords 5 []) (tokensOf f)
 
 -- each literal is one of a name
 unfoldable pub areNamed : List Literal → Bool
