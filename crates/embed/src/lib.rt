@@ -2,6 +2,7 @@
 // writes the rest of its answer to lent words. A lent record or answer with too few words is refused with 1, and nothing
 // is touched.
 ghost use mathlib.Core.Path.{_≡_};
+ghost use mathlib.Core.List.{[], _∷_};
 ghost use Prim.Native.Nat.{_≤_};
 ghost use lib.ListN.{length};
 ghost use Rattle.question.specs.Walk.{verdictNumber};
@@ -50,6 +51,50 @@ fn put_words(answer: &mut [u64], words: &[u64])
     }
 }
 
+// Puts what reading answers to words: the line of a refusal, then the six words of the case record.
+fn put_found(answer: &mut [u64], a: reader::read::Answer)
+    requires { ⌜ 7 ≤ length (now answer) ⌝ }
+    ensures { λ _. ⌜ now (answer .exit) ≡ answered (a .line ∷ caseWords (a .found)) (now (answer .entry)) ⌝ }
+{
+    let c = a.found;
+    let words = [
+        a.line as u64,
+        c.atoms as u64,
+        c.clauses as u64,
+        c.constraints as u64,
+        c.nodes as u64,
+        c.plain,
+        c.negated,
+    ];
+    put_words(answer, &words);
+}
+
+// Puts what settling answers to words: the true atoms, the false atoms, the rounds.
+fn put_settled(answer: &mut [u64], a: settle::operation::Answer)
+    requires { ⌜ 3 ≤ length (now answer) ⌝ }
+    ensures { λ _. ⌜ now (answer .exit) ≡ answered (a .trues ∷ a .falses ∷ a .rounds ∷ []) (now (answer .entry)) ⌝ }
+{
+    let words = [a.trues, a.falses, a.rounds as u64];
+    put_words(answer, &words);
+}
+
+// Puts what the question answers to words: the verdict's number, the number of minimal explanations, how many are listed,
+// the rounds over all settings.
+fn put_asked(answer: &mut [u64], a: question::operation::Answer)
+    requires { ⌜ 4 ≤ length (now answer) ⌝ }
+    ensures { λ _. ⌜ now (answer .exit)
+        ≡ answered (verdictNumber (a .verdict) ∷ a .minimal ∷ a .written ∷ a .rounds ∷ []) (now (answer .entry)) ⌝ }
+{
+    let verdict = a.verdict;
+    let words = [
+        verdict_number(verdict),
+        a.minimal,
+        a.written as u64,
+        a.rounds,
+    ];
+    put_words(answer, &words);
+}
+
 // Reads a case file into four lent tables. Answer: the line of a refusal, then the six words of the case record.
 #[no_mangle]
 pub extern "C" fn causes_read(
@@ -69,17 +114,7 @@ pub extern "C" fn causes_read(
         return 1;
     }
     let a = reader::read::read(file, clauses, constraints, formula, names);
-    let c = a.found;
-    let words = [
-        a.line as u64,
-        c.atoms as u64,
-        c.clauses as u64,
-        c.constraints as u64,
-        c.nodes as u64,
-        c.plain,
-        c.negated,
-    ];
-    put_words(answer, &words);
+    put_found(answer, a);
     a.refusal
 }
 
@@ -104,8 +139,7 @@ pub extern "C" fn causes_settle(
     }
     let c = case_in(fields);
     let a = settle::operation::settle_one(c, clauses, constraints, formula, setting);
-    let words = [a.trues, a.falses, a.rounds as u64];
-    put_words(answer, &words);
+    put_settled(answer, a);
     a.refusal
 }
 
@@ -132,14 +166,7 @@ pub extern "C" fn causes_question(
     }
     let c = case_in(fields);
     let a = question::operation::ask(c, clauses, constraints, formula, list, work);
-    let verdict = a.verdict;
-    let words = [
-        verdict_number(verdict),
-        a.minimal,
-        a.written as u64,
-        a.rounds,
-    ];
-    put_words(answer, &words);
+    put_asked(answer, a);
     a.refusal
 }
 

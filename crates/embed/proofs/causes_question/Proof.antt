@@ -1,7 +1,7 @@
--- `embed::causes_question` meets its contract: the words are too few, or what `ask` answers is put to words.
+-- `embed::causes_question` meets its contract: words are too few, or what `ask` answers is put to words.
 -- Assumes nothing.
 use borrow.Author.Needs.{needs}
-use mathlib.Core.Path.{_≡_, refl, sym, _∙_}
+use mathlib.Core.Path.{_≡_, refl}
 use native.Mathlib.Omega.{arith}
 use Rattle.embed.specs.Operation.{QuestionOut}
 use Rattle.embed.proofs.causes_question.Statement.{statement}
@@ -19,14 +19,8 @@ case-in-requires c κs = search needs
 ask-requires : tie.Need-ask-requires
 ask-requires c κs = search needs
 
-verdict-number-requires : tie.Need-verdict-number-requires
-verdict-number-requires c κs = search needs
-
-slice-aggregate-put-words : tie.Need-slice-aggregate-put-words
-slice-aggregate-put-words c = search needs
-
-put-words-requires : tie.Need-put-words-requires
-put-words-requires c κs = search needs
+put-asked-requires : tie.Need-put-asked-requires
+put-asked-requires c κs = search needs
 
 same-length : tie.Need-same-length
 same-length c = search needs
@@ -39,9 +33,10 @@ same-length-3 c = search needs
 
 returns-3 : tie.Need-returns-3
 returns-3 c =
-    let told = rw (c .before .before .before .before .before .before .before .before .before .before .before .before .before .case-in .ensures) at (c .before .before .before .before .before .before .before .before .before .before .ask .ensures) in
-    let number = c .before .before .before .before .before .verdict-number .ensures in
-    QuestionOut.done (omega arith) (omega arith) _ told refl (rw number at (c .before .before .put-words .ensures))
+    let p = c .before .before in
+    let a = p .before .before .before .before .before .before in
+    let told = rw (a .before .before .before .case-in .ensures) at (a .ask .ensures) in
+    QuestionOut.done (omega arith) (omega arith) _ told refl (p .put-asked .ensures)
 
 pub causes-question-spec : {M : Type 1} → statement M
 causes-question-spec =
@@ -51,9 +46,7 @@ causes-question-spec =
     returns-2
     case-in-requires
     ask-requires
-    verdict-number-requires
-    slice-aggregate-put-words
-    put-words-requires
+    put-asked-requires
     same-length
     same-length-2
     same-length-3

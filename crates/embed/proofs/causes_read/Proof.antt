@@ -1,7 +1,7 @@
 -- `embed::causes_read` meets its contract: the words are too few, or what `read` answers is put to words.
 -- Assumes nothing.
 use borrow.Author.Needs.{needs}
-use mathlib.Core.Path.{_≡_, refl, sym, _∙_}
+use mathlib.Core.Path.{_≡_, refl}
 use native.Mathlib.Omega.{arith}
 use Rattle.embed.specs.Operation.{ReadOut}
 use Rattle.embed.proofs.causes_read.Statement.{statement}
@@ -13,14 +13,8 @@ returns c = ReadOut.short (omega arith) refl refl refl
 read-requires : tie.Need-read-requires
 read-requires c κs = search needs
 
-cast-t20 : tie.Need-cast-t20
-cast-t20 c = search needs
-
-slice-aggregate-put-words : tie.Need-slice-aggregate-put-words
-slice-aggregate-put-words c = search needs
-
-put-words-requires : tie.Need-put-words-requires
-put-words-requires c κs = search needs
+put-found-requires : tie.Need-put-found-requires
+put-found-requires c κs = search needs
 
 same-length : tie.Need-same-length
 same-length c = search needs
@@ -38,7 +32,10 @@ same-length-5 : tie.Need-same-length-5
 same-length-5 c = search needs
 
 returns-2 : tie.Need-returns-2
-returns-2 c = ReadOut.done (omega arith) _ (c .before .before .before .before .before .before .before .before .before .before .before .before .before .before .before .read .ensures) refl (c .before .before .put-words .ensures)
+returns-2 c =
+    let p = c .before .before in
+    let r = p .before .before .before .before .before .before .before .before .before .before in
+    ReadOut.done (omega arith) _ (r .read .ensures) refl (p .put-found .ensures)
 
 pub causes-read-spec : {M : Type 1} → statement M
 causes-read-spec =
@@ -46,9 +43,7 @@ causes-read-spec =
     (tie.spec
     returns
     read-requires
-    cast-t20
-    slice-aggregate-put-words
-    put-words-requires
+    put-found-requires
     same-length
     same-length-2
     same-length-3

@@ -1,7 +1,7 @@
--- `embed::causes_settle` meets its contract: the words are too few, or what `settle_one` answers is put to words.
+-- `embed::causes_settle` meets its contract: words are too few, or what `settle_one` answers is put to words.
 -- Assumes nothing.
 use borrow.Author.Needs.{needs}
-use mathlib.Core.Path.{_≡_, refl, sym, _∙_}
+use mathlib.Core.Path.{_≡_, refl}
 use native.Mathlib.Omega.{arith}
 use Rattle.embed.specs.Operation.{SettleOut}
 use Rattle.embed.proofs.causes_settle.Statement.{statement}
@@ -19,22 +19,18 @@ case-in-requires c κs = search needs
 settle-one-requires : tie.Need-settle-one-requires
 settle-one-requires c κs = search needs
 
-cast-t12 : tie.Need-cast-t12
-cast-t12 c = search needs
-
-slice-aggregate-put-words : tie.Need-slice-aggregate-put-words
-slice-aggregate-put-words c = search needs
-
-put-words-requires : tie.Need-put-words-requires
-put-words-requires c κs = search needs
+put-settled-requires : tie.Need-put-settled-requires
+put-settled-requires c κs = search needs
 
 same-length : tie.Need-same-length
 same-length c = search needs
 
 returns-3 : tie.Need-returns-3
 returns-3 c =
-    let told = rw (c .before .before .before .before .before .before .before .case-in .ensures) at (c .before .before .before .before .before .before .settle-one .ensures) in
-    SettleOut.done (omega arith) (omega arith) _ told refl (c .before .before .put-words .ensures)
+    let p = c .before .before in
+    let s = p .before .before in
+    let told = rw (s .before .case-in .ensures) at (s .settle-one .ensures) in
+    SettleOut.done (omega arith) (omega arith) _ told refl (p .put-settled .ensures)
 
 pub causes-settle-spec : {M : Type 1} → statement M
 causes-settle-spec =
@@ -44,8 +40,6 @@ causes-settle-spec =
     returns-2
     case-in-requires
     settle-one-requires
-    cast-t12
-    slice-aggregate-put-words
-    put-words-requires
+    put-settled-requires
     same-length
     returns-3)
