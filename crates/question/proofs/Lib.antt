@@ -1,7 +1,8 @@
 -- Judged: what a case that is prepared gives the functions that judge a setting.
 -- Subsets: subsets of a setting, proper ones, and some proper one that passes a test.
--- SubsetSearch: the search among the subsets of a setting finds one exactly where there is one.
--- SubsetSteps: the steps of the search, cause by cause, and its bounds.
+-- Covering: a proper subset explains exactly where a setting with one digit dropped is covered.
+-- Dropping: the settings with one digit dropped, by the weights of the causes.
+-- Weighing: the table of the weights, as a walk over the causes fills it.
 -- Verdicts: the verdict over minimal settings and one more.
 -- Bytes: the bytes of the settings below one.
 -- Lists: a slot of a list's free rest, lent and written.
@@ -16,8 +17,9 @@
 -- Theorems: a proof of each claim of specs/Claims.antt.
 pub mod Judged
 pub mod Subsets
-pub mod SubsetSearch
-pub mod SubsetSteps
+pub mod Covering
+pub mod Dropping
+pub mod Weighing
 pub mod Verdicts
 pub mod Bytes
 pub mod Lists

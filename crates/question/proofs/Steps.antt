@@ -6,15 +6,13 @@ use Prim.Native.Nat.{ℕ, _+_, _-_, _≤_, _<_, min}
 use native.Mathlib.Numerals.{add-one}
 use native.Mathlib.Omega.{arith}
 use lib.ListN.{length, take, drop, set, length-append, length-take, length-drop}
-use Rattle.program.specs.Setting.{product}
 use Rattle.question.specs.declared.verdict.Verdict.{Verdict}
 use Rattle.question.specs.declared.walk.Tally.{Tally}
 use Rattle.question.specs.Judge.{Judge}
-use Rattle.question.specs.Judging.{markedIn}
 use Rattle.question.specs.Subset.{someProper, minimal}
 use Rattle.question.specs.Walk.{mark, byteOf, bytesBelow, minimalsBelow, roundsBelow}
 use Rattle.question.specs.Walking.{joined, Walked}
-use Rattle.question.proofs.Bytes.{bytes-length, bytes-proper, bytes-more}
+use Rattle.question.proofs.Bytes.{bytes-length, bytes-more}
 use Rattle.question.proofs.Lists.{lent, back, lent-length, put-back, list-more}
 use Rattle.question.proofs.Verdicts.{verdict-more}
 
@@ -57,19 +55,15 @@ abbrev pub takenBy : Tally → ℕ → ℕ → Verdict → Tally
 takenBy t n k v = record { minimal = t .minimal + 1; written = t .written + k; rounds = t .rounds + n; verdict = v }
 
 module _ (J : Judge) (cs list₀ work₀ : List ℕ) (s : ℕ) (t : Tally) (list work : List ℕ)
-    (p : Walked J cs list₀ work₀ s t list work) (below : s < product cs) (within : s < length work) where
+    (p : Walked J cs list₀ work₀ s t list work) (within : s < length work) where
   work-more : (b : ℕ) → b ≡ byteOf J cs s → set work s b ≡ bytesBelow J cs (s + 1) ++ drop (s + 1) work₀
   work-more b e =
       ap (λ (l : List ℕ). set l s b) (p .work-is)
       ∙ bytes-more J cs s b work₀ (omega (arith, work-covers J cs list₀ work₀ s t list work p)) e
 
-  proper-is : someProper (markedIn work) cs s ≡ someProper (J .explains) cs s
-  proper-is =
-      ap (λ (l : List ℕ). someProper (markedIn l) cs s) (p .work-is) ∙ bytes-proper J cs s (drop s work₀) below
-
-  minimal-by : (e m : Bool) → J .explains s ≡ e → someProper (markedIn work) cs s ≡ m → minimal J cs s ≡ (e && not m)
+  minimal-by : (e m : Bool) → J .explains s ≡ e → someProper (J .explains) cs s ≡ m → minimal J cs s ≡ (e && not m)
   unfolding minimal
-  minimal-by e m f g = ap₂ (λ (a b : Bool). a && not b) f (sym proper-is ∙ g)
+  minimal-by e m f g = ap₂ (λ (a b : Bool). a && not b) f g
 
   byte-by : (e m : Bool) → J .explains s ≡ e → minimal J cs s ≡ m → mark e m ≡ byteOf J cs s
   unfolding byteOf
@@ -96,7 +90,7 @@ module _ (J : Judge) (cs list₀ work₀ : List ℕ) (s : ℕ) (t : Tally) (list
       let f : minimal J cs s ≡ false = ap (λ (a : Bool). a && not (someProper (J .explains) cs s)) e in
       passed 0 n (byte-by false false e f) f g
 
-  pub visit-larger : (n : ℕ) → J .explains s ≡ true → someProper (markedIn work) cs s ≡ true → n ≡ J .rounds s
+  pub visit-larger : (n : ℕ) → J .explains s ≡ true → someProper (J .explains) cs s ≡ true → n ≡ J .rounds s
       → Walked J cs list₀ work₀ (s + 1) (passedBy t n) list (set work s 1)
   visit-larger n e m g =
       let f = minimal-by true true e m in
@@ -119,7 +113,7 @@ module _ (J : Judge) (cs list₀ work₀ : List ℕ) (s : ℕ) (t : Tally) (list
         ∙ rw (minimals-more J cs s f)
 
   pub visit-minimal : (n k : ℕ) (v : Verdict) (ys : List ℕ) → J .explains s ≡ true
-      → someProper (markedIn work) cs s ≡ false → n ≡ J .rounds s → k ≡ min 1 (length (lent (t .written) list))
+      → someProper (J .explains) cs s ≡ false → n ≡ J .rounds s → k ≡ min 1 (length (lent (t .written) list))
       → ys ≡ set (lent (t .written) list) 0 s → v ≡ joined (t .verdict) (J .value s)
       → Walked J cs list₀ work₀ (s + 1) (takenBy t n k v) (back (t .written) list ys) (set work s 2)
   visit-minimal n k v ys e m g ek ey ev =

@@ -36,10 +36,9 @@ pub record Walked (J : Judge) (cs list₀ work₀ : List ℕ) (s : ℕ) (t : Tal
   pub rounds-are : t .rounds ≡ roundsBelow J s
   pub verdict-is : t .verdict ≡ verdictOf J (minimalsBelow J cs s)
 
-pub record Ready (n s : ℕ) (t : Tally) (list work : List ℕ) : Type 0 where
-  pub below : s < n
-  pub settings-few : n ≤ 59049
-  pub work-long : n ≤ length work
+pub record Ready (s : ℕ) (t : Tally) (list work : List ℕ) : Type 0 where
+  pub below : s < 59049
+  pub work-long : s < length work
   pub free : t .written ≤ length list
   pub few : t .minimal ≤ s
   pub listed-few : t .written ≤ s

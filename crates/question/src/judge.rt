@@ -6,11 +6,13 @@ ghost use lib.ListN.{length, take};
 ghost use Rattle.logic.specs.Formula.{valueOf};
 ghost use Rattle.logic.specs.Nodes.{oneFormula, formulaOf};
 ghost use Rattle.logic.specs.Interpretation.{valueAt, Disjoint};
+ghost use Rattle.touched.specs.Prepared as touched;
 ghost use Rattle.question.specs.Explanation.{noneBroken, explainsUnder};
-ghost use Rattle.question.specs.Judging.{Tabled, Judges};
+ghost use Rattle.question.specs.Judging.{Judges};
 use logic::interpretation::Interpretation;
 use logic::value::Value;
 use program::case::Case;
+use program::cause::Additions;
 use touched::opening::Opening;
 
 // Whether a setting explains, its settled interpretation and its rounds.
@@ -47,24 +49,21 @@ fn explains_under(i: Interpretation, c: Case, constraints: &[u64]) -> bool
     none_broken(i, constraints, c.constraints)
 }
 
-// Settles a setting and tells whether it explains the readings.
+// Settles with a setting's additions and tells whether the setting explains the readings.
 pub fn judge(
     c: Case,
     clauses: &[u64],
     constraints: &[u64],
-    formula: &[u8],
-    causes: u64,
     opening: Opening,
     dependents: &[u64; 64],
     last: &[usize; 64],
     prev: &[usize; 256],
-    setting: u64,
+    added: Additions,
 ) -> Judged
-    requires { ⌜ Tabled c (now clauses) (now constraints) (now formula) causes opening (now dependents) (now last)
-        (now prev) ⌝ }
-    ensures { λ r. ⌜ Judges c (now (clauses .entry)) (now (constraints .entry)) setting r ⌝ }
+    requires { ⌜ touched.Prepared (now clauses) (c .clauses) opening (now dependents) (now last) (now prev)
+        × (c .constraints ≤ 32) × (64 ≤ length (now constraints)) ⌝ }
+    ensures { λ r. ⌜ Judges c (now (clauses .entry)) (now (constraints .entry)) added r ⌝ }
 {
-    let added = program::cause::added(causes, setting);
     let s = touched::rounds::run(clauses, c.clauses, opening, dependents, last, prev, added);
     let i = s.interpretation;
     Judged {

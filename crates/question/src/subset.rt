@@ -1,57 +1,58 @@
-// The search among the subsets of a setting.
+// The search among the subsets of a setting, by a byte for each setting below it that says whether it is covered:
+// whether a subset of it, itself included, explains.
 ghost use mathlib.Core.Path.{_≡_};
-ghost use Prim.Native.Nat.{_≤_, _<_};
-ghost use lib.ListN.{length};
+ghost use mathlib.Core.Bool.{_&&_};
+ghost use Prim.Native.Nat.{ℕ, _-_, _*_, _≤_, _<_};
+ghost use lib.Count.{ones};
+ghost use lib.ListN.{length, getD};
+ghost use Rattle.words.specs.Below.{any};
+ghost use Rattle.words.specs.Bits.{has, BitOf};
 ghost use Rattle.program.specs.Cause.{atomsIn};
-ghost use Rattle.program.specs.Setting.{choicesFor, settingsOf};
-ghost use Rattle.question.specs.Judging.{markedIn, markedBelow, someSubset, Searched};
-ghost use Rattle.question.specs.Subset.{someProper};
+ghost use Rattle.program.specs.Setting.{choicesFor};
+ghost use Rattle.question.specs.Covering.{markedIn, someDropped, Weights, Decodes, Decoded};
+use program::cause::Additions;
 
-// Whether setting t is below `top` and explains: byte t of the work area isn't 0.
-fn is_marked(work: &[u8], t: u64, top: u64) -> bool
-    requires { ⌜ top ≤ length (now work) ⌝ }
-    ensures { λ r. ⌜ r ≡ markedBelow (now (work .entry)) top t ⌝ }
+// Fills the weights: for each cause what its digit counts in a setting, 1 for the first, 3 for the next, and so on.
+pub fn weigh(causes: u64, weights: &mut [usize; 64])
+    requires { ⌜ (ones causes ≤ 10) × (length (now weights) ≡ 64) ⌝ }
+    ensures { λ r. ⌜ Weights causes (now (weights .exit)) ⌝ }
 {
-    if t < top {
-        return work[t as usize] != 0;
+    let mut left = causes;
+    let mut weight: usize = 1;
+    while left != 0 {
+        let atom = words::lowest_bit(left);
+        weights[atom as usize] = weight;
+        weight = 3 * weight;
+        left = words::without_lowest(left);
+    }
+}
+
+// Whether the setting less some times the weight of one of the atoms of w is covered.
+fn some_without(covered: &[u8], weights: &[usize; 64], setting: usize, w: u64, times: usize) -> bool
+    requires { ⌜ (setting < length (now covered))
+        × ((a : ℕ) → BitOf w a → times * getD (now weights) a 0 ≤ setting) ⌝ }
+    ensures { λ r. ⌜ r ≡ any 64 (λ a. has w a
+        && markedIn (now (covered .entry)) (setting - times * getD (now (weights .entry)) a 0)) ⌝ }
+{
+    let mut left = w;
+    while left != 0 {
+        let atom = words::lowest_bit(left);
+        if covered[setting - times * weights[atom as usize]] != 0 {
+            return true;
+        }
+        left = words::without_lowest(left);
     }
     false
 }
 
-// Whether a setting below `top` explains that is `base` plus a subset of `rest`; the digits of `rest` belong to the
-// causes left, and its lowest counts `weight`. A digit is kept before it is dropped: large subsets come first.
-fn some_subset(work: &[u8], left: u64, weight: u64, base: u64, rest: u64, top: u64) -> bool
-    requires { ⌜ Searched (now work) weight base rest top ⌝ }
-    ensures { λ r. ⌜ r ≡ someSubset (markedBelow (now (work .entry)) top)
-        (choicesFor (atomsIn left)) weight base rest ⌝ }
+// Whether a setting is covered that lacks one digit of this one, which adds x.
+pub fn some_dropped(covered: &[u8], weights: &[usize; 64], setting: usize, x: Additions) -> bool
+    requires { ⌜ (setting < length (now covered)) × Decoded (now weights) setting x ⌝ }
+    ensures { λ r. ⌜ ((w : ℕ) → Weights w (now (weights .entry)) → Decodes w setting x
+        → r ≡ someDropped (markedIn (now (covered .entry))) (choicesFor (atomsIn w)) setting) ⌝ }
 {
-    if rest == 0 {
-        return is_marked(work, base, top);
+    if some_without(covered, weights, setting, x.facts, 1) {
+        return true;
     }
-    if left == 0 {
-        return is_marked(work, base, top);
-    }
-    let others = words::without(left, words::lowest_bit(left));
-    let digit = rest % 3;
-    if digit != 0 {
-        if some_subset(
-            work,
-            others,
-            weight * 3,
-            base + weight * digit,
-            rest / 3,
-            top,
-        ) {
-            return true;
-        }
-    }
-    some_subset(work, others, weight * 3, base, rest / 3, top)
-}
-
-// Whether a proper subset of a setting explains, by the bytes of the settings below it.
-pub fn some_proper(work: &[u8], causes: u64, setting: u64) -> bool
-    requires { ⌜ (setting ≤ length (now work)) × (setting < settingsOf causes) × (settingsOf causes ≤ 59049) ⌝ }
-    ensures { λ r. ⌜ r ≡ someProper (markedIn (now (work .entry))) (choicesFor (atomsIn causes)) setting ⌝ }
-{
-    some_subset(work, causes, 1, 0, setting, setting)
+    some_without(covered, weights, setting, x.assumptions, 2)
 }

@@ -3,15 +3,19 @@ ghost use mathlib.Core.Path.{_≡_};
 ghost use mathlib.Core.List.{List};
 ghost use Prim.Native.Nat.{ℕ, _+_, _≤_, _<_, min};
 ghost use lib.ListN.{length, set};
-ghost use Rattle.question.specs.Judging.{Prepared, Tabled};
-ghost use Rattle.question.specs.Judge.{judgeOf};
+ghost use Rattle.question.specs.Judge.{Judge, judgeOf};
+ghost use Rattle.question.specs.Subset.{someProper};
 ghost use Rattle.question.specs.Operation.{choicesIn, settingsIn};
+ghost use Rattle.question.specs.Judging.{Prepared, Tabled, Tells};
 ghost use Rattle.question.specs.Walking.{Walked, Ready};
+use crate::judge::Judged;
 use crate::judge::judge;
 use crate::judge::query_value;
-use crate::subset::some_proper;
+use crate::subset::some_dropped;
+use crate::subset::weigh;
 use crate::verdict::Verdict;
 use program::case::Case;
+use program::cause::Additions;
 use touched::opening::Opening;
 
 // What a walk has counted: minimal explanations, those written to the list, rounds, and the verdict over them.
@@ -34,49 +38,32 @@ fn put(rest: &mut [u16], setting: u16) -> usize
     0
 }
 
-// Visits one setting: settles it, marks it in the work area, and counts and lists it where it is minimal.
-fn visit(
+// Takes what is judged of a setting, and whether a proper subset of it explains, into the tally: marks the setting in the
+// work area, and counts and lists it where it is minimal.
+fn take(
     c: Case,
-    clauses: &[u64],
-    constraints: &[u64],
     formula: &[u8],
-    causes: u64,
-    opening: Opening,
-    dependents: &[u64; 64],
-    last: &[usize; 64],
-    prev: &[usize; 256],
+    j: Judged,
+    larger: bool,
     setting: usize,
     t: Tally,
     list: &mut [u16],
     work: &mut [u8],
 ) -> Tally
-    requires { ⌜ Tabled c (now clauses) (now constraints) (now formula) causes opening (now dependents) (now last)
-        (now prev) × Ready (settingsIn c (now clauses)) setting t (now list) (now work) ⌝ }
-    ensures { λ r. ⌜ ((list₀ work₀ : List ℕ)
-        → Walked (judgeOf c (now (clauses .entry)) (now (constraints .entry)) (now (formula .entry)))
-        (choicesIn c (now (clauses .entry))) list₀ work₀ setting t (now (list .entry)) (now (work .entry))
-        → Walked (judgeOf c (now (clauses .entry)) (now (constraints .entry)) (now (formula .entry)))
-        (choicesIn c (now (clauses .entry))) list₀ work₀ (setting + 1) r (now (list .exit)) (now (work .exit))) ⌝ }
+    requires { ⌜ (c .nodes ≤ 128) × (128 ≤ length (now formula)) × (j .rounds ≤ 64)
+        × Ready setting t (now list) (now work) ⌝ }
+    ensures { λ r. ⌜ ((J : Judge) (cs list₀ work₀ : List ℕ) → Tells J c (now (formula .entry)) setting j
+        → larger ≡ someProper (J .explains) cs setting
+        → Walked J cs list₀ work₀ setting t (now (list .entry)) (now (work .entry))
+        → Walked J cs list₀ work₀ (setting + 1) r (now (list .exit)) (now (work .exit))) ⌝ }
 {
-    let j = judge(
-        c,
-        clauses,
-        constraints,
-        formula,
-        causes,
-        opening,
-        dependents,
-        last,
-        prev,
-        setting as u64,
-    );
     let mut next = t;
     next.rounds = t.rounds + j.rounds as u64;
     if !j.explains {
         work[setting] = 0;
         return next;
     }
-    if some_proper(work, causes, setting as u64) {
+    if larger {
         work[setting] = 1;
         return next;
     }
@@ -104,12 +91,15 @@ fn visit_all(
     dependents: &[u64; 64],
     last: &[usize; 64],
     prev: &[usize; 256],
+    weights: &[usize; 64],
     end: usize,
     list: &mut [u16],
     work: &mut [u8],
+    covered: &mut [u8; 59049],
 ) -> Tally
     requires { ⌜ Tabled c (now clauses) (now constraints) (now formula) causes opening (now dependents) (now last)
-        (now prev) × (end ≡ settingsIn c (now clauses)) × (end ≤ 59049) × (end ≤ length (now work)) ⌝ }
+        (now prev) (now weights) × (end ≡ settingsIn c (now clauses)) × (end ≤ 59049) × (end ≤ length (now work))
+        × (length (now covered) ≡ 59049) ⌝ }
     ensures { λ r. ⌜ Walked (judgeOf c (now (clauses .entry)) (now (constraints .entry)) (now (formula .entry)))
         (choicesIn c (now (clauses .entry))) (now (list .entry)) (now (work .entry)) end r (now (list .exit))
         (now (work .exit)) ⌝ }
@@ -120,23 +110,26 @@ fn visit_all(
         rounds: 0,
         verdict: Verdict::Unexplained,
     };
+    let mut added = Additions {
+        facts: 0,
+        assumptions: 0,
+    };
     let mut s: usize = 0;
     while s < end {
-        t = visit(
+        let j = judge(
             c,
             clauses,
             constraints,
-            formula,
-            causes,
             opening,
             dependents,
             last,
             prev,
-            s,
-            t,
-            list,
-            work,
+            added,
         );
+        let larger = some_dropped(covered, weights, s, added);
+        t = take(c, formula, j, larger, s, t, list, work);
+        covered[s] = (j.explains | larger) as u8;
+        added = added.next(causes);
         s += 1;
     }
     t
@@ -163,6 +156,8 @@ pub fn walk(
     let mut dependents = [0u64; 64];
     let mut last = [0usize; 64];
     let mut prev = [0usize; 256];
+    let mut weights = [0usize; 64];
+    let mut covered = [0u8; 59049];
     let opening = touched::prepared::prepare(
         clauses,
         c.clauses,
@@ -171,6 +166,7 @@ pub fn walk(
         &mut last,
         &mut prev,
     );
+    weigh(causes, &mut weights);
     visit_all(
         c,
         clauses,
@@ -181,8 +177,10 @@ pub fn walk(
         &dependents,
         &last,
         &prev,
+        &weights,
         end,
         list,
         work,
+        &mut covered,
     )
 }

@@ -1,7 +1,8 @@
--- `walk` meets its contract: tables of zeros are blank, and what preparing them ensures is what the visits ask.
--- Assumes nothing.
+-- `walk` meets its contract: tables of zeros are blank, and what preparing them and weighing the causes ensures is what
+-- the visits ask. Assumes nothing.
 use lib.ListN.{getD-replicate}
 use borrow.Author.Needs.{needs}
+use Rattle.program.proofs.Soundness.{sound-few}
 use Rattle.question.proofs.Judged.{prepared-clauses}
 use Rattle.question.proofs.walk.walk.Statement.{statement}
 use Rattle.question.proofs.walk.walk.Tie as tie
@@ -22,11 +23,27 @@ prepare-requires c κs =
       },
     )
 
+weigh-requires : tie.Need-weigh-requires
+weigh-requires c κs =
+    let p = c .before .before .before .before .before .before .before .before .before .before .pre .0 in
+    (rw (p .causes-are) (sound-few _ _ _ _ (p .is-sound)), search needs)
+
 visit-all-requires : tie.Need-visit-all-requires
 visit-all-requires c κs =
-    let d = c .before .before .before .before .before in
-    let p = d .before .before .before .before .before .before .before .before .before .pre in
-    (record { is-sound = p .0 .is-sound; causes-are = p .0 .causes-are; tables = d .prepare .ensures }, p .1, p .2, p .3)
+    let w = c .before .before .before .before .before .before .before in
+    let d = w .before .before in
+    let p = d .before .before .before .before .before .before .before .before .before .pre in (
+      record {
+        is-sound = p .0 .is-sound;
+        causes-are = p .0 .causes-are;
+        tables = d .prepare .ensures;
+        weights-are = w .weigh .ensures;
+      },
+      p .1,
+      p .2,
+      p .3,
+      search needs,
+    )
 
 same-length : tie.Need-same-length
 same-length c = search needs
@@ -38,4 +55,6 @@ returns : tie.Need-returns
 returns c = search needs
 
 pub walk-spec : {M : Type 1} → statement M
-walk-spec = tie.close (tie.spec prepare-requires visit-all-requires same-length same-length-2 returns)
+walk-spec =
+    tie.close
+    (tie.spec prepare-requires weigh-requires visit-all-requires same-length same-length-2 returns)
