@@ -6,7 +6,7 @@ use mathlib.Core.List.{List, [], _∷_}
 use mathlib.Core.Option.{Option}
 use Prim.Native.Nat.{ℕ, _≤_}
 use lib.ListN.{length}
-use Rattle.text.specs.Choice.{pick}
+use Rattle.words.specs.Choice.{pick}
 use Rattle.text.specs.Bytes.{isWordByte, allOf}
 use Rattle.text.specs.Tokens.{Token, tokens}
 use Rattle.text.proofs.Words.{WordBytes, tokens-word-bytes}

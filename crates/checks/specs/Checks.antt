@@ -11,8 +11,8 @@ use mathlib.Core.List.{List, [], _∷_}
 use Prim.Native.Nat.{ℕ}
 use lib.Dec.{ltb}
 use lib.ListN.{length}
+use Rattle.words.specs.Choice.{pick}
 use Rattle.logic.specs.Formula.{Formula, depth}
-use Rattle.text.specs.Choice.{pick}
 use Rattle.text.specs.Bytes.{isAllowed, allOf}
 use Rattle.text.specs.Lines.{isComment}
 use Rattle.text.specs.Tokens.{Token, tokens}

@@ -10,7 +10,7 @@ use mathlib.Core.Logic.{_⊎_, inl, inr}
 use Prim.Native.Nat.{ℕ, zero, suc, _+_, _-_, _≤_, _<_}
 use native.Mathlib.Omega.{arith}
 use lib.ListN.{length, getD}
-use Rattle.text.specs.Choice.{pick}
+use Rattle.words.specs.Choice.{pick}
 use Rattle.text.specs.Bytes.{sameBytes}
 use Rattle.text.proofs.Same.{same-eq}
 use Rattle.formulas.specs.Sentence.{formWords}

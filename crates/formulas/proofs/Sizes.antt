@@ -7,7 +7,7 @@ use Prim.Native.Nat.{ℕ, suc, _+_, _-_, _*_, _≤_}
 use native.Mathlib.Omega.{arith}
 use lib.Dec.{eqb}
 use lib.ListN.{length, drop, length-drop}
-use Rattle.text.specs.Choice.{pick}
+use Rattle.words.specs.Choice.{pick}
 use Rattle.text.specs.Bytes.{isWordByte}
 use Rattle.text.specs.Tokens.{Token, ended, bracket, tokensFrom, tokens}
 use Rattle.formulas.specs.Parsing.{Items, withOne, withSecond, withTwo, sizeOf}

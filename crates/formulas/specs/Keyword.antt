@@ -6,7 +6,7 @@
 use mathlib.Core.Bool.{Bool, true, false}
 use mathlib.Core.List.{List, [], _∷_}
 use Prim.Native.Nat.{ℕ}
-use Rattle.text.specs.Choice.{pick}
+use Rattle.words.specs.Choice.{pick}
 use Rattle.text.specs.Bytes.{sameBytes}
 
 -- "not", "and", "or", "then", "same"

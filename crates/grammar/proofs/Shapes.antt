@@ -12,7 +12,7 @@ use mathlib.Core.Option.{Option}
 use Prim.Native.Nat.{ℕ, zero, suc, _*_, _≤_}
 use native.Mathlib.Omega.{arith}
 use lib.ListN.{length}
-use Rattle.text.specs.Choice.{pick}
+use Rattle.words.specs.Choice.{pick}
 use Rattle.text.specs.Tokens.{Token}
 use Rattle.formulas.specs.Parsing.{Items, sizeOf}
 use Rattle.formulas.specs.Keyword.{kindOf}

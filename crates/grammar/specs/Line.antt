@@ -10,7 +10,7 @@ use mathlib.Core.List.{List, [], _∷_, _++_}
 use Prim.Native.Nat.{ℕ}
 use lib.Dec.{eqb, ltb}
 use lib.ListN.{length, getD}
-use Rattle.text.specs.Choice.{pick}
+use Rattle.words.specs.Choice.{pick}
 use Rattle.text.specs.Tokens.{Token}
 use Rattle.formulas.specs.Sentence.{isName, Sentence, form, tokensOf, isSentence}
 

@@ -8,7 +8,7 @@ use mathlib.Core.Bool.{Bool, true, false}
 use mathlib.Core.List.{List, [], _∷_}
 use mathlib.Core.Option.{Option}
 use Prim.Native.Nat.{ℕ, zero, suc}
-use Rattle.text.specs.Choice.{pick}
+use Rattle.words.specs.Choice.{pick}
 use Rattle.text.specs.Tokens.{Token}
 use Rattle.formulas.specs.Sentence.{Sentence}
 use Rattle.formulas.specs.Items.{prepend, Item, withFirst, itemsOf}

@@ -9,6 +9,7 @@ use lib.Dec.{eqb, lit<}
 use lib.Bits.{bitAnd, bitOr, bitXor, and-lt, or-lt, xor-lt}
 use lib.Count.{ones}
 use borrow.Author.Tests.{eqb-true, eq-eqb, ne-eqb}
+use Rattle.words.specs.Choice.{pick}
 use Rattle.words.specs.Bits.{has, word}
 use Rattle.words.proofs.Tests.{lt-or-le, and-true-l, and-true-r, or-false-l, or-false-r}
 use Rattle.words.proofs.Bits.{has-zero, has-above, has-and, has-or, has-xor, differs, has-ext}
@@ -19,8 +20,7 @@ use Rattle.logic.specs.declared.value.Value.{Value}
 use Rattle.logic.specs.declared.value.Value.the-variants.{Unknown}
 use Rattle.logic.specs.declared.interpretation.Interpretation.{Interpretation}
 use Rattle.logic.specs.Value.{isTrue, isFalse}
-use Rattle.logic.specs.Interpretation.{nothing, among, valueAt, ofValues, pickValue, assigned}
-use Rattle.logic.specs.Interpretation.{decidedIn, Disjoint, sameIn}
+use Rattle.logic.specs.Interpretation.{nothing, among, valueAt, ofValues, assigned, decidedIn, Disjoint, sameIn}
 use Rattle.logic.specs.Order.{Contained}
 use Rattle.logic.proofs.Values.{by-tests, not-both, true-among, false-among}
 use Rattle.logic.proofs.Order.{leq-refl, leq-unknown}
@@ -106,27 +106,27 @@ nothing-good = record { trues-fit = lit< tt; falses-fit = lit< tt; disjoint = re
 
 -- ---- one atom assigned
 pub assigned-same : (v : ℕ → Value) (a : ℕ) (x : Value) → assigned v a x a ≡ x
-assigned-same v a x = ap (λ (t : Bool). pickValue t x (v a)) (eq-eqb a a refl)
+assigned-same v a x = ap (λ (t : Bool). pick t x (v a)) (eq-eqb a a refl)
 
 pub assigned-other : (v : ℕ → Value) (a : ℕ) (x : Value) (b : ℕ) → (b ≡ a → ⊥) → assigned v a x b ≡ v b
-assigned-other v a x b n = ap (λ (t : Bool). pickValue t x (v b)) (ne-eqb b a n)
+assigned-other v a x b n = ap (λ (t : Bool). pick t x (v b)) (ne-eqb b a n)
 
 -- an atom that is assigned the value it has
 pub assigned-kept : (v : ℕ → Value) (a : ℕ) (x : Value) → x ≡ v a → (b : ℕ) → assigned v a x b ≡ v b
 assigned-kept v a x e b = go (eqb b a) refl
   where
-    go : (t : Bool) → eqb b a ≡ t → pickValue t x (v b) ≡ v b
+    go : (t : Bool) → eqb b a ≡ t → pick t x (v b) ≡ v b
     go true p = e ∙ ap v (sym (eqb-true b a p))
     go false p = refl
 
 -- a word of the atoms whose value in v passes the test q, and the word of those that pass with x at atom a
 module _ (q : Value → Bool) (v : ℕ → Value) (w : ℕ) (a : ℕ) (x : Value)
     (fits : w < 2 ^ 64) (l : a < 64) (bits : (b : ℕ) → has w b ≡ q (v b)) where
-  or-pick : q x ≡ true → (t : Bool) (y : Value) → (q y || t) ≡ q (pickValue t x y)
+  or-pick : q x ≡ true → (t : Bool) (y : Value) → (q y || t) ≡ q (pick t x y)
   or-pick e true y = or-true (q y) ∙ sym e
   or-pick e false y = or-false (q y)
 
-  without-pick : q x ≡ false → (t : Bool) (y : Value) → (q y && not t) ≡ q (pickValue t x y)
+  without-pick : q x ≡ false → (t : Bool) (y : Value) → (q y && not t) ≡ q (pick t x y)
   without-pick e true y = and-false (q y) ∙ sym e
   without-pick e false y = and-true (q y)
 
@@ -147,7 +147,7 @@ module _ (q : Value → Bool) (v : ℕ → Value) (w : ℕ) (a : ℕ) (x : Value
   pub assigned-alike : q x ≡ q (v a) → w ≡ word 64 (λ b. q (assigned v a x b))
   assigned-alike e = is-word 64 w (λ b. q (assigned v a x b)) fits (λ b m. bits b ∙ alike b (eqb b a) refl)
     where
-      alike : (b : ℕ) (t : Bool) → eqb b a ≡ t → q (v b) ≡ q (pickValue t x (v b))
+      alike : (b : ℕ) (t : Bool) → eqb b a ≡ t → q (v b) ≡ q (pick t x (v b))
       alike b true p = ap (λ (y : ℕ). q (v y)) (eqb-true b a p) ∙ sym e
       alike b false p = refl
 

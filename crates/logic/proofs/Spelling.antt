@@ -7,11 +7,12 @@ use Prim.Native.Nat.{ℕ, zero, suc, _+_, _-_, _≤_, _<_, max}
 use native.Mathlib.Omega.{arith}
 use lib.Dec.{eqb, ltb, leb}
 use borrow.Author.Tests.{lt-ltb, le-ltb, ltb-true, ltb-false, ne-eqb, eqb-true, eqb-false, le-leb, lt-leb, leb-true}
+use Rattle.words.specs.Choice.{pick}
 use Rattle.words.proofs.Tests.{and-true-l, and-true-r}
 use Rattle.logic.specs.declared.value.Value.{Value}
 use Rattle.logic.specs.Value.{negated}
 use Rattle.logic.specs.Formula.{Formula, valueOf, depth, over}
-use Rattle.logic.specs.Nodes.{Spelling, spelled, withNode, withNot, withForm, joined, pick}
+use Rattle.logic.specs.Nodes.{Spelling, spelled, withNode, withNot, withForm, joined}
 use Rattle.logic.specs.Nodes.{single, oneFormula, firstOf, formulaOf}
 use Rattle.logic.specs.Evaluation.{ReadsValue, shallow, withFirst}
 

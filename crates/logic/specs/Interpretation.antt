@@ -14,6 +14,7 @@ use Prim.Native.Nat.{ℕ, _+_}
 use lib.Dec.{eqb}
 use lib.Bits.{bitAnd}
 use lib.Count.{ones}
+use Rattle.words.specs.Choice.{pick}
 use Rattle.words.specs.Bits.{has, word}
 use Rattle.logic.specs.declared.value.Value.{Value}
 use Rattle.logic.specs.declared.value.Value.the-variants.{False, Unknown, True}
@@ -35,12 +36,8 @@ valueAt i a = among (has (i .trues) a) (has (i .falses) a)
 abbrev pub ofValues : (ℕ → Value) → Interpretation
 ofValues v = record { trues = word 64 (λ a. isTrue (v a)); falses = word 64 (λ a. isFalse (v a)) }
 
-abbrev pub pickValue : Bool → Value → Value → Value
-pickValue true x y = x
-pickValue false x y = y
-
 abbrev pub assigned : (ℕ → Value) → ℕ → Value → ℕ → Value
-assigned v a x b = pickValue (eqb b a) x (v b)
+assigned v a x b = pick (eqb b a) x (v b)
 
 abbrev pub decidedIn : Interpretation → ℕ
 decidedIn i = ones (i .trues) + ones (i .falses)

@@ -5,10 +5,11 @@
 --   spelled ks         the formulas that the nodes ks are, one after the other, or that they are none
 --   oneFormula n ks    the nodes are exactly one formula of depth at most 16 over the atoms below n
 --   formulaOf ks       that formula
-use mathlib.Core.Bool.{Bool, true, false, _&&_}
+use mathlib.Core.Bool.{Bool, false, _&&_}
 use mathlib.Core.List.{List, [], _∷_, _++_}
 use Prim.Native.Nat.{ℕ, zero, suc, _-_}
 use lib.Dec.{eqb, ltb, leb}
+use Rattle.words.specs.Choice.{pick}
 use Rattle.logic.specs.Formula.{Formula, depth, over}
 
 -- the constants have no node
@@ -32,10 +33,6 @@ joined zero f g = Formula.conjunction f g
 joined (suc zero) f g = Formula.disjunction f g
 joined (suc (suc zero)) f g = Formula.implication f g
 joined (suc (suc (suc k))) f g = Formula.equivalence f g
-
-abbrev pub pick : Bool → Spelling → Spelling → Spelling
-pick true a b = a
-pick false a b = b
 
 -- "not" in front of formulas
 abbrev pub withNot : List Formula → Spelling

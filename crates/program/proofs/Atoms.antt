@@ -11,9 +11,10 @@ use lib.Count.{ones, ones-step, ones-le}
 use lib.ListN.{length, getD}
 use lib.Pow.{shr-shr}
 use borrow.Author.Tests.{eqb-true, eqb-false}
+use Rattle.words.specs.Choice.{consIf}
 use Rattle.words.specs.Bits.{odd, has, withoutBit, LowestOf}
 use Rattle.words.proofs.BitWalks.{without-here, without-other}
-use Rattle.program.specs.Cause.{consIf, atomsFrom, atomsIn}
+use Rattle.program.specs.Cause.{atomsFrom, atomsIn}
 
 -- ---- how many
 -- bit a in front: the count grows by it

@@ -7,12 +7,13 @@ use native.Mathlib.Omega.{arith}
 use lib.Bits.{bitOr}
 use lib.Dec.{eqb}
 use borrow.Author.Tests.{eqb-true, eqb-false, eq-eqb}
+use Rattle.words.specs.Choice.{pick}
 use Rattle.words.specs.Bits.{has, word, withBit, withoutBit, LowestOf}
 use Rattle.words.proofs.Bits.{has-zero, has-ext}
 use Rattle.words.proofs.Words.{word-lt, has-word, is-word, has-without-one, without-one-lt}
 use Rattle.words.proofs.BitWalks.{has-with, with-lt}
 use Rattle.program.specs.declared.cause.Additions.{Additions}
-use Rattle.program.specs.Setting.{pickDigit, digits, choicesFor, digitOf, additionsOf, withDigit}
+use Rattle.program.specs.Setting.{digits, choicesFor, digitOf, additionsOf, withDigit}
 use Rattle.program.proofs.Atoms.{atoms-zero}
 use Rattle.program.proofs.Settings.{digitFrom, digit-lowest, digit-passed, with-facts, with-assumptions}
 use Rattle.program.proofs.Settings.{hasDigit, gathered-start, gathered-next}
@@ -56,7 +57,7 @@ module _ (w a : ℕ) (h : LowestOf w a) (d : ℕ) (z : eqb 0 d ≡ false) where
   word-here s =
       has-word 64 (hasDigit w s d) a (h .bit .small)
       ∙ ap (λ (n : ℕ). eqb n d) (digit-lowest w a s a h
-      ∙ ap (λ (t : Bool). pickDigit t (s % 3) (digitFrom (withoutBit w a) 0 64 (s / 3) a)) (eq-eqb a a refl))
+      ∙ ap (λ (t : Bool). pick t (s % 3) (digitFrom (withoutBit w a) 0 64 (s / 3) a)) (eq-eqb a a refl))
 
   word-later : (t : ℕ) → has (digitWord (withoutBit w a) t d) a ≡ false
   word-later t =

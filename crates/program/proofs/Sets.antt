@@ -8,12 +8,13 @@ use Prim.Native.Nat.{ℕ, zero, suc, _+_, _*_, _/_, _%_, _^_, _≤_, _<_}
 use native.Mathlib.Omega.{arith}
 use lib.Dec.{eqb}
 use borrow.Author.Tests.{eqb-true, eqb-false}
+use Rattle.words.specs.Choice.{pick, consIf}
 use Rattle.words.specs.Bits.{has}
 use Rattle.words.proofs.Tests.{lt-or-le, gives-false}
 use Rattle.words.proofs.Words.{has-word, is-word}
 use Rattle.program.specs.declared.cause.Additions.{Additions}
-use Rattle.program.specs.Cause.{consIf, atomsFrom, atomsIn}
-use Rattle.program.specs.Setting.{choicesFor, product, pickDigit, digitOf, settingsOf, additionsOf}
+use Rattle.program.specs.Cause.{atomsFrom, atomsIn}
+use Rattle.program.specs.Setting.{choicesFor, product, digitOf, settingsOf, additionsOf}
 use Rattle.program.proofs.Settings.{digitFrom, digit-cause, digit-other, digit-none}
 
 -- ---- what a setting adds, it adds for causes
@@ -59,10 +60,10 @@ module _ (d : ℕ → ℕ) (small : (a : ℕ) → d a < 3) where
   number-other w a n e = ap (λ (t : Bool). numberOf (consIf t a (atomsFrom w (suc a) n)) d) e
 
   -- atom b gets digit r from the causes behind a, or that of a
-  pick-own : (a b r : ℕ) → ((b ≡ a → ⊥) → r ≡ d b) → pickDigit (eqb b a) (d a) r ≡ d b
+  pick-own : (a b r : ℕ) → ((b ≡ a → ⊥) → r ≡ d b) → pick (eqb b a) (d a) r ≡ d b
   pick-own a b r h = go (eqb b a) refl
     where
-      go : (t : Bool) → eqb b a ≡ t → pickDigit t (d a) r ≡ d b
+      go : (t : Bool) → eqb b a ≡ t → pick t (d a) r ≡ d b
       go true e = ap d (sym (eqb-true b a e))
       go false e = h (eqb-false b a e)
 
@@ -85,7 +86,7 @@ module _ (d : ℕ → ℕ) (small : (a : ℕ) → d a < 3) where
           let m : (r * 3 + d a) % 3 ≡ d a = omega (arith, small a) in
           let q : (r * 3 + d a) / 3 ≡ r = omega (arith, small a) in
           ap (λ (k : ℕ). digitFrom w a (suc n) k b) (number-cause w a n e) ∙ digit-cause w a n (r * 3 + d a) b e
-          ∙ ap₂ (λ (x y : ℕ). pickDigit (eqb b a) x (digitFrom w (suc a) n y b)) m q
+          ∙ ap₂ (λ (x y : ℕ). pick (eqb b a) x (digitFrom w (suc a) n y b)) m q
           ∙ pick-own a b (digitFrom w (suc a) n r b)
           (λ f. ih (λ l. below (omega (arith, f))) (λ l. above (omega arith)) none)
       go false e ih =
@@ -98,7 +99,7 @@ module _ (d : ℕ → ℕ) (small : (a : ℕ) → d a < 3) where
 
 -- ---- the digit of a cause that gets a fact (f), an assumption (u)
 digitBy : Bool → Bool → ℕ
-digitBy f u = pickDigit f 1 (pickDigit u 2 0)
+digitBy f u = pick f 1 (pick u 2 0)
 
 digit-small : (f u : Bool) → digitBy f u < 3
 unfolding digitBy

@@ -10,14 +10,14 @@ use lib.Dec.{eqb}
 use lib.ListN.{length}
 use lib.Pow.{pow-pos}
 use borrow.Author.Tests.{eqb-true, ne-eqb}
+use Rattle.words.specs.Choice.{pick, consIf}
 use Rattle.words.specs.Bits.{has, word, withBit, withoutBit, LowestOf}
 use Rattle.words.proofs.Bits.{has-zero, has-above}
 use Rattle.words.proofs.Words.{word-lt, has-word, is-word, lt-of-bits}
 use Rattle.words.proofs.BitWalks.{has-with, with-lt, without-here}
 use Rattle.program.specs.declared.cause.Additions.{Additions}
-use Rattle.program.specs.Cause.{consIf, atomsFrom, atomsIn}
-use Rattle.program.specs.Setting.{choicesFor, product, digits, pickDigit, digitOf}
-use Rattle.program.specs.Setting.{settingsOf, additionsOf, withDigit}
+use Rattle.program.specs.Cause.{atomsFrom, atomsIn}
+use Rattle.program.specs.Setting.{choicesFor, product, digits, digitOf, settingsOf, additionsOf, withDigit}
 use Rattle.program.proofs.Atoms.{atoms-zero, atoms-lowest}
 
 -- ---- how many settings
@@ -44,7 +44,7 @@ abbrev pub digitFrom : ℕ → ℕ → ℕ → ℕ → ℕ → ℕ
 digitFrom w a n s b = digitIn (atomsFrom w a n) s b
 
 pub digit-cause : (w a n s b : ℕ) → has w a ≡ true
-    → digitFrom w a (suc n) s b ≡ pickDigit (eqb b a) (s % 3) (digitFrom w (suc a) n (s / 3) b)
+    → digitFrom w a (suc n) s b ≡ pick (eqb b a) (s % 3) (digitFrom w (suc a) n (s / 3) b)
 unfolding atomsFrom choicesFor digits digitOf
 digit-cause w a n s b e = ap (λ (t : Bool). digitIn (consIf t a (atomsFrom w (suc a) n)) s b) e
 
@@ -61,7 +61,7 @@ digit-none w b (suc n) a s h = go (has w a) refl (λ t. digit-none w b n (suc a)
     go : (t : Bool) → has w a ≡ t → ((r : ℕ) → digitFrom w (suc a) n r b ≡ 0) → digitFrom w a (suc n) s b ≡ 0
     go true e ih =
         digit-cause w a n s b e
-        ∙ ap (λ (t : Bool). pickDigit t (s % 3) (digitFrom w (suc a) n (s / 3) b)) (ne-eqb b a (h a (le-refl a) e))
+        ∙ ap (λ (t : Bool). pick t (s % 3) (digitFrom w (suc a) n (s / 3) b)) (ne-eqb b a (h a (le-refl a) e))
         ∙ ih (s / 3)
     go false e ih = digit-other w a n s b e ∙ ih s
 
@@ -109,14 +109,14 @@ gathered-start w s d = record {
 
 -- the digit of atom b = a is taken out of the setting, and b is in no later one
 taken-out : (y t : Bool) (x r d : ℕ) → (t ≡ true → eqb r d ≡ false)
-    → ((y || (eqb x d && t)) || eqb r d) ≡ (y || eqb (pickDigit t x r) d)
+    → ((y || (eqb x d && t)) || eqb r d) ≡ (y || eqb (pick t x r) d)
 taken-out true t x r d h = refl
 taken-out false true x r d h = ap₂ _||_ (and-true (eqb x d)) (h refl) ∙ or-false (eqb x d)
 taken-out false false x r d h = ap (λ (t : Bool). t || eqb r d) (and-false (eqb x d))
 
 -- the digit of atom b, where a is the lowest cause
 pub digit-lowest : (w a s b : ℕ) → LowestOf w a
-    → digitFrom w 0 64 s b ≡ pickDigit (eqb b a) (s % 3) (digitFrom (withoutBit w a) 0 64 (s / 3) b)
+    → digitFrom w 0 64 s b ≡ pick (eqb b a) (s % 3) (digitFrom (withoutBit w a) 0 64 (s / 3) b)
 unfolding choicesFor digits digitOf
 digit-lowest w a s b h = ap (λ (l : List ℕ). digitIn l s b) (atoms-lowest w a h)
 

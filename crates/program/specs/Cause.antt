@@ -5,10 +5,11 @@
 --   causesAmong n heads   those of the n atoms that are no head, bit i for atom i
 --   causesOf c cl         the causes of a case
 --   atomsIn w             the atoms of a word, in rising order
-use mathlib.Core.Bool.{Bool, true, false, not, _&&_}
-use mathlib.Core.List.{List, [], _∷_}
+use mathlib.Core.Bool.{not, _&&_}
+use mathlib.Core.List.{List, []}
 use Prim.Native.Nat.{ℕ, zero, suc}
 use lib.Dec.{ltb}
+use Rattle.words.specs.Choice.{consIf}
 use Rattle.words.specs.Bits.{has, word}
 use Rattle.program.specs.declared.case.Case.{Case}
 use Rattle.program.specs.Program.{headsOf}
@@ -18,10 +19,6 @@ causesAmong n heads = word 64 (λ a. ltb a n && not (has heads a))
 
 unfoldable pub causesOf : Case → List ℕ → ℕ
 causesOf c cl = causesAmong (c .atoms) (headsOf cl (c .clauses))
-
-abbrev pub consIf : Bool → ℕ → List ℕ → List ℕ
-consIf true a l = a ∷ l
-consIf false a l = l
 
 -- the atoms of a word among the n from a on
 unfoldable pub atomsFrom : ℕ → ℕ → ℕ → List ℕ

@@ -7,11 +7,11 @@
 --   digitOf l ds a       the digit that belongs to the cause a, 0 where a is none
 --   settingsOf w         the number of settings of the causes w
 --   additionsOf w s      what setting s of the causes w adds: digit 0 nothing, 1 a fact, 2 an assumption
-use mathlib.Core.Bool.{Bool, true, false}
 use mathlib.Core.List.{List, [], _∷_}
 use Prim.Native.Nat.{ℕ, zero, suc, _*_, _/_, _%_, _^_}
 use lib.Bits.{bitOr}
 use lib.Dec.{eqb}
+use Rattle.words.specs.Choice.{pick}
 use Rattle.words.specs.Bits.{has, word}
 use Rattle.program.specs.declared.cause.Additions.{Additions}
 use Rattle.program.specs.Cause.{atomsIn}
@@ -28,14 +28,10 @@ unfoldable pub digits : List ℕ → ℕ → List ℕ
 digits [] s = []
 digits (c ∷ cs) s = s % c ∷ digits cs (s / c)
 
-abbrev pub pickDigit : Bool → ℕ → ℕ → ℕ
-pickDigit true d e = d
-pickDigit false d e = e
-
 unfoldable pub digitOf : List ℕ → List ℕ → ℕ → ℕ
 digitOf [] ds a = 0
 digitOf (b ∷ bs) [] a = 0
-digitOf (b ∷ bs) (d ∷ ds) a = let r = digitOf bs ds a in pickDigit (eqb a b) d r
+digitOf (b ∷ bs) (d ∷ ds) a = let r = digitOf bs ds a in pick (eqb a b) d r
 
 unfoldable pub settingsOf : ℕ → ℕ
 settingsOf w = product (choicesFor (atomsIn w))

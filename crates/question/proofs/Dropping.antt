@@ -11,15 +11,16 @@ use lib.Dec.{eqb}
 use lib.ListN.{getD}
 use lib.Pow.{pow-pos}
 use borrow.Author.Tests.{eqb-true}
-use Rattle.words.specs.Below.{any, orElse}
+use Rattle.words.specs.Choice.{pick, consIf}
+use Rattle.words.specs.Below.{any}
 use Rattle.words.specs.Bits.{has, word, withoutBit, BitOf}
 use Rattle.words.proofs.Below.{any-ext, any-or, any-at, all-false}
 use Rattle.words.proofs.Bits.{has-zero}
 use Rattle.words.proofs.Words.{has-word, is-word}
 use Rattle.words.proofs.BitWalks.{without-here, without-other, any-without}
 use Rattle.program.specs.declared.cause.Additions.{Additions}
-use Rattle.program.specs.Cause.{consIf, atomsFrom, atomsIn}
-use Rattle.program.specs.Setting.{choicesFor, digits, pickDigit, digitOf, additionsOf}
+use Rattle.program.specs.Cause.{atomsFrom, atomsIn}
+use Rattle.program.specs.Setting.{choicesFor, digits, digitOf, additionsOf}
 use Rattle.program.proofs.Settings.{digit-none}
 use Rattle.program.proofs.Sets.{additions-facts-of, additions-assumptions-of}
 use Rattle.touched.specs.Opening.{noAdditions}
@@ -72,7 +73,7 @@ digit-counts [] s b = omega arith
 digit-counts (a ∷ l) s b = go (eqb b a) (digit-counts l (s / 3) b)
   where
     go : (t : Bool) → digitIn l (s / 3) b * weightIn l b ≤ s / 3
-        → pickDigit t (s % 3) (digitIn l (s / 3) b) * orElse t 1 (3 * weightIn l b) ≤ s
+        → pick t (s % 3) (digitIn l (s / 3) b) * pick t 1 (3 * weightIn l b) ≤ s
     go true h = omega (arith, mul-one (s % 3))
     go false h = omega (arith, mul-left-comm (digitIn l (s / 3) b) 3 (weightIn l b))
 
@@ -82,7 +83,7 @@ unfolding choicesFor digits digitOf
 digit-start [] b = refl
 digit-start (a ∷ l) b = go (eqb b a) (digit-start l b)
   where
-    go : (t : Bool) → digitIn l 0 b ≡ 0 → pickDigit t 0 (digitIn l 0 b) ≡ 0
+    go : (t : Bool) → digitIn l 0 b ≡ 0 → pick t 0 (digitIn l 0 b) ≡ 0
     go true e = refl
     go false e = e
 
@@ -130,7 +131,7 @@ module _ (q : ℕ → Bool) (a : ℕ) (l : List ℕ) (s : ℕ) (small : a < 64) 
         rest = dropsAt (onRest q s) l (s / 3) d b
 
         go : (t : Bool) → eqb b a ≡ t
-            → (eqb (pickDigit t (s % 3) (digitIn l (s / 3) b)) d && q (s - d * orElse t 1 (3 * weightIn l b)))
+            → (eqb (pick t (s % 3) (digitIn l (s / 3) b)) d && q (s - d * pick t 1 (3 * weightIn l b)))
             ≡ (rest || (lowestIs d && t))
         go true e =
             sym (ap (λ (x : ℕ). (eqb x d && onRest q s (s / 3 - d * weightIn l b)) || (lowestIs d && true))

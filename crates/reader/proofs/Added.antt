@@ -8,9 +8,9 @@ use native.Mathlib.Omega.{arith}
 use lib.Dec.{leb}
 use lib.ListN.{length}
 use borrow.Author.Tests.{leb-false, ltb-false, not-false}
+use Rattle.words.specs.Choice.{pick}
 use Rattle.logic.specs.Formula.{Formula}
 use Rattle.program.specs.Sound.{bare, shaped, fewCauses}
-use Rattle.text.specs.Choice.{pick}
 use Rattle.text.specs.Lines.{lines, isComment}
 use Rattle.text.specs.Tokens.{tokens}
 use Rattle.formulas.specs.Sentence.{Sentence}

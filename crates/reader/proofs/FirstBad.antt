@@ -8,8 +8,8 @@ use native.Mathlib.Omega.{arith}
 use lib.Dec.{leb}
 use lib.ListN.{length, getD, take}
 use borrow.Author.Tests.{eq-eqb}
+use Rattle.words.specs.Choice.{pick}
 use Rattle.program.specs.Sound.{fewCauses}
-use Rattle.text.specs.Choice.{pick}
 use Rattle.store.specs.Saying.{Said}
 use Rattle.store.specs.Tables.{clauseWords}
 use Rattle.checks.specs.Checks.{lineRefusal, saidAfter}

@@ -6,9 +6,9 @@ use Prim.Native.Nat.{ℕ, zero, suc}
 use native.Mathlib.Omega.{arith}
 use lib.Dec.{leb}
 use lib.ListN.{length}
+use Rattle.words.specs.Choice.{pick}
 use Rattle.text.specs.Lines.{lines}
 use Rattle.program.specs.Sound.{fewCauses}
-use Rattle.text.specs.Choice.{pick}
 use Rattle.store.specs.Saying.{Said, nothingSaid}
 use Rattle.store.specs.Tables.{clauseWords}
 use Rattle.checks.specs.Checks.{lineRefusal, saidAfter}

@@ -3,17 +3,16 @@
 --
 --   tablesFit t           the four tables are as long as their sizes
 --   earlyRefusal f t      1 a lent table too short, 2 the file too long, 0 otherwise
---   unlessEarly n x y     x where there is no early refusal, otherwise y
 --   tableLeft ..          a table at exit: untouched by 1 and 2, otherwise filled in its first n entries
 --   ReadAs f t u r        the answer r and the tables u at exit, for the file f and the tables t at entry
 use mathlib.Core.Path.{_≡_}
-use mathlib.Core.Bool.{Bool, true, false, not, _&&_}
+use mathlib.Core.Bool.{Bool, not, _&&_}
 use mathlib.Core.List.{List}
-use Prim.Native.Nat.{ℕ, zero, suc}
+use Prim.Native.Nat.{ℕ}
 use lib.Dec.{leb, ltb}
 use lib.ListN.{length}
+use Rattle.words.specs.Choice.{pick, unlessRefused}
 use Rattle.program.specs.Case.{tablesFull}
-use Rattle.text.specs.Choice.{pick}
 use Rattle.table.specs.Filled.{filled}
 use Rattle.names.specs.Names.{rowsOf}
 use Rattle.store.specs.Lent.{Lent}
@@ -28,17 +27,13 @@ tablesFit t = tablesFull (t .clauses) (t .constraints) (t .formula) && leb 1024 
 unfoldable pub earlyRefusal : List ℕ → Lent → ℕ
 earlyRefusal f t = pick (not (tablesFit t)) 1 (pick (ltb 32768 (length f)) 2 0)
 
-abbrev pub unlessEarly : {A : Type 0} → ℕ → A → A → A
-unlessEarly zero x y = x
-unlessEarly (suc n) x y = y
-
 abbrev pub tableLeft : List ℕ → Lent → ℕ → List ℕ → List ℕ → List ℕ
-tableLeft f t n l old = unlessEarly (earlyRefusal f t) (filled n l old) old
+tableLeft f t n l old = unlessRefused (earlyRefusal f t) (filled n l old) old
 
 pub record ReadAs (f : List ℕ) (t u : Lent) (r : Answer) : Type 0 where
-  pub refusal-is : r .refusal ≡ unlessEarly (earlyRefusal f t) (refusalOf (readFile f)) (earlyRefusal f t)
-  pub line-is : r .line ≡ unlessEarly (earlyRefusal f t) (lineOfRefusal (readFile f)) 0
-  pub case-is : r .found ≡ caseSaid (unlessEarly (earlyRefusal f t) (saidIn (readFile f)) nothingSaid)
+  pub refusal-is : r .refusal ≡ unlessRefused (earlyRefusal f t) (refusalOf (readFile f)) (earlyRefusal f t)
+  pub line-is : r .line ≡ unlessRefused (earlyRefusal f t) (lineOfRefusal (readFile f)) 0
+  pub case-is : r .found ≡ caseSaid (unlessRefused (earlyRefusal f t) (saidIn (readFile f)) nothingSaid)
   pub clauses-are : u .clauses ≡ tableLeft f t 768 (clauseWords (saidIn (readFile f) .clauses)) (t .clauses)
   pub constraints-are : u .constraints
       ≡ tableLeft f t 64 (constraintWords (saidIn (readFile f) .constraints)) (t .constraints)

@@ -9,8 +9,8 @@ use mathlib.Core.List.{List, [], _∷_}
 use Prim.Native.Nat.{ℕ, zero, suc}
 use lib.Dec.{leb}
 use lib.ListN.{length}
+use Rattle.words.specs.Choice.{pick}
 use Rattle.program.specs.Sound.{fewCauses}
-use Rattle.text.specs.Choice.{pick}
 use Rattle.text.specs.Lines.{lines}
 use Rattle.store.specs.Saying.{Said, nothingSaid}
 use Rattle.store.specs.Tables.{clauseWords}

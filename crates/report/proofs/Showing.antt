@@ -9,9 +9,9 @@ use native.Mathlib.Nat.{zero-add}
 use native.Mathlib.Omega.{arith}
 use lib.ListN.{length, drop, length-append}
 use borrow.Author.Tests.{le-leb, lt-leb}
+use Rattle.words.specs.Choice.{unlessRefused}
 use Rattle.words.proofs.Tests.{lt-or-le}
 use Rattle.settle.specs.Operation.{unless}
-use Rattle.question.specs.Operation.{unlessRefused}
 use Rattle.output.specs.Writing.{Writes}
 use Rattle.output.proofs.Laying.{laid-all}
 use Rattle.report.specs.declared.operation.Answer.{Answer}

@@ -5,13 +5,12 @@
 --   Shown              the answer and the output at exit, for a text
 --   Reported           the same for the report of a file
 use mathlib.Core.Path.{_≡_}
-use mathlib.Core.Bool.{Bool, true, false}
 use mathlib.Core.List.{List, _++_}
-use Prim.Native.Nat.{ℕ, zero, suc}
+use Prim.Native.Nat.{ℕ}
 use lib.Dec.{leb}
 use lib.ListN.{length, drop}
+use Rattle.words.specs.Choice.{unlessRefused}
 use Rattle.settle.specs.Operation.{unless}
-use Rattle.question.specs.Operation.{unlessRefused}
 use Rattle.report.specs.declared.operation.Answer.{Answer}
 use Rattle.report.specs.Report.{reportText}
 

@@ -4,6 +4,7 @@ use mathlib.Core.Path.{_≡_, refl, sym, ap, ap₂, _∙_}
 use mathlib.Core.Bool.{Bool, _&&_, _||_}
 use mathlib.Core.List.{List}
 use Prim.Native.Nat.{ℕ, zero, suc, _<_}
+use Rattle.words.specs.Choice.{pick}
 use Rattle.words.specs.Below.{first}
 use Rattle.words.specs.Bits.{has}
 use Rattle.logic.specs.declared.value.Value.{Value}
@@ -11,7 +12,7 @@ use Rattle.logic.specs.declared.value.Value.the-variants.{False, True}
 use Rattle.logic.specs.declared.interpretation.Interpretation.{Interpretation}
 use Rattle.logic.specs.Value.{isTrue, isFalse, greater}
 use Rattle.logic.specs.Formula.{Formula, valueOf, anyOf}
-use Rattle.logic.specs.Interpretation.{among, valueAt, pickValue, sameIn}
+use Rattle.logic.specs.Interpretation.{among, valueAt, sameIn}
 use Rattle.logic.proofs.Interpretations.{values-ext}
 use Rattle.program.specs.declared.cause.Additions.{Additions}
 use Rattle.program.specs.Program.{Clause, clausesOf, addedBy, programWith}
@@ -71,7 +72,7 @@ module _ (cl : List ℕ) (n : ℕ) (x y : Additions)
   bodies-alike v a l =
       bodies-value-append v (clausesOf cl n) (addedBy x) a
       ∙ ap (greater (bodiesValue v (clausesOf cl n) a))
-      (bodies-value-added x a v l ∙ ap (λ (t : Bool). pickValue t True False) (facts a l)
+      (bodies-value-added x a v l ∙ ap (λ (t : Bool). pick t True False) (facts a l)
       ∙ sym (bodies-value-added y a v l))
       ∙ sym (bodies-value-append v (clausesOf cl n) (addedBy y) a)
 

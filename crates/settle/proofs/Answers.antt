@@ -5,6 +5,7 @@ use mathlib.Core.List.{List}
 use Prim.Native.Nat.{ℕ, suc, _≤_, _<_}
 use lib.Dec.{ltb}
 use borrow.Author.Tests.{lt-ltb, le-ltb}
+use Rattle.words.specs.Choice.{unlessRefused}
 use Rattle.program.specs.declared.case.Case.{Case}
 use Rattle.program.specs.Case.{tablesFull}
 use Rattle.program.specs.Cause.{causesOf}
@@ -13,7 +14,7 @@ use Rattle.program.specs.Sound.{sound}
 use Rattle.settle.specs.declared.operation.Answer.{Answer}
 use Rattle.settle.specs.declared.settle.Settled.{Settled}
 use Rattle.settle.specs.Rounds.{settled}
-use Rattle.settle.specs.Operation.{unless, settleRefusal, programOf, accepted, refusedWith, SettledOne}
+use Rattle.settle.specs.Operation.{unless, settleRefusal, programOf, refusedWith, SettledOne}
 
 module _ (c : Case) (cl co fo : List ℕ) (s : ℕ) where
   abbrev refusal : ℕ
@@ -48,10 +49,10 @@ module _ (c : Case) (cl co fo : List ℕ) (s : ℕ) where
   abbrev result : Settled
   result = settled (programOf c cl s)
 
-  none-accepted : (n x : ℕ) → refusal ≡ suc n → 0 ≡ accepted refusal x
+  none-accepted : (n x : ℕ) → refusal ≡ suc n → 0 ≡ unlessRefused refusal x 0
   none-accepted n x e = rw e
 
-  all-accepted : (x : ℕ) → refusal ≡ 0 → x ≡ accepted refusal x
+  all-accepted : (x : ℕ) → refusal ≡ 0 → x ≡ unlessRefused refusal x 0
   all-accepted x e = rw e
 
   pub answer-refused : (n : ℕ) (r : Answer) → refusal ≡ suc n → r ≡ refusedWith (suc n) → SettledOne c cl co fo s r

@@ -5,6 +5,7 @@ use mathlib.Core.Bool.{Bool, true, false, _&&_, _||_}
 use mathlib.Core.List.{List, [], _∷_, _++_}
 use Prim.Native.Nat.{ℕ, zero, suc, _<_}
 use lib.Dec.{eqb}
+use Rattle.words.specs.Choice.{pick, consIf}
 use Rattle.words.specs.Below.{any}
 use Rattle.words.specs.Bits.{has}
 use Rattle.words.proofs.Below.{any-is}
@@ -12,12 +13,11 @@ use Rattle.logic.specs.declared.value.Value.{Value}
 use Rattle.logic.specs.declared.value.Value.the-variants.{False, True}
 use Rattle.logic.specs.Value.{greater}
 use Rattle.logic.specs.Formula.{Formula, valueOf, anyOf}
-use Rattle.logic.specs.Interpretation.{pickValue}
 use Rattle.logic.proofs.Values.{greater-comm, greater-assoc, greater-false-r}
 use Rattle.program.specs.declared.cause.Additions.{Additions}
 use Rattle.program.specs.Case.{headAt}
 use Rattle.program.specs.Program.{Clause, clause, clauseAt, clausesOf, clauseIf, addedBelow, addedBy, headed}
-use Rattle.settle.specs.Step.{consIf, bodiesOf, hasSome}
+use Rattle.settle.specs.Step.{bodiesOf, hasSome}
 use Rattle.settle.proofs.Given.{bodies-append, some-append, any-append}
 
 -- some clause of p has the head a
@@ -46,11 +46,11 @@ defines-one c a = go (eqb a (c .head))
     go false = refl
 
 bodies-value-one : (v : ℕ → Value) (c : Clause) (a : ℕ)
-    → bodiesValue v (c ∷ []) a ≡ pickValue (eqb a (c .head)) (valueOf v (c .body)) False
+    → bodiesValue v (c ∷ []) a ≡ pick (eqb a (c .head)) (valueOf v (c .body)) False
 unfolding bodiesOf valueOf anyOf
 bodies-value-one v c a = go (eqb a (c .head))
   where
-    go : (t : Bool) → valueOf v (anyOf (consIf t (c .body) [])) ≡ pickValue t (valueOf v (c .body)) False
+    go : (t : Bool) → valueOf v (anyOf (consIf t (c .body) [])) ≡ pick t (valueOf v (c .body)) False
     go true = greater-false-r (valueOf v (c .body))
     go false = refl
 
@@ -66,7 +66,7 @@ defines-clauses cl (suc n) a =
 pub bodies-value-more : (v : ℕ → Value) (cl : List ℕ) (q : List Clause) (k a : ℕ)
     → bodiesValue v (clausesOf cl (suc k) ++ q) a
     ≡ greater (bodiesValue v (clausesOf cl k ++ q) a)
-    (pickValue (eqb a (headAt cl k)) (valueOf v (clauseAt cl k .body)) False)
+    (pick (eqb a (headAt cl k)) (valueOf v (clauseAt cl k .body)) False)
 unfolding clausesOf clauseAt
 bodies-value-more v cl q k a =
     let p = clausesOf cl k in
@@ -86,7 +86,7 @@ defines-if true b f a = defines-one (clause b f) a
 defines-if false b f a = refl
 
 bodies-value-if : (v : ℕ → Value) (t : Bool) (b : ℕ) (f : Formula) (a : ℕ)
-    → bodiesValue v (clauseIf t (clause b f)) a ≡ pickValue (t && eqb a b) (valueOf v f) False
+    → bodiesValue v (clauseIf t (clause b f)) a ≡ pick (t && eqb a b) (valueOf v f) False
 unfolding bodiesOf valueOf anyOf
 bodies-value-if v true b f a = bodies-value-one v (clause b f) a
 bodies-value-if v false b f a = refl
@@ -121,16 +121,16 @@ module _ (x : Additions) (a : ℕ) where
   pub defines-added : a < 64 → defines (addedBy x) a ≡ (has (x .facts) a || has (x .assumptions) a)
   defines-added l = defines-below 64 ∙ any-is 64 (λ b. has (x .facts) b || has (x .assumptions) b) a l
 
-  pick-or : (s t : Bool) → greater (pickValue s True False) (pickValue t True False) ≡ pickValue (s || t) True False
+  pick-or : (s t : Bool) → greater (pick s True False) (pick t True False) ≡ pick (s || t) True False
   pick-or true t = refl
   pick-or false t = refl
 
-  pick-false : (t : Bool) → pickValue t False False ≡ False
+  pick-false : (t : Bool) → pick t False False ≡ False
   pick-false true = refl
   pick-false false = refl
 
   bodies-value-at : (v : ℕ → Value) (b : ℕ)
-      → bodiesValue v (addedAt b) a ≡ pickValue (has (x .facts) b && eqb a b) True False
+      → bodiesValue v (addedAt b) a ≡ pick (has (x .facts) b && eqb a b) True False
   unfolding valueOf addedAt
   bodies-value-at v b =
       let s = has (x .facts) b in
@@ -138,10 +138,10 @@ module _ (x : Additions) (a : ℕ) where
       bodies-value-append v (clauseIf s (clause b Formula.truth)) (clauseIf t (clause b Formula.falsity)) a
       ∙ ap₂ greater (bodies-value-if v s b Formula.truth a)
       (bodies-value-if v t b Formula.falsity a ∙ pick-false (t && eqb a b))
-      ∙ greater-false-r (pickValue (s && eqb a b) True False)
+      ∙ greater-false-r (pick (s && eqb a b) True False)
 
   bodies-value-below : (v : ℕ → Value) (n : ℕ)
-      → bodiesValue v (addedBelow x n) a ≡ pickValue (any n (λ b. has (x .facts) b && eqb a b)) True False
+      → bodiesValue v (addedBelow x n) a ≡ pick (any n (λ b. has (x .facts) b && eqb a b)) True False
   unfolding addedBelow bodiesOf valueOf anyOf addedAt
   bodies-value-below v zero = refl
   bodies-value-below v (suc b) =
@@ -151,6 +151,6 @@ module _ (x : Additions) (a : ℕ) where
 
   -- the "or" of what a set adds for an atom is true where it adds a fact
   pub bodies-value-added : (v : ℕ → Value) → a < 64
-      → bodiesValue v (addedBy x) a ≡ pickValue (has (x .facts) a) True False
+      → bodiesValue v (addedBy x) a ≡ pick (has (x .facts) a) True False
   bodies-value-added v l =
-      bodies-value-below v 64 ∙ ap (λ (t : Bool). pickValue t True False) (any-is 64 (has (x .facts)) a l)
+      bodies-value-below v 64 ∙ ap (λ (t : Bool). pick t True False) (any-is 64 (has (x .facts)) a l)

@@ -5,6 +5,7 @@ use mathlib.Core.Bool.{Bool, true, false, _&&_, _||_, false≢true}
 use mathlib.Core.List.{List, [], _∷_, _++_}
 use Prim.Native.Nat.{ℕ}
 use lib.Dec.{eqb}
+use Rattle.words.specs.Choice.{consIf}
 use Rattle.logic.specs.declared.value.Value.{Value}
 use Rattle.logic.specs.declared.value.Value.the-variants.{Unknown}
 use Rattle.logic.specs.Value.{isTrue, isFalse, greater}
@@ -12,7 +13,7 @@ use Rattle.logic.specs.Formula.{Formula, valueOf, anyOf}
 use Rattle.logic.specs.Interpretation.{among}
 use Rattle.logic.proofs.Values.{by-tests, true-greater, false-greater, greater-assoc}
 use Rattle.program.specs.Program.{Clause}
-use Rattle.settle.specs.Step.{consIf, bodiesOf, someTrue, allFalse, hasSome, given}
+use Rattle.settle.specs.Step.{bodiesOf, someTrue, allFalse, hasSome, given}
 
 -- ---- lists of two parts
 cons-append : (t : Bool) (f : Formula) (fs gs : List Formula) → consIf t f (fs ++ gs) ≡ consIf t f fs ++ gs

@@ -7,6 +7,7 @@ use Prim.Native.Nat.{ℕ, zero, suc, _^_, _≤_, _<_}
 use native.Mathlib.Omega.{arith}
 use lib.Pow.{pow-pos}
 use borrow.Author.Tests.{ne-eqb}
+use Rattle.words.specs.Choice.{consIf}
 use Rattle.words.specs.Bits.{has, word}
 use Rattle.words.proofs.Tests.{lt-or-le}
 use Rattle.words.proofs.Bits.{has-above}
@@ -19,7 +20,7 @@ use Rattle.logic.specs.Interpretation.{valueAt}
 use Rattle.program.specs.declared.cause.Additions.{Additions}
 use Rattle.program.specs.Case.{headAt}
 use Rattle.program.specs.Program.{Clause, clause, clauseAt, programWith}
-use Rattle.settle.specs.Step.{consIf, bodiesOf, hasSome, nextValue, step}
+use Rattle.settle.specs.Step.{bodiesOf, hasSome, nextValue, step}
 use Rattle.settle.specs.Rounds.{rounds}
 use Rattle.settle.proofs.Given.{bodies-append, given-none}
 use Rattle.settle.proofs.Programs.{program-all}

@@ -11,6 +11,7 @@ use lib.Bits.{bitAnd, bitOr, and-le-l, and-lt, or-lt}
 use lib.Pow.{pow-pos}
 use lib.Dec.{eqb}
 use borrow.Author.Tests.{eqb-true, eq-eqb}
+use Rattle.words.specs.Choice.{pick}
 use Rattle.words.specs.Bits.{has, word}
 use Rattle.words.proofs.Below.{any-false}
 use Rattle.words.proofs.Bits.{has-zero, has-and, has-or, has-not, has-ext}
@@ -20,7 +21,7 @@ use Rattle.logic.specs.declared.value.Value.the-variants.{False, Unknown, True}
 use Rattle.logic.specs.declared.interpretation.Interpretation.{Interpretation}
 use Rattle.logic.specs.Value.{isTrue, isFalse, greater}
 use Rattle.logic.specs.Formula.{valueOf}
-use Rattle.logic.specs.Interpretation.{valueAt, ofValues, pickValue, assigned, Disjoint}
+use Rattle.logic.specs.Interpretation.{valueAt, ofValues, assigned, Disjoint}
 use Rattle.logic.proofs.Values.{greater-false-r}
 use Rattle.logic.proofs.Interpretations.{interpretation-eq, values-at, values-ext, values-good}
 use Rattle.program.specs.declared.cause.Additions.{Additions}
@@ -34,7 +35,7 @@ use Rattle.settle.proofs.Definitions.{bodies-value-more, bodies-value-a
 
 -- after k of n clauses, an atom that the whole program defines has the value of its bodies so far
 abbrev pub passed : (ℕ → Value) → List ℕ → ℕ → Additions → ℕ → ℕ → Value
-passed v cl n x k a = pickValue (defines (programWith cl n x) a) (bodiesValue v (programWith cl k x) a) Unknown
+passed v cl n x k a = pick (defines (programWith cl n x) a) (bodiesValue v (programWith cl k x) a) Unknown
 
 -- the interpretation in which every defined atom is false, and added facts are true
 abbrev pub start : ℕ → Additions → Interpretation
@@ -86,7 +87,7 @@ defines-with cl n x a l =
 -- ---- before the first clause
 -- the value at the start of an atom that is, or is not, a head, a fact, an assumption
 abbrev startValue : Bool → Bool → Bool → Value
-startValue h s t = pickValue (h || (s || t)) (pickValue s True False) Unknown
+startValue h s t = pick (h || (s || t)) (pick s True False) Unknown
 
 true-start : (h s t : Bool) → isTrue (startValue h s t) ≡ s
 true-start true true t = refl
@@ -108,7 +109,7 @@ module _ (v : ℕ → Value) (cl : List ℕ) (n : ℕ) (x : Additions) where
       → passed v cl n x 0 a ≡ startValue (headed cl n a) (has (x .facts) a) (has (x .assumptions) a)
   unfolding clausesOf
   passed-none a l =
-      ap₂ (λ (d : Bool) (w : Value). pickValue d w Unknown) (defines-with cl n x a l) (bodies-value-added x a v l)
+      ap₂ (λ (d : Bool) (w : Value). pick d w Unknown) (defines-with cl n x a l) (bodies-value-added x a v l)
 
   module _ (hf : x .facts < 2 ^ 64) (hs : x .assumptions < 2 ^ 64) where
     start-trues : x .facts ≡ word 64 (λ a. isTrue (passed v cl n x 0 a))
@@ -157,16 +158,16 @@ module _ (v : ℕ → Value) (cl : List ℕ) (n : ℕ) (x : Additions) where
 
     -- the value of an atom that is, or is not, defined, and the clause's head
     abbrev more : ℕ → Bool → Bool → Value
-    more a d t = pickValue d (greater (bodiesValue v (programWith cl k x) a) (pickValue t value False)) Unknown
+    more a d t = pick d (greater (bodiesValue v (programWith cl k x) a) (pick t value False)) Unknown
 
     passed-more : (a : ℕ) → passed v cl n x (suc k) a ≡ more a (defines (programWith cl n x) a) (eqb a head)
     passed-more a =
-        ap (λ (u : Value). pickValue (defines (programWith cl n x) a) u Unknown)
+        ap (λ (u : Value). pick (defines (programWith cl n x) a) u Unknown)
         (bodies-value-more v cl (addedBy x) k a)
 
     raised-head : greater (passed v cl n x k head) value ≡ passed v cl n x (suc k) head
     raised-head =
-        ap (λ (d : Bool). greater (pickValue d (bodiesValue v (programWith cl k x) head) Unknown) value)
+        ap (λ (d : Bool). greater (pick d (bodiesValue v (programWith cl k x) head) Unknown) value)
         (defines-head k l)
         ∙ sym (passed-more head ∙ ap₂ (more head) (defines-head k l) (eq-eqb head head refl))
 
@@ -175,7 +176,7 @@ module _ (v : ℕ → Value) (cl : List ℕ) (n : ℕ) (x : Additions) where
         sym
         (passed-more a
         ∙ ap (more a (defines (programWith cl n x) a)) e
-        ∙ ap (λ (u : Value). pickValue (defines (programWith cl n x) a) u Unknown)
+        ∙ ap (λ (u : Value). pick (defines (programWith cl n x) a) u Unknown)
         (greater-false-r (bodiesValue v (programWith cl k x) a)))
 
     raised-at : (a : ℕ)
@@ -183,14 +184,14 @@ module _ (v : ℕ → Value) (cl : List ℕ) (n : ℕ) (x : Additions) where
     raised-at a = go (eqb a head) refl
       where
         go : (t : Bool) → eqb a head ≡ t
-            → pickValue t (greater (passed v cl n x k head) value) (passed v cl n x k a) ≡ passed v cl n x (suc k) a
+            → pick t (greater (passed v cl n x k head) value) (passed v cl n x k a) ≡ passed v cl n x (suc k) a
         go true e = raised-head ∙ ap (passed v cl n x (suc k)) (sym (eqb-true a head e))
         go false e = raised-other a e
 
     raised-passed : raised (ofValues (passed v cl n x k)) head value ≡ ofValues (passed v cl n x (suc k))
     raised-passed =
         values-ext _ _
-        (λ a m. ap₂ (λ (u y : Value). pickValue (eqb a head) (greater u value) y)
+        (λ a m. ap₂ (λ (u y : Value). pick (eqb a head) (greater u value) y)
         (values-at (passed v cl n x k) head (head-lt cl k)) (values-at (passed v cl n x k) a m)
         ∙ raised-at a)
 
@@ -200,7 +201,7 @@ module _ (v : ℕ → Value) (cl : List ℕ) (n : ℕ) (x : Additions) where
   passed-all a = go (defines (programWith cl n x) a) refl
     where
       go : (t : Bool) → defines (programWith cl n x) a ≡ t
-          → pickValue t (bodiesValue v (programWith cl n x) a) Unknown ≡ given v (bodiesOf (programWith cl n x) a)
+          → pick t (bodiesValue v (programWith cl n x) a) Unknown ≡ given v (bodiesOf (programWith cl n x) a)
       go true e = sym (given-some v (bodiesOf (programWith cl n x) a) e)
       go false e = sym (given-none v (bodiesOf (programWith cl n x) a) e)
 

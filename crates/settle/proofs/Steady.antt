@@ -6,6 +6,7 @@ use mathlib.Core.List.{List, [], _∷_, _++_}
 use mathlib.Core.Logic.{⊎-elim}
 use Prim.Native.Nat.{ℕ, zero, suc, _≤_, _<_}
 use lib.Dec.{eqb}
+use Rattle.words.specs.Choice.{consIf}
 use Rattle.words.proofs.Tests.{lt-or-le, true-or-false}
 use Rattle.logic.specs.declared.value.Value.{Value}
 use Rattle.logic.specs.declared.interpretation.Interpretation.{Interpretation}
@@ -18,7 +19,7 @@ use Rattle.logic.proofs.Interpretations.{values-at, values-above}
 use Rattle.program.specs.declared.cause.Additions.{Additions}
 use Rattle.program.specs.Case.{kindAt, plainAt, negatedAt}
 use Rattle.program.specs.Program.{Clause, clause, byKind, clauseAt, programWith}
-use Rattle.settle.specs.Step.{consIf, bodiesOf, hasSome, nextValue, step}
+use Rattle.settle.specs.Step.{bodiesOf, hasSome, nextValue, step}
 use Rattle.settle.proofs.Given.{bodies-append, any-append, given-some, given-none}
 use Rattle.settle.proofs.Programs.{program-all}
 

@@ -6,10 +6,11 @@
 --   refusedWith n     the answer of the refusal n
 --   SettledOne        the answer, part by part
 use mathlib.Core.Path.{_≡_}
-use mathlib.Core.Bool.{Bool, true, false}
+use mathlib.Core.Bool.{Bool}
 use mathlib.Core.List.{List}
-use Prim.Native.Nat.{ℕ, zero, suc}
+use Prim.Native.Nat.{ℕ}
 use lib.Dec.{ltb}
+use Rattle.words.specs.Choice.{pick, unlessRefused}
 use Rattle.program.specs.declared.case.Case.{Case}
 use Rattle.program.specs.Case.{tablesFull}
 use Rattle.program.specs.Program.{Clause, programWith}
@@ -21,8 +22,7 @@ use Rattle.settle.specs.Rounds.{settled}
 
 -- x where the test holds, otherwise the number of a refusal
 abbrev pub unless : Bool → ℕ → ℕ → ℕ
-unless true n x = x
-unless false n x = n
+unless b n x = pick b x n
 
 unfoldable pub settleRefusal : Case → List ℕ → List ℕ → List ℕ → ℕ → ℕ
 settleRefusal c cl co fo s =
@@ -31,16 +31,13 @@ settleRefusal c cl co fo s =
 abbrev pub programOf : Case → List ℕ → ℕ → List Clause
 programOf c cl s = programWith cl (c .clauses) (additionsOf (causesOf c cl) s)
 
--- x where nothing is refused, otherwise 0
-abbrev pub accepted : ℕ → ℕ → ℕ
-accepted zero x = x
-accepted (suc n) x = 0
-
 abbrev pub refusedWith : ℕ → Answer
 refusedWith n = record { refusal = n; trues = 0; falses = 0; rounds = 0 }
 
 pub record SettledOne (c : Case) (cl co fo : List ℕ) (s : ℕ) (r : Answer) : Type 0 where
   pub refusal-is : r .refusal ≡ settleRefusal c cl co fo s
-  pub trues-are : r .trues ≡ accepted (settleRefusal c cl co fo s) (settled (programOf c cl s) .interpretation .trues)
-  pub falses-are : r .falses ≡ accepted (settleRefusal c cl co fo s) (settled (programOf c cl s) .interpretation .falses)
-  pub rounds-are : r .rounds ≡ accepted (settleRefusal c cl co fo s) (settled (programOf c cl s) .rounds)
+  pub trues-are : r .trues
+      ≡ unlessRefused (settleRefusal c cl co fo s) (settled (programOf c cl s) .interpretation .trues) 0
+  pub falses-are : r .falses
+      ≡ unlessRefused (settleRefusal c cl co fo s) (settled (programOf c cl s) .interpretation .falses) 0
+  pub rounds-are : r .rounds ≡ unlessRefused (settleRefusal c cl co fo s) (settled (programOf c cl s) .rounds) 0

@@ -10,16 +10,13 @@ use mathlib.Core.Bool.{Bool, true, false, _&&_, _||_}
 use mathlib.Core.List.{List, [], _∷_}
 use Prim.Native.Nat.{ℕ}
 use lib.Dec.{eqb}
+use Rattle.words.specs.Choice.{consIf}
 use Rattle.logic.specs.declared.value.Value.{Value}
 use Rattle.logic.specs.declared.interpretation.Interpretation.{Interpretation}
 use Rattle.logic.specs.Value.{isTrue, isFalse}
 use Rattle.logic.specs.Formula.{Formula, valueOf}
 use Rattle.logic.specs.Interpretation.{among, valueAt, ofValues}
 use Rattle.program.specs.Program.{Clause}
-
-abbrev pub consIf : Bool → Formula → List Formula → List Formula
-consIf true f fs = f ∷ fs
-consIf false f fs = fs
 
 unfoldable pub bodiesOf : List Clause → ℕ → List Formula
 bodiesOf [] a = []

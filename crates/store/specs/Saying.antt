@@ -11,10 +11,10 @@ use mathlib.Core.Bool.{Bool, true, false, not, _&&_, _||_}
 use mathlib.Core.List.{List, [], _∷_, _++_}
 use Prim.Native.Nat.{ℕ, zero, suc, _-_}
 use lib.Dec.{eqb}
+use Rattle.words.specs.Choice.{pick}
 use Rattle.words.specs.Bits.{has, word}
 use Rattle.logic.specs.Formula.{Formula}
 use Rattle.logic.specs.Nodes.{joined}
-use Rattle.text.specs.Choice.{pick}
 use Rattle.formulas.specs.Sentence.{Sentence}
 use Rattle.grammar.specs.Line.{Line, Literal}
 use Rattle.names.specs.Names.{atomOf}

@@ -12,8 +12,8 @@ use Prim.Native.Nat.{ℕ, _+_, _^_, _≤_, _<_}
 use lib.Bits.{bitOr}
 use lib.Dec.{eqb, ltb}
 use lib.ListN.{length, drop}
+use Rattle.words.specs.Choice.{pick}
 use Rattle.logic.specs.Nodes.{nodes}
-use Rattle.text.specs.Choice.{pick}
 use Rattle.text.specs.Tokens.{tokens}
 use Rattle.table.specs.Filled.{filled}
 use Rattle.formulas.specs.Sentence.{Sentence}

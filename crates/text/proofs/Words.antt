@@ -6,7 +6,7 @@ use Prim.Native.Nat.{ℕ, _<_}
 use native.Mathlib.Omega.{arith}
 use lib.Dec.{eqb}
 use lib.ListN.{length}
-use Rattle.text.specs.Choice.{pick}
+use Rattle.words.specs.Choice.{pick}
 use Rattle.text.specs.Bytes.{isWordByte, allOf}
 use Rattle.text.specs.Tokens.{Token, ended, bracket, tokensFrom, tokens}
 use Rattle.text.proofs.ByteLaws.{all-push}

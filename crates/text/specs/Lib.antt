@@ -1,10 +1,8 @@
 -- In reading order.
--- Choice: a choice by a test.
 -- Bytes: which bytes stand in words, and which a line may have.
 -- Lines: the lines of a file.
 -- Tokens: the words and brackets of a line.
 -- Scanning: what scanning from a place finds.
-pub mod Choice
 pub mod Bytes
 pub mod Lines
 pub mod Tokens

@@ -6,12 +6,11 @@ use Prim.Native.Nat.{ℕ, zero, suc, _≤_}
 use native.Mathlib.Omega.{arith}
 use lib.Dec.{eqb, leb}
 use borrow.Author.Tests.{eqb-true}
-use Rattle.words.specs.Below.{orElse}
+use Rattle.words.specs.Choice.{pick}
 use Rattle.words.proofs.Tests.{and-true-l}
 use Rattle.logic.specs.declared.value.Value.{Value}
 use Rattle.logic.specs.declared.value.Value.the-variants.{False, True}
 use Rattle.logic.specs.Value.{isTrue, greater}
-use Rattle.logic.specs.Interpretation.{pickValue}
 use Rattle.logic.proofs.Values.{is-true, greater-comm, greater-assoc, greater-false-r, greater-true-r}
 use Rattle.program.specs.Case.{headAt, kindAt}
 use Rattle.touched.specs.Chains.{ruleFor, lastOf, ruleValue, rulesValue}
@@ -25,7 +24,7 @@ module _ (cl : List ℕ) (a : ℕ) where
   last-rule (suc m) j e = go (last-rule m j) (ruleFor cl a m) refl e
     where
       go : (lastOf cl a m ≡ suc j → (ruleFor cl a j ≡ true) × (suc j ≤ m)) → (t : Bool) → ruleFor cl a m ≡ t
-          → orElse t (suc m) (lastOf cl a m) ≡ suc j → (ruleFor cl a j ≡ true) × (suc j ≤ suc m)
+          → pick t (suc m) (lastOf cl a m) ≡ suc j → (ruleFor cl a j ≡ true) × (suc j ≤ suc m)
       go ih true q h = let r : m ≡ j = omega arith in (ap (ruleFor cl a) (sym r) ∙ q, omega arith)
       go ih false q h = let r = ih h in (r .0, omega (arith, r .1))
 
@@ -43,9 +42,9 @@ module _ (cl : List ℕ) (a : ℕ) where
   rules-last v (suc m) = go (rules-last v m) (ruleFor cl a m) refl
     where
       go : rulesValue v cl a (lastOf cl a m) ≡ rulesValue v cl a m → (t : Bool) → ruleFor cl a m ≡ t
-          → rulesValue v cl a (orElse t (suc m) (lastOf cl a m))
-          ≡ greater (rulesValue v cl a m) (pickValue t (ruleValue v cl m) False)
-      go ih true e = ap (λ (t : Bool). greater (rulesValue v cl a m) (pickValue t (ruleValue v cl m) False)) e
+          → rulesValue v cl a (pick t (suc m) (lastOf cl a m))
+          ≡ greater (rulesValue v cl a m) (pick t (ruleValue v cl m) False)
+      go ih true e = ap (λ (t : Bool). greater (rulesValue v cl a m) (pick t (ruleValue v cl m) False)) e
       go ih false e = ih ∙ sym (greater-false-r (rulesValue v cl a m))
 
 -- ---- the walk
@@ -74,7 +73,7 @@ module _ (v : ℕ → Value) (cl : List ℕ) (a n : ℕ) where
       worth-at : greater best (greater (rulesValue v cl a j) (ruleValue v cl j)) ≡ rulesValue v cl a n
       unfolding rulesValue
       worth-at =
-          ap (λ (t : Bool). greater best (greater (rulesValue v cl a j) (pickValue t (ruleValue v cl j) False)))
+          ap (λ (t : Bool). greater best (greater (rulesValue v cl a j) (pick t (ruleValue v cl j) False)))
           (sym (w .rule j e))
           ∙ ap (λ (i : ℕ). greater best (rulesValue v cl a i)) (sym e) ∙ w .worth
 

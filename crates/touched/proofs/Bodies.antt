@@ -7,13 +7,13 @@ use Prim.Native.Nat.{ℕ, zero, suc, _<_}
 use native.Mathlib.Omega.{arith}
 use lib.Dec.{eqb, leb}
 use borrow.Author.Tests.{le-leb}
+use Rattle.words.specs.Choice.{pick}
 use Rattle.words.specs.Bits.{has}
 use Rattle.words.proofs.Tests.{or-false-l, or-false-r}
 use Rattle.logic.specs.declared.value.Value.{Value}
 use Rattle.logic.specs.declared.value.Value.the-variants.{False, Unknown, True}
 use Rattle.logic.specs.Value.{isTrue, greater}
 use Rattle.logic.specs.Formula.{Formula, valueOf, body}
-use Rattle.logic.specs.Interpretation.{pickValue}
 use Rattle.logic.proofs.Values.{true-greater}
 use Rattle.logic.proofs.Bodies.{body-same}
 use Rattle.program.specs.declared.cause.Additions.{Additions}
@@ -27,26 +27,26 @@ use Rattle.touched.specs.Chains.{ruleFor, ruleValue, rulesValue}
 
 -- ---- the next value by the "or" of the bodies
 pub next-value : (p : List Clause) (v : ℕ → Value) (a : ℕ)
-    → nextValue p v a ≡ pickValue (defines p a) (bodiesValue v p a) Unknown
+    → nextValue p v a ≡ pick (defines p a) (bodiesValue v p a) Unknown
 unfolding nextValue
 next-value p v a = go (defines p a) refl
   where
-    go : (t : Bool) → defines p a ≡ t → given v (bodiesOf p a) ≡ pickValue t (bodiesValue v p a) Unknown
+    go : (t : Bool) → defines p a ≡ t → given v (bodiesOf p a) ≡ pick t (bodiesValue v p a) Unknown
     go true e = given-some v (bodiesOf p a) e
     go false e = given-none v (bodiesOf p a) e
 
 pub next-defined : (p : List Clause) (v : ℕ → Value) (a : ℕ) → defines p a ≡ true
     → nextValue p v a ≡ bodiesValue v p a
-next-defined p v a e = next-value p v a ∙ ap (λ (t : Bool). pickValue t (bodiesValue v p a) Unknown) e
+next-defined p v a e = next-value p v a ∙ ap (λ (t : Bool). pick t (bodiesValue v p a) Unknown) e
 
 pub next-same : (p : List Clause) (v w : ℕ → Value) (a : ℕ) → bodiesValue v p a ≡ bodiesValue w p a
     → nextValue p v a ≡ nextValue p w a
 next-same p v w a e =
-    next-value p v a ∙ ap (λ (x : Value). pickValue (defines p a) x Unknown) e ∙ sym (next-value p w a)
+    next-value p v a ∙ ap (λ (x : Value). pick (defines p a) x Unknown) e ∙ sym (next-value p w a)
 
 -- what clause k gives the atom a
 abbrev clauseValue : (ℕ → Value) → List ℕ → ℕ → ℕ → Value
-clauseValue v cl a k = pickValue (eqb a (headAt cl k)) (valueOf v (clauseAt cl k .body)) False
+clauseValue v cl a k = pick (eqb a (headAt cl k)) (valueOf v (clauseAt cl k .body)) False
 
 -- ---- clauses that name no changed atom
 kind-same : (v w : ℕ → Value) (m : ℕ) (f : Formula) → valueOf v f ≡ valueOf w f
@@ -66,7 +66,7 @@ module _ (cl : List ℕ) (a : ℕ) (v w : ℕ → Value) where
   clause-same k e = go (eqb a (headAt cl k)) e
     where
       go : (t : Bool) → (t ≡ true → (i : ℕ) → i < 64 → names cl k i ≡ true → v i ≡ w i)
-          → pickValue t (valueOf v (clauseAt cl k .body)) False ≡ pickValue t (valueOf w (clauseAt cl k .body)) False
+          → pick t (valueOf v (clauseAt cl k .body)) False ≡ pick t (valueOf w (clauseAt cl k .body)) False
       go true h = kind-same v w (kindAt cl k) _ (body-same v w (plainAt cl k) (negatedAt cl k) (h refl))
       go false h = refl
 
@@ -82,22 +82,22 @@ module _ (cl : List ℕ) (a : ℕ) (v w : ℕ → Value) where
 -- ---- clauses of which none is a fact: under some w none is true
 module _ (cl : List ℕ) (a : ℕ) (v w : ℕ → Value) where
   clause-rule : (k : ℕ) → isTrue (clauseValue w cl a k) ≡ false
-      → clauseValue v cl a k ≡ pickValue (ruleFor cl a k) (ruleValue v cl k) False
+      → clauseValue v cl a k ≡ pick (ruleFor cl a k) (ruleValue v cl k) False
   unfolding clauseAt valueOf
   clause-rule k e = go (eqb a (headAt cl k)) (kindAt cl k) e
     where
       f : Formula
       f = body (plainAt cl k) (negatedAt cl k)
 
-      go : (t : Bool) (m : ℕ) → isTrue (pickValue t (valueOf w (byKind m f)) False) ≡ false
-          → pickValue t (valueOf v (byKind m f)) False ≡ pickValue (t && leb 2 m) (valueOf v f) False
+      go : (t : Bool) (m : ℕ) → isTrue (pick t (valueOf w (byKind m f)) False) ≡ false
+          → pick t (valueOf v (byKind m f)) False ≡ pick (t && leb 2 m) (valueOf v f) False
       go false m h = refl
       go true zero h = absurd (true≢false h)
       go true (suc zero) h = refl
       go true (suc (suc m)) h =
-          ap (λ (t : Bool). pickValue t (valueOf v f) False) (sym (le-leb 2 (suc (suc m)) (omega arith)))
+          ap (λ (t : Bool). pick t (valueOf v f) False) (sym (le-leb 2 (suc (suc m)) (omega arith)))
 
-  untrue-fact : (t : Bool) → isTrue (pickValue t True False) ≡ false → pickValue t True False ≡ False
+  untrue-fact : (t : Bool) → isTrue (pick t True False) ≡ false → pick t True False ≡ False
   untrue-fact true e = absurd (true≢false e)
   untrue-fact false e = refl
 

@@ -11,7 +11,8 @@ use lib.ListN.{length, getD, set, length-set}
 use lib.Pow.{pow-pos}
 use lib.Seq.{getD-set-same, getD-set-other}
 use borrow.Author.Tests.{eqb-true, eqb-false, eq-eqb, ne-eqb}
-use Rattle.words.specs.Below.{any, orElse}
+use Rattle.words.specs.Choice.{pick}
+use Rattle.words.specs.Below.{any}
 use Rattle.words.specs.Bits.{has, withBit, withoutBit, BitOf}
 use Rattle.words.proofs.Bits.{has-zero, has-or}
 use Rattle.words.proofs.Words.{word-lt, has-word, is-word}
@@ -115,19 +116,19 @@ dependents-next cl t u k d s i l =
 -- ---- the chains
 module _ (cl : List ℕ) (k : ℕ) where
   last-more : (a : ℕ) (t : Bool) → eqb a (headAt cl k) ≡ t
-      → orElse (t && leb 2 (kindAt cl k)) (suc k) (lastOf cl a k) ≡ lastOf cl a (k + 1)
+      → pick (t && leb 2 (kindAt cl k)) (suc k) (lastOf cl a k) ≡ lastOf cl a (k + 1)
   unfolding lastOf
   last-more a t e =
-      ap (λ (b : Bool). orElse (b && leb 2 (kindAt cl k)) (suc k) (lastOf cl a k)) (sym e)
+      ap (λ (b : Bool). pick (b && leb 2 (kindAt cl k)) (suc k) (lastOf cl a k)) (sym e)
       ∙ ap (lastOf cl a) (sym (add-one k))
 
   pub lasts-next : (last : List ℕ) (x : ℕ) → length last ≡ 64 → Lasts cl k last
-      → x ≡ orElse (leb 2 (kindAt cl k)) (k + 1) (getD last (headAt cl k) 0)
+      → x ≡ pick (leb 2 (kindAt cl k)) (k + 1) (getD last (headAt cl k) 0)
       → Lasts cl (k + 1) (set last (headAt cl k) x)
   lasts-next last x s g e a l =
       let h = headAt cl k in
       entry-set last h x (λ b. lastOf cl b (k + 1)) (omega (arith, head-lt cl k))
-      (e ∙ ap₂ (orElse (leb 2 (kindAt cl k))) (add-one k) (g h (head-lt cl k)) ∙ last-more h true (eq-eqb h h refl))
+      (e ∙ ap₂ (pick (leb 2 (kindAt cl k))) (add-one k) (g h (head-lt cl k)) ∙ last-more h true (eq-eqb h h refl))
       a (λ ne. g a l ∙ last-more a false (ne-eqb a h ne))
 
   pub linked-next : (prev : List ℕ) (x : ℕ) → k < length prev → Linked cl k prev → x ≡ lastOf cl (headAt cl k) k

@@ -5,6 +5,7 @@ use mathlib.Core.List.{List, [], _∷_}
 use Prim.Native.Nat.{ℕ, _-_, _^_, _<_}
 use native.Mathlib.Omega.{arith}
 use lib.Bits.{bitAnd, bitOr, and-lt, or-lt}
+use Rattle.words.specs.Choice.{pick}
 use Rattle.words.specs.Bits.{has, word}
 use Rattle.words.proofs.Tests.{Gives}
 use Rattle.words.proofs.Bits.{has-zero, has-and, has-or, has-not}
@@ -15,7 +16,7 @@ use Rattle.logic.specs.declared.value.Value.the-variants.{False, Unknown, True}
 use Rattle.logic.specs.declared.interpretation.Interpretation.{Interpretation}
 use Rattle.logic.specs.Value.{isTrue, isFalse, greater}
 use Rattle.logic.specs.Formula.{Formula, valueOf, anyOf}
-use Rattle.logic.specs.Interpretation.{nothing, valueAt, pickValue}
+use Rattle.logic.specs.Interpretation.{nothing, valueAt}
 use Rattle.logic.proofs.Values.{greater-true-r}
 use Rattle.logic.proofs.Interpretations.{interpretation-eq}
 use Rattle.program.specs.declared.cause.Additions.{Additions}
@@ -31,7 +32,7 @@ use Rattle.touched.proofs.Bodies.{next-value}
 
 -- ---- the first value of an atom that is, or is not, a head, a fact, an assumption, and whose clauses are worth b
 abbrev firstValue : Bool → Bool → Bool → Value → Value
-firstValue h f s b = pickValue (h || (f || s)) (greater b (pickValue f True False)) Unknown
+firstValue h f s b = pick (h || (f || s)) (greater b (pick f True False)) Unknown
 
 -- b is false where there is no clause
 true-first : (h f s : Bool) (b : Value) → (h ≡ false → b ≡ False)
@@ -73,7 +74,7 @@ module _ (cl : List ℕ) (n : ℕ) where
       ≡ firstValue (headed cl n a) (has (x .facts) a) (has (x .assumptions) a) (own a)
   first-value x a l =
       next-value (programWith cl n x) unknown a
-      ∙ ap₂ (λ (d : Bool) (b : Value). pickValue d b Unknown)
+      ∙ ap₂ (λ (d : Bool) (b : Value). pick d b Unknown)
       (defines-append (clausesOf cl n) (addedBy x) a ∙ ap₂ _||_ (defines-clauses cl n a) (defines-added x a l))
       (bodies-value-append unknown (clausesOf cl n) (addedBy x) a
       ∙ ap (greater (own a)) (bodies-value-added x a unknown l))

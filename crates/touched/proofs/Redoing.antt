@@ -7,6 +7,7 @@ use Prim.Native.Nat.{ℕ, _-_, _^_, _<_}
 use lib.Bits.{bitAnd, bitOr, or-lt}
 use lib.Dec.{eqb}
 use borrow.Author.Tests.{not-true}
+use Rattle.words.specs.Choice.{pick}
 use Rattle.words.specs.Bits.{has}
 use Rattle.words.proofs.Tests.{and-true-l, and-true-r, or-false-l, or-false-r, gives-false}
 use Rattle.words.proofs.Below.{any-gives, any-found, any-true, any-false}
@@ -14,7 +15,7 @@ use Rattle.words.proofs.Bits.{has-and, has-or, has-not}
 use Rattle.words.proofs.Counts.{Within}
 use Rattle.logic.specs.declared.interpretation.Interpretation.{Interpretation}
 use Rattle.logic.specs.Value.{isTrue, isFalse}
-use Rattle.logic.specs.Interpretation.{among, valueAt, pickValue}
+use Rattle.logic.specs.Interpretation.{among, valueAt}
 use Rattle.logic.specs.Order.{Contained}
 use Rattle.logic.proofs.Order.{leq-decided}
 use Rattle.logic.proofs.Interpretations.{Good, values-at, values-ext, decided-at, changed, unchanged-at}
@@ -120,7 +121,7 @@ module _ (cl : List ℕ) (n : ℕ) (x : Additions) (s t : Interpretation) (e : t
         (sym (decided-at t (t-good .disjoint) a) ∙ d))
 
     redone-at : (a : ℕ) → a < 64 → (b c : Bool) → has (touchedFrom cl n u) a ≡ b → has decided a ≡ c
-        → pickValue (b && not c) (rulesValue (valueAt t) cl a n) (valueAt t a) ≡ nextValue p (valueAt t) a
+        → pick (b && not c) (rulesValue (valueAt t) cl a n) (valueAt t a) ≡ nextValue p (valueAt t) a
     redone-at a l true false q d = undecided a l q d
     redone-at a l true true q d = stays a l d
     redone-at a l false c q d = untouched a l q
@@ -129,6 +130,6 @@ module _ (cl : List ℕ) (n : ℕ) (x : Additions) (s t : Interpretation) (e : t
     unfolding redone step
     redone-step =
         values-ext _ _
-        (λ a l. ap (λ (b : Bool). pickValue b (rulesValue (valueAt t) cl a n) (valueAt t a))
+        (λ a l. ap (λ (b : Bool). pick b (rulesValue (valueAt t) cl a n) (valueAt t a))
         (has-open t t-good (touchedFrom cl n u) a l)
         ∙ redone-at a l _ _ refl refl)

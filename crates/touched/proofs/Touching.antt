@@ -8,6 +8,7 @@ use lib.Bits.{bitOr, or-lt}
 use lib.Dec.{eqb, lit<}
 use lib.ListN.{getD}
 use borrow.Author.Tests.{eqb-true, eqb-false}
+use Rattle.words.specs.Choice.{pick}
 use Rattle.words.specs.Bits.{has, word, withoutBit, BitOf}
 use Rattle.words.specs.Below.{any}
 use Rattle.words.proofs.Below.{any-ext, any-or, all-false}
@@ -16,7 +17,7 @@ use Rattle.words.proofs.Words.{word-lt, has-word, is-word, word-ext}
 use Rattle.words.proofs.BitWalks.{without-here, without-other, any-without}
 use Rattle.logic.specs.declared.value.Value.{Value}
 use Rattle.logic.specs.declared.interpretation.Interpretation.{Interpretation}
-use Rattle.logic.specs.Interpretation.{valueAt, ofValues, pickValue, assigned}
+use Rattle.logic.specs.Interpretation.{valueAt, ofValues, assigned}
 use Rattle.logic.proofs.Interpretations.{Good, values-at, values-ext, values-good, of-values-at}
 use Rattle.logic.proofs.Interpretations.{assigned-same, assigned-other}
 use Rattle.touched.specs.Dependents.{dependentsOf, touchedFrom, Dependents, touchedBy}
@@ -102,7 +103,7 @@ module _ (t : List ℕ) (fresh : ℕ) where
 module _ (cl : List ℕ) (n : ℕ) (i : Interpretation) (d : ℕ) where
   -- the value of the atom a in j, or what its rules are worth where it is in the word w
   abbrev redoneIn : ℕ → Interpretation → ℕ → Value
-  redoneIn w j a = pickValue (has w a) (rulesValue (valueAt i) cl a n) (valueAt j a)
+  redoneIn w j a = pick (has w a) (rulesValue (valueAt i) cl a n) (valueAt j a)
 
   pub record Redoing (j : Interpretation) (left : ℕ) : Type 0 where
     pub good : Good j
@@ -133,15 +134,15 @@ module _ (cl : List ℕ) (n : ℕ) (i : Interpretation) (d : ℕ) where
 
       here : redoneIn (withoutBit left b) k b ≡ redoneIn left j b
       here =
-          ap (λ (t : Bool). pickValue t (rulesValue (valueAt i) cl b n) (valueAt k b)) (without-here left b q)
+          ap (λ (t : Bool). pick t (rulesValue (valueAt i) cl b n) (valueAt k b)) (without-here left b q)
           ∙ value-is b (q .small) ∙ assigned-same (valueAt j) b x ∙ e
-          ∙ ap (λ (t : Bool). pickValue t (rulesValue (valueAt i) cl b n) (valueAt j b)) (sym (q .there))
+          ∙ ap (λ (t : Bool). pick t (rulesValue (valueAt i) cl b n) (valueAt j b)) (sym (q .there))
 
       go : (a : ℕ) → a < 64 → (t : Bool) → eqb a b ≡ t → redoneIn (withoutBit left b) k a ≡ redoneIn left j a
       go a l true z = rw (eqb-true a b z) here
       go a l false z =
           let ne = eqb-false a b z in
-          ap₂ (λ (t : Bool) (y : Value). pickValue t (rulesValue (valueAt i) cl a n) y) (without-other left b q a l ne)
+          ap₂ (λ (t : Bool) (y : Value). pick t (rulesValue (valueAt i) cl a n) y) (without-other left b q a l ne)
           (value-is a l ∙ assigned-other (valueAt j) b x a ne)
 
   pub redoing-end : (j : Interpretation) (left : ℕ) → Redoing j left → left ≡ 0 → j ≡ redone cl n i d
@@ -149,6 +150,6 @@ module _ (cl : List ℕ) (n : ℕ) (i : Interpretation) (d : ℕ) where
   redoing-end j left r e =
       sym (of-values-at j (r .good))
       ∙ values-ext (valueAt j) (redoneIn d i)
-      (λ a l. ap (λ (t : Bool). pickValue t (rulesValue (valueAt i) cl a n) (valueAt j a))
+      (λ a l. ap (λ (t : Bool). pick t (rulesValue (valueAt i) cl a n) (valueAt j a))
       (sym (ap (λ (w : ℕ). has w a) e ∙ has-zero a))
       ∙ r .all a l)

@@ -12,12 +12,11 @@ use mathlib.Core.List.{List}
 use Prim.Native.Nat.{ℕ, zero, suc, _<_}
 use lib.Dec.{eqb, leb}
 use lib.ListN.{getD}
-use Rattle.words.specs.Below.{orElse}
+use Rattle.words.specs.Choice.{pick}
 use Rattle.logic.specs.declared.value.Value.{Value}
 use Rattle.logic.specs.declared.value.Value.the-variants.{False}
 use Rattle.logic.specs.Value.{greater}
 use Rattle.logic.specs.Formula.{valueOf, body}
-use Rattle.logic.specs.Interpretation.{pickValue}
 use Rattle.program.specs.Case.{headAt, kindAt, plainAt, negatedAt}
 
 abbrev pub ruleFor : List ℕ → ℕ → ℕ → Bool
@@ -25,7 +24,7 @@ ruleFor cl a k = eqb a (headAt cl k) && leb 2 (kindAt cl k)
 
 unfoldable pub lastOf : List ℕ → ℕ → ℕ → ℕ
 lastOf cl a zero = 0
-lastOf cl a (suc k) = orElse (ruleFor cl a k) (suc k) (lastOf cl a k)
+lastOf cl a (suc k) = pick (ruleFor cl a k) (suc k) (lastOf cl a k)
 
 abbrev pub Lasts : List ℕ → ℕ → List ℕ → Type 0
 Lasts cl n t = (a : ℕ) → a < 64 → getD t a 0 ≡ lastOf cl a n
@@ -38,4 +37,4 @@ ruleValue v cl k = valueOf v (body (plainAt cl k) (negatedAt cl k))
 
 unfoldable pub rulesValue : (ℕ → Value) → List ℕ → ℕ → ℕ → Value
 rulesValue v cl a zero = False
-rulesValue v cl a (suc k) = greater (rulesValue v cl a k) (pickValue (ruleFor cl a k) (ruleValue v cl k) False)
+rulesValue v cl a (suc k) = greater (rulesValue v cl a k) (pick (ruleFor cl a k) (ruleValue v cl k) False)

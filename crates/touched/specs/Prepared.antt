@@ -8,17 +8,18 @@ use mathlib.Core.Path.{_≡_}
 use mathlib.Core.List.{List}
 use Prim.Native.Nat.{ℕ, _*_, _≤_}
 use lib.ListN.{length}
+use Rattle.words.specs.Choice.{pick}
 use Rattle.words.specs.Bits.{has, BitOf}
 use Rattle.logic.specs.declared.value.Value.the-variants.{Unknown}
 use Rattle.logic.specs.declared.interpretation.Interpretation.{Interpretation}
-use Rattle.logic.specs.Interpretation.{valueAt, ofValues, pickValue}
+use Rattle.logic.specs.Interpretation.{valueAt, ofValues}
 use Rattle.touched.specs.declared.opening.Opening.{Opening}
 use Rattle.touched.specs.Opening.{openingOf}
 use Rattle.touched.specs.Dependents.{Dependents, Zeros}
 use Rattle.touched.specs.Chains.{rulesValue, Lasts, Linked}
 
 unfoldable pub redone : List ℕ → ℕ → Interpretation → ℕ → Interpretation
-redone cl n i d = ofValues (λ a. pickValue (has d a) (rulesValue (valueAt i) cl a n) (valueAt i a))
+redone cl n i d = ofValues (λ a. pick (has d a) (rulesValue (valueAt i) cl a n) (valueAt i a))
 
 abbrev pub Open : Interpretation → ℕ → Type 0
 Open i d = (a : ℕ) → BitOf d a → valueAt i a ≡ Unknown

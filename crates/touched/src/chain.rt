@@ -3,7 +3,7 @@ ghost use mathlib.Core.Path.{_≡_};
 ghost use Prim.Native.Nat.{_*_, _/_, _≤_, _<_};
 ghost use lib.Dec.{leb};
 ghost use lib.ListN.{length};
-ghost use Rattle.words.specs.Below.{orElse};
+ghost use Rattle.words.specs.Choice.{pick};
 ghost use Rattle.logic.specs.Interpretation.{valueAt, Disjoint};
 ghost use Rattle.touched.specs.Chains.{lastOf, rulesValue, Lasts, Linked};
 ghost use Rattle.touched.specs.Dependents.{Zeros};
@@ -12,7 +12,7 @@ use logic::value::Value;
 
 // The number k where a clause's first word is a rule's, otherwise the number before.
 fn newest(first: u64, k: usize, before: usize) -> usize
-    ensures { λ r. ⌜ r ≡ orElse (leb 2 (first / 64)) k before ⌝ }
+    ensures { λ r. ⌜ r ≡ pick (leb 2 (first / 64)) k before ⌝ }
 {
     if first / 64 < 2 {
         return before;

@@ -5,8 +5,9 @@ use mathlib.Core.Bool.{Bool, true, false}
 use mathlib.Core.List.{List, [], _++_}
 use Prim.Native.Nat.{ℕ, suc, _+_, _-_, _/_, _%_, _≤_, _<_}
 use native.Mathlib.Omega.{arith}
+use Rattle.words.specs.Choice.{consIf}
 use Rattle.words.specs.Bits.{has}
-use Rattle.program.specs.Cause.{consIf, atomsFrom, atomsIn}
+use Rattle.program.specs.Cause.{atomsFrom, atomsIn}
 use Rattle.program.specs.Setting.{choicesFor, digits}
 use Rattle.output.specs.Writing.{Writes, Room}
 use Rattle.wording.specs.Forms.{spaced}

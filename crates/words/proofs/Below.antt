@@ -8,7 +8,8 @@ use native.Mathlib.Numerals.{add-one}
 use native.Mathlib.Omega.{arith}
 use lib.Dec.{eqb}
 use borrow.Author.Tests.{eq-eqb, ne-eqb}
-use Rattle.words.specs.Below.{any, every, orElse, firstFrom}
+use Rattle.words.specs.Choice.{pick}
+use Rattle.words.specs.Below.{any, every, firstFrom}
 use Rattle.words.proofs.Tests.{Gives, or-gives, or-false-l, or-false-r, and-true-l, and-true-r, eqb-comm}
 
 -- ---- any
@@ -117,6 +118,6 @@ pub first-is : (n : ℕ) (p : ℕ → Bool) (k j : ℕ) → k ≤ j → j ≤ k 
 first-is zero p k j h l e f = omega arith
 first-is (suc n) p k j h l e f =
     ⊎-elim
-    (λ (q : k ≡ j). ap (λ (b : Bool). orElse b k (firstFrom n p (suc k))) (ap p q ∙ e) ∙ q)
-    (λ (q : k < j). ap (λ (b : Bool). orElse b k (firstFrom n p (suc k))) (f k q) ∙ first-is n p (suc k) j q (omega arith) e f)
+    (λ (q : k ≡ j). ap (λ (b : Bool). pick b k (firstFrom n p (suc k))) (ap p q ∙ e) ∙ q)
+    (λ (q : k < j). ap (λ (b : Bool). pick b k (firstFrom n p (suc k))) (f k q) ∙ first-is n p (suc k) j q (omega arith) e f)
     (eq-or-lt-of-le h)

@@ -5,6 +5,7 @@
 --   first n p     the least number below n that passes p, n where there is none
 use mathlib.Core.Bool.{Bool, true, false, _&&_, _||_}
 use Prim.Native.Nat.{ℕ, zero, suc}
+use Rattle.words.specs.Choice.{pick}
 
 abbrev pub any : ℕ → (ℕ → Bool) → Bool
 any zero p = false
@@ -14,14 +15,10 @@ abbrev pub every : ℕ → (ℕ → Bool) → Bool
 every zero p = true
 every (suc n) p = every n p && p n
 
-abbrev pub orElse : Bool → ℕ → ℕ → ℕ
-orElse true k r = k
-orElse false k r = r
-
 -- the least number that passes p among the n from k on, n + k where there is none
 abbrev pub firstFrom : ℕ → (ℕ → Bool) → ℕ → ℕ
 firstFrom zero p k = k
-firstFrom (suc n) p k = let r = firstFrom n p (suc k) in orElse (p k) k r
+firstFrom (suc n) p k = let r = firstFrom n p (suc k) in pick (p k) k r
 
 abbrev pub first : ℕ → (ℕ → Bool) → ℕ
 first n p = firstFrom n p 0

@@ -1,0 +1,20 @@
+-- Choices by a test, and by the number of a refusal, 0 where nothing is refused.
+--
+--   pick t x y             x where the test t holds, otherwise y
+--   consIf t x l           x in front of l where the test t holds, otherwise l
+--   unlessRefused n x y    x where the refusal n is 0, otherwise y
+use mathlib.Core.Bool.{Bool, true, false}
+use mathlib.Core.List.{List, _∷_}
+use Prim.Native.Nat.{ℕ, zero, suc}
+
+abbrev pub pick : {A : Type 0} → Bool → A → A → A
+pick true x y = x
+pick false x y = y
+
+abbrev pub consIf : {A : Type 0} → Bool → A → List A → List A
+consIf true x l = x ∷ l
+consIf false x l = l
+
+abbrev pub unlessRefused : {A : Type 0} → ℕ → A → A → A
+unlessRefused zero x y = x
+unlessRefused (suc n) x y = y
