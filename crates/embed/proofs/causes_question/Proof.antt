@@ -1,7 +1,7 @@
 -- `embed::causes_question` meets its contract: words are too few, or what `ask` answers is put to words.
 -- Assumes nothing.
 use borrow.Author.Needs.{needs}
-use mathlib.Core.Path.{_≡_, refl}
+use mathlib.Core.Path.{refl}
 use native.Mathlib.Omega.{arith}
 use Rattle.embed.specs.Operation.{QuestionOut}
 use Rattle.embed.proofs.causes_question.Statement.{statement}

@@ -1,7 +1,7 @@
 -- `embed::causes_read` meets its contract: the words are too few, or what `read` answers is put to words.
 -- Assumes nothing.
 use borrow.Author.Needs.{needs}
-use mathlib.Core.Path.{_≡_, refl}
+use mathlib.Core.Path.{refl}
 use native.Mathlib.Omega.{arith}
 use Rattle.embed.specs.Operation.{ReadOut}
 use Rattle.embed.proofs.causes_read.Statement.{statement}

@@ -1,7 +1,7 @@
 -- `embed::causes_settle` meets its contract: words are too few, or what `settle_one` answers is put to words.
 -- Assumes nothing.
 use borrow.Author.Needs.{needs}
-use mathlib.Core.Path.{_≡_, refl}
+use mathlib.Core.Path.{refl}
 use native.Mathlib.Omega.{arith}
 use Rattle.embed.specs.Operation.{SettleOut}
 use Rattle.embed.proofs.causes_settle.Statement.{statement}
