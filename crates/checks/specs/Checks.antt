@@ -6,7 +6,7 @@
 --   formRefusal st ts  the number of the first of the checks 5 to 10 that the tokens ts fail behind st, or 0
 --   lineRefusal st l   the number of the first check that the line l fails behind st, 0 where it passes all
 --   saidAfter st l     what was read with the line l, which passes its checks; a comment says nothing
-use mathlib.Core.Bool.{Bool, true, false, not, _||_}
+use mathlib.Core.Bool.{Bool, false, not, _||_}
 use mathlib.Core.List.{List, [], _∷_}
 use Prim.Native.Nat.{ℕ}
 use lib.Dec.{ltb}

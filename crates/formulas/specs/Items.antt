@@ -3,7 +3,6 @@
 --   Item            what tokens are read as: a formula, or the closing bracket of a form around it
 --   withForm k x    the form with node k in front of the items x
 --   itemsOf ts      the formulas and closing brackets that the tokens ts are, one after the other, or none
-use mathlib.Core.Bool.{Bool, true, false}
 use mathlib.Core.List.{List, [], _∷_}
 use mathlib.Core.Option.{Option}
 use Prim.Native.Nat.{ℕ}

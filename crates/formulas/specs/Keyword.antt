@@ -3,7 +3,6 @@
 --
 --   nodeOf w     the node of the form with the word w: 64 not, 65 and, 66 or, 67 then, 68 same; 0 for any other word
 --   kindOf w     the kind of the line with the word w: 1 true, 2 false, 3 if, 4 never, 5 seen, 6 query; 0 for any other
-use mathlib.Core.Bool.{Bool, true, false}
 use mathlib.Core.List.{List, [], _∷_}
 use Prim.Native.Nat.{ℕ}
 use Rattle.words.specs.Choice.{pick}

@@ -6,7 +6,7 @@
 --   form w ts       the form with the word w and with the tokens ts behind it
 --   tokensOf f      the tokens of the formula f
 --   isSentence f    the names of f are names, and its nodes are those of the words
-use mathlib.Core.Bool.{Bool, true, false, _&&_}
+use mathlib.Core.Bool.{Bool, false, _&&_}
 use mathlib.Core.List.{List, [], _∷_, _++_}
 use Prim.Native.Nat.{ℕ, _-_}
 use lib.Dec.{leb}

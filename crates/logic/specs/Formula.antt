@@ -13,7 +13,7 @@ use Prim.Native.Nat.{ℕ, zero, suc, _+_, max}
 use lib.Dec.{ltb}
 use Rattle.words.specs.Bits.{has}
 use Rattle.logic.specs.declared.value.Value.{Value}
-use Rattle.logic.specs.declared.value.Value.the-variants.{False, Unknown, True}
+use Rattle.logic.specs.declared.value.Value.the-variants.{False, True}
 use Rattle.logic.specs.Value.{negated, lesser, greater, implies, equivalent}
 
 -- the constants, truth and falsity, are the bodies of facts and of assumptions; no query holds one

@@ -9,9 +9,9 @@
 --   soundConstraint       a constraint's two words, over n atoms
 --   fewCauses             at most 10 causes
 --   sound c cl co fo      the case c with the tables cl, co, fo is sound
-use mathlib.Core.Bool.{Bool, true, false, not, _&&_}
+use mathlib.Core.Bool.{Bool, false, not, _&&_}
 use mathlib.Core.List.{List}
-use Prim.Native.Nat.{ℕ, zero, suc, _+_, _*_, _/_, _%_, _^_}
+use Prim.Native.Nat.{ℕ, zero, suc, _*_, _/_, _%_, _^_}
 use lib.Count.{ones}
 use lib.Dec.{eqb, ltb, leb}
 use lib.ListN.{getD, take}

@@ -1,8 +1,7 @@
 // The soundness of a case: every phrase of document 01, "Case tables and sound cases".
 ghost use mathlib.Core.Path.{_≡_};
-ghost use mathlib.Core.Bool.{Bool, true, false, not, _&&_};
+ghost use mathlib.Core.Bool.{true, false};
 ghost use Prim.Native.Nat.{_+_, _*_, _^_, _≤_, _<_};
-ghost use lib.Dec.{eqb, leb};
 ghost use lib.ListN.{length};
 ghost use Rattle.program.specs.Case.{tablesFull};
 ghost use Rattle.program.specs.Sound.{limitsHold, bare, shaped, within, soundClause, soundClauses, soundConstraint, soundConstraints, fewCauses, sound};

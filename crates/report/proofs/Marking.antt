@@ -1,5 +1,5 @@
 -- The ten marked files, by computation. Assumes nothing.
-use mathlib.Core.Path.{_≡_, refl}
+use mathlib.Core.Path.{refl}
 use lib.Count.{ones, onesIn}
 use Rattle.words.specs.Bits.{has, word}
 use Rattle.logic.specs.Formula.{valueOf, depth, literalsBelow}

@@ -8,8 +8,8 @@
 --   outcomeText o          the report of an outcome of reading
 --   reportText f           the report of the file f
 use mathlib.Core.Bool.{Bool, true, false}
-use mathlib.Core.List.{List, [], _∷_, _++_}
-use Prim.Native.Nat.{ℕ, zero, suc}
+use mathlib.Core.List.{List, []}
+use Prim.Native.Nat.{ℕ}
 use lib.Dec.{ltb}
 use lib.ListN.{length, getD, take}
 use Rattle.table.specs.Filled.{padded}

@@ -1,5 +1,4 @@
 // The operation *report*.
-ghost use mathlib.Core.Path.{_≡_};
 ghost use Prim.Native.Nat.{_≤_};
 ghost use lib.ListN.{length, take};
 ghost use Rattle.wording.specs.Text.{answerText, refusalText};

@@ -8,11 +8,9 @@ use Rattle.logic.specs.declared.value.Value.{Value}
 use Rattle.logic.specs.declared.interpretation.Interpretation.{Interpretation}
 use Rattle.logic.specs.Interpretation.{valueAt, decidedIn, Disjoint}
 use Rattle.program.specs.declared.case.Case.{Case}
-use Rattle.program.specs.Program.{Clause, programWith}
-use Rattle.program.specs.declared.cause.Additions.{Additions}
-use Rattle.program.specs.Cause.{causesOf}
+use Rattle.program.specs.Program.{Clause}
 use Rattle.program.specs.Sound.{sound}
-use Rattle.settle.specs.Rounds.{rounds, unchanged, roundCount, settled}
+use Rattle.settle.specs.Rounds.{rounds, unchanged, settled}
 use Rattle.settle.specs.Completion.{LeastModel}
 use Rattle.settle.specs.Operation.{programOf}
 

@@ -1,6 +1,6 @@
 // Settling a program: the step from nothing decided, until a round changes nothing.
 ghost use mathlib.Core.Path.{_≡_};
-ghost use Prim.Native.Nat.{_+_, _*_, _≤_, _<_};
+ghost use Prim.Native.Nat.{_*_, _≤_};
 ghost use lib.ListN.{length};
 ghost use Rattle.program.specs.Program.{programWith, headsOf};
 ghost use Rattle.settle.specs.Rounds.{settled};

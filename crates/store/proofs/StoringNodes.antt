@@ -1,16 +1,14 @@
 -- The nodes of formulas: the nodes of a tree, and one law for each way out of `push`,
 -- `behind_close` and `store_nodes`. Assumes nothing.
 use mathlib.Core.Path.{_≡_, refl, sym, ap, _∙_}
-use mathlib.Core.Bool.{Bool, true, false, false≢true}
+use mathlib.Core.Bool.{false≢true}
 use mathlib.Core.List.{List, [], _∷_, _++_, append-assoc}
 use mathlib.Core.Option.{Option}
-use mathlib.Core.Logic.{_⊎_, inl, inr}
+use mathlib.Core.Logic.{inl, inr}
 use Prim.Native.Nat.{ℕ, zero, suc, _+_, _-_, _≤_}
 use native.Mathlib.Omega.{arith}
-use lib.Dec.{eqb}
 use lib.ListN.{length, drop, set, length-set, length-append}
 use lib.Seq.{slice}
-use borrow.Author.Tests.{eqb-true, eqb-false}
 use Rattle.logic.specs.Formula.{Formula}
 use Rattle.logic.specs.Nodes.{nodes, joined}
 use Rattle.text.specs.Tokens.{tokens}

@@ -3,8 +3,7 @@
 --   isDeep x              7: its formula is deeper than 16
 --   isOneTooMany st x     9: behind st it is a 257th clause or a 33rd constraint
 --   isSecondQuery st x    10: behind st it is a second query
-use mathlib.Core.Bool.{Bool, true, false}
-use Prim.Native.Nat.{ℕ}
+use mathlib.Core.Bool.{Bool, false}
 use lib.Dec.{ltb, leb}
 use lib.ListN.{length}
 use Rattle.formulas.specs.Parsing.{depthOf}

@@ -3,7 +3,7 @@
 --
 --   lines f          the lines of the file f, without their LFs; a final LF starts no further line
 --   isComment l      the first byte of l is `;`
-use mathlib.Core.Bool.{Bool, true, false}
+use mathlib.Core.Bool.{Bool, false}
 use mathlib.Core.List.{List, [], _∷_, _++_}
 use Prim.Native.Nat.{ℕ}
 use lib.Dec.{eqb}

@@ -3,7 +3,6 @@
 -- words and may stand anywhere outside a word").
 --
 --   tokens l         the words and brackets of l in order
-use mathlib.Core.Bool.{Bool, true, false}
 use mathlib.Core.List.{List, [], _∷_, _++_}
 use Prim.Native.Nat.{ℕ}
 use lib.Dec.{eqb}

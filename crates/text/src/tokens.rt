@@ -1,7 +1,7 @@
 // The words and brackets of a line.
 ghost use mathlib.Core.Path.{_≡_};
 ghost use mathlib.Core.Bool.{true};
-ghost use Prim.Native.Nat.{_≤_, _<_};
+ghost use Prim.Native.Nat.{_<_};
 ghost use lib.ListN.{length, getD};
 ghost use Rattle.text.specs.Bytes.{isWordByte};
 ghost use Rattle.text.specs.Scanning.{WordEnds, Found};

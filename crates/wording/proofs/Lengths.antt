@@ -8,7 +8,6 @@ use Rattle.program.specs.Cause.{atomsIn}
 use Rattle.program.specs.Setting.{digitsOf}
 use Rattle.question.specs.declared.verdict.Verdict.{Verdict}
 use Rattle.question.specs.declared.verdict.Verdict.the-variants.{Unexplained, Follows, Denied, Open}
-use Rattle.output.specs.Decimal.{decimal}
 use Rattle.output.proofs.Decimals.{decimal-length, decimal-short}
 use Rattle.wording.specs.Forms.{spaced, form, line}
 use Rattle.wording.specs.Text.{verdictWord, verdictLine, roundsLine, minimalLine, withAbducible, abducibles}

@@ -19,9 +19,7 @@ use Rattle.names.proofs.Rows.{rows-padded}
 use Rattle.question.specs.declared.verdict.Verdict.{Verdict}
 use Rattle.output.specs.Writing.{beforeZero, nameIn}
 use Rattle.output.proofs.Names.{before-zero-more, before-zero-none}
-use Rattle.wording.specs.Forms.{line}
 use Rattle.wording.specs.Text.{withAbducible, abducibles, causeLine, causeLines, answerText}
-use Rattle.wording.specs.Text.{verdictLine, roundsLine, minimalLine}
 
 -- A name in its row
 

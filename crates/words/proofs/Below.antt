@@ -1,6 +1,6 @@
 -- Laws of tests over the numbers below n. Assumes nothing.
 use mathlib.Core.Path.{_≡_, refl, sym, ap, ap₂, _∙_}
-use mathlib.Core.Bool.{Bool, true, false, not, _&&_, _||_, and-false, and-true, or-false, false≢true}
+use mathlib.Core.Bool.{Bool, true, false, _&&_, _||_, and-false, and-true, or-false, false≢true}
 use mathlib.Core.Logic.{⊎-elim}
 use Prim.Native.Nat.{ℕ, zero, suc, _+_, _≤_, _<_}
 use native.Mathlib.Nat.{not-suc-le-zero, le-of-suc-le-suc, eq-or-lt-of-le, le-antisymm}
