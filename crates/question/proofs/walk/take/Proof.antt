@@ -2,6 +2,7 @@
 -- ensure. Assumes nothing.
 use mathlib.Core.Path.{sym, ap, _∙_}
 use native.Mathlib.Omega.{arith}
+use native.Mathlib.Nat.{le-refl}
 use borrow.Author.Needs.{needs}
 use borrow.Author.Tests.{not-true, not-false}
 use Rattle.question.specs.Walking.{joined}
@@ -23,7 +24,7 @@ add-next : tie.Need-add-next
 add-next c = search needs
 
 slice-write-work : tie.Need-slice-write-work
-slice-write-work c = search needs
+slice-write-work c = c .before .before .before .before .before .before .before .pre .3 .work-long
 
 same-length : tie.Need-same-length
 same-length c = search needs
@@ -34,7 +35,7 @@ returns c = λ J cs list₀ work₀ j l p.
     visit-other _ _ _ _ _ _ _ _ p (r .work-long) _ (sym (j .explains-is) ∙ not-true _ (c .if1 .taken)) (j .rounds-are)
 
 slice-write-work-2 : tie.Need-slice-write-work-2
-slice-write-work-2 c = search needs
+slice-write-work-2 c = entry (c .before) .pre .3 .work-long
 
 same-length-2 : tie.Need-same-length-2
 same-length-2 c = search needs
@@ -46,25 +47,25 @@ returns-2 c = λ J cs list₀ work₀ j l p.
     (sym (j .explains-is) ∙ not-false _ (d .if1 .left)) (sym l ∙ c .if2 .taken) (j .rounds-are)
 
 slice-write-work-3 : tie.Need-slice-write-work-3
-slice-write-work-3 c = search needs
+slice-write-work-3 c = entry (c .before) .pre .3 .work-long
 
 mul-put : tie.Need-mul-put
 mul-put c = search needs
 
 sub-put : tie.Need-sub-put
-sub-put c = search needs
+sub-put c = entry (c .before) .pre .3 .free
 
 part-put-start : tie.Need-part-put-start
-part-put-start c = search needs
+part-put-start c = entry (c .before) .pre .3 .free
 
 part-put-end : tie.Need-part-put-end
-part-put-end c = search needs
+part-put-end c = le-refl _
 
 cast-put : tie.Need-cast-put
 cast-put c = search needs
 
 put-requires : tie.Need-put-requires
-put-requires c κs = search needs
+put-requires c κs = tt
 
 add-t14 : tie.Need-add-t14
 add-t14 c =
@@ -83,7 +84,7 @@ query-value-requires c κs =
     (s .pre .0, s .pre .1)
 
 with-requires : tie.Need-with-requires
-with-requires c κs = search needs
+with-requires c κs = tt
 
 same-length-3 : tie.Need-same-length-3
 same-length-3 c = search needs
