@@ -17,7 +17,7 @@ case-in-requires : tie.Need-case-in-requires
 case-in-requires c κs = search needs
 
 ask-requires : tie.Need-ask-requires
-ask-requires c κs = search needs
+ask-requires c κs = tt
 
 put-asked-requires : tie.Need-put-asked-requires
 put-asked-requires c κs = search needs

@@ -11,7 +11,7 @@ returns : tie.Need-returns
 returns c = ReadOut.short (omega arith) refl refl refl
 
 read-requires : tie.Need-read-requires
-read-requires c κs = search needs
+read-requires c κs = tt
 
 put-found-requires : tie.Need-put-found-requires
 put-found-requires c κs = search needs

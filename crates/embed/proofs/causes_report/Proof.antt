@@ -11,7 +11,7 @@ returns : tie.Need-returns
 returns c = ReportOut.short (omega arith) refl refl refl
 
 report-requires : tie.Need-report-requires
-report-requires c κs = search needs
+report-requires c κs = tt
 
 slice-aggregate-put-words : tie.Need-slice-aggregate-put-words
 slice-aggregate-put-words c = search needs

@@ -17,7 +17,7 @@ case-in-requires : tie.Need-case-in-requires
 case-in-requires c κs = search needs
 
 settle-one-requires : tie.Need-settle-one-requires
-settle-one-requires c κs = search needs
+settle-one-requires c κs = tt
 
 put-settled-requires : tie.Need-put-settled-requires
 put-settled-requires c κs = search needs

@@ -4,7 +4,7 @@ use Rattle.embed.proofs.put_asked.Statement.{statement}
 use Rattle.embed.proofs.put_asked.Tie as tie
 
 verdict-number-requires : tie.Need-verdict-number-requires
-verdict-number-requires c κs = search needs
+verdict-number-requires c κs = tt
 
 slice-aggregate-put-words : tie.Need-slice-aggregate-put-words
 slice-aggregate-put-words c = search needs

@@ -4,7 +4,6 @@ use mathlib.Core.Path.{refl, sym, _∙_}
 use mathlib.Core.Bool.{true}
 use mathlib.Core.List.{List}
 use Prim.Native.Nat.{ℕ}
-use borrow.Author.Needs.{needs}
 use borrow.Author.Tests.{not-true, not-false}
 use Rattle.store.specs.Lent.{Lent, lent}
 use Rattle.reader.proofs.ReadingEnds.{lines-read-lengths}
@@ -14,10 +13,10 @@ use Rattle.reader.proofs.read.read.Statement.{statement}
 use Rattle.reader.proofs.read.read.Tie as tie
 
 tables-full-requires : tie.Need-tables-full-requires
-tables-full-requires c κs = search needs
+tables-full-requires c κs = tt
 
 refused-requires : tie.Need-refused-requires
-refused-requires c κs = search needs
+refused-requires c κs = tt
 
 same-length : tie.Need-same-length
 same-length c = refl
@@ -40,7 +39,7 @@ returns c =
     read-early f t 0 (c .refused .result) (early-table-short f t short) (c .refused .ensures)
 
 refused-requires-2 : tie.Need-refused-requires-2
-refused-requires-2 c κs = search needs
+refused-requires-2 c κs = tt
 
 same-length-4 : tie.Need-same-length-4
 same-length-4 c = refl
@@ -64,7 +63,7 @@ returns-2 c =
     read-early f t 0 (c .refused2 .result) (early-names-short f t full (j .if2 .taken)) (c .refused2 .ensures)
 
 refused-requires-3 : tie.Need-refused-requires-3
-refused-requires-3 c κs = search needs
+refused-requires-3 c κs = tt
 
 same-length-7 : tie.Need-same-length-7
 same-length-7 c = refl

@@ -83,10 +83,10 @@ answered c =
     (c .causes .result) (causes-are c)
 
 read-requires : tie.Need-read-requires
-read-requires c κs = search needs
+read-requires c κs = tt
 
 show-refusal-requires : tie.Need-show-refusal-requires
-show-refusal-requires c κs = search needs
+show-refusal-requires c κs = tt
 
 same-length : tie.Need-same-length
 same-length c = search needs
@@ -115,7 +115,7 @@ returns c =
     rw e at (b .show-refusal .ensures)
 
 ask-requires : tie.Need-ask-requires
-ask-requires c κs = search needs
+ask-requires c κs = tt
 
 heads-requires : tie.Need-heads-requires
 heads-requires c κs = let h = held (passed (asking c)) in (h .2, h .3)

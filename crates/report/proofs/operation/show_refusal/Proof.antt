@@ -9,13 +9,13 @@ slice-aggregate-refusal-text : tie.Need-slice-aggregate-refusal-text
 slice-aggregate-refusal-text c = search needs
 
 refusal-text-requires : tie.Need-refusal-text-requires
-refusal-text-requires c κs = search needs
+refusal-text-requires c κs = tt
 
 returns : tie.Need-returns
 returns c = let q = c .before .before in shown-short _ _ (q .refusal-text .ensures) (c .if1 .taken)
 
 refusal-text-requires-2 : tie.Need-refusal-text-requires-2
-refusal-text-requires-2 c κs = search needs
+refusal-text-requires-2 c κs = tt
 
 same-length : tie.Need-same-length
 same-length c = search needs
