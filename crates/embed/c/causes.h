@@ -99,8 +99,8 @@ uint32_t causes_settle(const uint64_t *record, size_t record_words,
 
 /* Answers the question of a case. The minimal settings go to the list in rising order, as many as it has slots for, and
  * byte s of the work area becomes 0 (setting s doesn't explain), 1 (explains, not minimal) or 2 (minimal); slots and
- * bytes behind these keep their contents. Refuses with 1, 13, 15, in this order, and then touches neither.
- * answer: CAUSES_QUESTION_WORDS. */
+ * bytes behind these keep their contents. Refuses with 1, 13, 15, in this order, and then touches neither. Takes about
+ * 63 KB of stack. answer: CAUSES_QUESTION_WORDS. */
 uint32_t causes_question(const uint64_t *record, size_t record_words,
                          const uint64_t *clauses, size_t clause_words,
                          const uint64_t *constraints, size_t constraint_words,
@@ -111,7 +111,7 @@ uint32_t causes_question(const uint64_t *record, size_t record_words,
 
 /* Writes the report of a case file, as the program `causes` does: the answer to its question, or
  * `(refused number line)`. Bytes behind the text keep their contents. Refuses with 19 an output shorter than the text
- * and then doesn't touch it. Takes about 80 KB of stack. answer: CAUSES_REPORT_WORDS. */
+ * and then doesn't touch it. Takes about 132 KB of stack. answer: CAUSES_REPORT_WORDS. */
 uint32_t causes_report(const uint8_t *file, size_t file_bytes,
                        uint8_t *out, size_t out_bytes,
                        uint64_t *answer, size_t answer_words);

@@ -3,7 +3,7 @@
 --
 --   isName w        w begins with a letter; the rest of a word is letters, digits and `-` anyway
 --   Sentence        a formula over names: F
---   form w ts       the form with the word w and with the tokens ts behind it
+--   formTokens w ts the tokens of the form with the word w and with the tokens ts behind it
 --   tokensOf f      the tokens of the formula f
 --   isSentence f    the names of f are names, and its nodes are those of the words
 use mathlib.Core.Bool.{Bool, false, _&&_}
@@ -30,13 +30,13 @@ formWords =
     (110 ∷ 111 ∷ 116 ∷ []) ∷ (97 ∷ 110 ∷ 100 ∷ []) ∷ (111 ∷ 114 ∷ []) ∷ (116 ∷ 104 ∷ 101 ∷ 110 ∷ [])
     ∷ (115 ∷ 97 ∷ 109 ∷ 101 ∷ []) ∷ []
 
-abbrev pub form : List ℕ → List Token → List Token
-form w ts = Token.opening ∷ (Token.word w ∷ (ts ++ (Token.closing ∷ [])))
+abbrev pub formTokens : List ℕ → List Token → List Token
+formTokens w ts = Token.opening ∷ (Token.word w ∷ (ts ++ (Token.closing ∷ [])))
 
 unfoldable pub tokensOf : Sentence → List Token
 tokensOf (Sentence.name w) = Token.word w ∷ []
-tokensOf (Sentence.negation f) = form (getD formWords 0 []) (tokensOf f)
-tokensOf (Sentence.joined k f g) = form (getD formWords (k - 64) []) (tokensOf f ++ tokensOf g)
+tokensOf (Sentence.negation f) = formTokens (getD formWords 0 []) (tokensOf f)
+tokensOf (Sentence.joined k f g) = formTokens (getD formWords (k - 64) []) (tokensOf f ++ tokensOf g)
 
 unfoldable pub isSentence : Sentence → Bool
 isSentence (Sentence.name w) = isName w

@@ -12,7 +12,7 @@ use lib.Dec.{eqb, ltb}
 use lib.ListN.{length, getD}
 use Rattle.words.specs.Choice.{pick}
 use Rattle.text.specs.Tokens.{Token}
-use Rattle.formulas.specs.Sentence.{isName, Sentence, form, tokensOf, isSentence}
+use Rattle.formulas.specs.Sentence.{isName, Sentence, formTokens, tokensOf, isSentence}
 
 -- the literal of the name w, negated where the test holds
 pub data Literal : Type 0 where
@@ -45,10 +45,10 @@ bodyTokens (x ∷ l) = tokensOf (ofLiteral x) ++ bodyTokens l
 unfoldable pub lineTokens : Line → List Token
 lineTokens Line.skipped = []
 lineTokens Line.noForm = []
-lineTokens (Line.clause k w l) = form (getD lineWords k []) (Token.word w ∷ bodyTokens l)
-lineTokens (Line.never l) = form (getD lineWords 3 []) (bodyTokens l)
-lineTokens (Line.seen x) = form (getD lineWords 4 []) (tokensOf (ofLiteral x))
-lineTokens (Line.query f) = form (getD lineWords 5 []) (tokensOf f)
+lineTokens (Line.clause k w l) = formTokens (getD lineWords k []) (Token.word w ∷ bodyTokens l)
+lineTokens (Line.never l) = formTokens (getD lineWords 3 []) (bodyTokens l)
+lineTokens (Line.seen x) = formTokens (getD lineWords 4 []) (tokensOf (ofLiteral x))
+lineTokens (Line.query f) = formTokens (getD lineWords 5 []) (tokensOf f)
 
 -- each literal is one of a name
 unfoldable pub areNamed : List Literal → Bool

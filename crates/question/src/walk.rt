@@ -6,7 +6,7 @@ ghost use lib.ListN.{length, set};
 ghost use Rattle.question.specs.Judge.{Judge, judgeOf};
 ghost use Rattle.question.specs.Subset.{someProper};
 ghost use Rattle.question.specs.Operation.{choicesIn, settingsIn};
-ghost use Rattle.question.specs.Judging.{Prepared, Tabled, Tells};
+ghost use Rattle.question.specs.Judging.{AtHand, Tabled, Tells};
 ghost use Rattle.question.specs.Walking.{Walked, Ready};
 use crate::judge::Judged;
 use crate::judge::judge;
@@ -147,7 +147,7 @@ pub fn walk(
     list: &mut [u16],
     work: &mut [u8],
 ) -> Tally
-    requires { ⌜ Prepared c (now clauses) (now constraints) (now formula) heads causes
+    requires { ⌜ AtHand c (now clauses) (now constraints) (now formula) heads causes
         × (end ≡ settingsIn c (now clauses)) × (end ≤ 59049) × (end ≤ length (now work)) ⌝ }
     ensures { λ r. ⌜ Walked (judgeOf c (now (clauses .entry)) (now (constraints .entry)) (now (formula .entry)))
         (choicesIn c (now (clauses .entry))) (now (list .entry)) (now (work .entry)) end r (now (list .exit))

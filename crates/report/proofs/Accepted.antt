@@ -34,7 +34,7 @@ use Rattle.reader.specs.Operation.{tablesFit}
 use Rattle.reader.proofs.Theorems.{accepted-sound, accepted-names}
 use Rattle.output.specs.Writing.{nameIn}
 use Rattle.wording.specs.Text.{answerText}
-use Rattle.report.specs.Report.{clausesOf, constraintsOf, formulaTable, causesIn, judgeIn, minimalsOf, roundsOf}
+use Rattle.report.specs.Report.{clauseTable, constraintTable, formulaTable, causesIn, judgeIn, minimalsOf, roundsOf}
 use Rattle.report.specs.Report.{verdictIn, nameOf, saidText, listLength}
 use Rattle.wording.proofs.Naming.{every-named, table-name, answer-alike}
 use Rattle.wording.proofs.Lengths.{answer-length}
@@ -72,7 +72,7 @@ unfolding zeros tablesFit tablesFull padded
 zeros-fit = refl
 
 module _ (f : List ℕ) (st : Said) (e : readFile f ≡ Outcome.case st) where
-  pub said-sound : sound (caseSaid st) (clausesOf st) (constraintsOf st) (formulaTable st) ≡ true
+  pub said-sound : sound (caseSaid st) (clauseTable st) (constraintTable st) (formulaTable st) ≡ true
   unfolding zeros
   said-sound =
       rw (
@@ -90,8 +90,8 @@ module _ (f : List ℕ) (st : Said) (e : readFile f ≡ Outcome.case st) where
   pub said-table : (a : ℕ) → a < 64 → nameIn (padded 1024 (rowsOf (st .names))) a ≡ nameOf st a
   said-table = table-name (st .names) (λ a h. said-named a)
 
-  pub said-settings : settingsIn (caseSaid st) (clausesOf st) ≤ 59049
-  said-settings = settings-few (caseSaid st) (clausesOf st) (constraintsOf st) (formulaTable st) said-sound
+  pub said-settings : settingsIn (caseSaid st) (clauseTable st) ≤ 59049
+  said-settings = settings-few (caseSaid st) (clauseTable st) (constraintTable st) (formulaTable st) said-sound
 
   pub said-causes : length (atomsIn (causesIn st)) ≤ 10
   said-causes =
@@ -105,8 +105,8 @@ module _ (f : List ℕ) (st : Said) (e : readFile f ≡ Outcome.case st) where
 
   pub said-minimals : length (minimalsOf st) ≤ 59049
   said-minimals =
-      let n = settingsIn (caseSaid st) (clausesOf st) in
-      let l = minimals-le (judgeIn st) (choicesIn (caseSaid st) (clausesOf st)) n in
+      let n = settingsIn (caseSaid st) (clauseTable st) in
+      let l = minimals-le (judgeIn st) (choicesIn (caseSaid st) (clauseTable st)) n in
       omega (arith, said-settings)
 
   pub said-length : length (saidText st) ≤ 264252
@@ -121,8 +121,8 @@ module _ (f : List ℕ) (st : Said) (e : readFile f ≡ Outcome.case st) where
 
 module _ (f : List ℕ) (st : Said) (e : readFile f ≡ Outcome.case st) (list work : List ℕ) (full : length list ≡ 1024)
     (room : length work ≡ 59049) (r : Answer) (listAfter workAfter : List ℕ)
-    (h : Asked (caseSaid st) (clausesOf st) (constraintsOf st) (formulaTable st) list work r listAfter workAfter) where
-  none : questionRefusal (caseSaid st) (clausesOf st) (constraintsOf st) (formulaTable st) (length work) ≡ 0
+    (h : Asked (caseSaid st) (clauseTable st) (constraintTable st) (formulaTable st) list work r listAfter workAfter) where
+  none : questionRefusal (caseSaid st) (clauseTable st) (constraintTable st) (formulaTable st) (length work) ≡ 0
   none =
       let s = said-sound f st e in
       refusal-none (caseSaid st) _ _ _ (length work) (sound-full (caseSaid st) _ _ _ s) s

@@ -12,8 +12,7 @@ use Rattle.settle.specs.Step.{bodiesOf, someTrue, allFalse, nextValue, step}
 use Rattle.settle.specs.Rounds.{rounds, roundCount, settled}
 use Rattle.question.specs.Explanation.{observedTrue, noneBroken, explainsUnder, setExplains}
 use Rattle.question.specs.Subset.{subsetOf, properOf, someProper, minimal}
-use Rattle.question.specs.Walk.{minimalsBelow, roundsBelow, allTrue, verdictOf}
-use Rattle.question.specs.Walk as walk
+use Rattle.question.specs.Walk.{minimalsBelow, roundsBelow, trueInAll, falseInAll, verdictOf}
 use Rattle.text.specs.Bytes.{isWordByte, isAllowed, allOf, sameBytes}
 use Rattle.text.specs.Lines.{linesFrom, isComment}
 use Rattle.text.specs.Tokens.{tokensFrom}
@@ -34,7 +33,7 @@ pub marked-rows : MarkedRows
 unfolding ones onesIn has word valueOf literalsBelow nodes withNode spelled formulaOf clauseAt clausesOf addedBelow
     headsOf causesAmong causesOf atomsFrom choicesFor product digits digitOf settingsOf additionsOf fewCauses bodiesOf someTrue allFalse nextValue
     step rounds roundCount settled observedTrue noneBroken explainsUnder setExplains subsetOf properOf someProper
-    minimal minimalsBelow roundsBelow allTrue walk.allFalse verdictOf isWordByte isAllowed allOf sameBytes linesFrom
+    minimal minimalsBelow roundsBelow trueInAll falseInAll verdictOf isWordByte isAllowed allOf sameBytes linesFrom
     isComment tokensFrom padded namesFrom someLong atomOf withName withNames rowsOf nodeOf kindOf isName depth
     withForm itemsOf literalsOf lineOf someOn plainAtoms negatedAtoms encoded saidBy formRefusal lineRefusal saidAfter
     clauseWords ending readLines readFile constraintWords formulaNodes isSentence areNamed isLine

@@ -28,7 +28,7 @@ use Rattle.reader.proofs.ReadingEarly.{Full, early-none, early-file-long}
 use Rattle.reader.proofs.Numbered.{Numbered, file-numbered}
 use Rattle.output.specs.Writing.{Room, nameIn}
 use Rattle.wording.specs.Text.{answerText, refusalText}
-use Rattle.report.specs.Report.{clausesOf, constraintsOf, formulaTable, causesIn, saidText, outcomeText}
+use Rattle.report.specs.Report.{clauseTable, constraintTable, formulaTable, causesIn, saidText, outcomeText}
 use Rattle.report.specs.Report.{unlessLong, reportText}
 use Rattle.report.proofs.Accepted.{said-sound, said-length, asked-fits, asked-text}
 
@@ -57,8 +57,8 @@ pub record Accepted (f : List ℕ) (u : Lent) (r : Answer) : Type 0 where
   pub read-is : readFile f ≡ Outcome.case said
   pub text-is : reportText f ≡ saidText said
   pub case-is : r .found ≡ caseSaid said
-  pub clauses-are : u .clauses ≡ clausesOf said
-  pub constraints-are : u .constraints ≡ constraintsOf said
+  pub clauses-are : u .clauses ≡ clauseTable said
+  pub constraints-are : u .constraints ≡ constraintTable said
   pub formula-is : u .formula ≡ formulaTable said
   pub names-are : u .names ≡ padded 1024 (rowsOf (said .names))
 
@@ -150,7 +150,7 @@ module _ (f : List ℕ) (u : Lent) (r : Answer) (a : Accepted f u r) where
       (listAfter workAfter : List ℕ)
       (h : Asked (r .found) (u .clauses) (u .constraints) (u .formula) list work q listAfter workAfter) where
     asked-said : let st = a .said in
-        Asked (caseSaid st) (clausesOf st) (constraintsOf st) (formulaTable st) list work q listAfter workAfter
+        Asked (caseSaid st) (clauseTable st) (constraintTable st) (formulaTable st) list work q listAfter workAfter
     asked-said = rw (a .case-is, a .clauses-are, a .constraints-are, a .formula-is) at h
 
     pub accepted-answered : (causes : ℕ) → causes ≡ causesOf (r .found) (u .clauses) → Answered f u causes q listAfter

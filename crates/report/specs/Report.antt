@@ -28,26 +28,26 @@ abbrev pub listLength : ℕ
 listLength = 1024
 
 -- the tables that hold what a file says, in their sizes
-abbrev pub clausesOf : Said → List ℕ
-clausesOf st = padded 768 (clauseWords (st .clauses))
+abbrev pub clauseTable : Said → List ℕ
+clauseTable st = padded 768 (clauseWords (st .clauses))
 
-abbrev pub constraintsOf : Said → List ℕ
-constraintsOf st = padded 64 (constraintWords (st .constraints))
+abbrev pub constraintTable : Said → List ℕ
+constraintTable st = padded 64 (constraintWords (st .constraints))
 
 abbrev pub formulaTable : Said → List ℕ
 formulaTable st = padded 128 (formulaNodes (st .queries))
 
 abbrev pub causesIn : Said → ℕ
-causesIn st = causesOf (caseSaid st) (clausesOf st)
+causesIn st = causesOf (caseSaid st) (clauseTable st)
 
 abbrev pub judgeIn : Said → Judge
-judgeIn st = judgeOf (caseSaid st) (clausesOf st) (constraintsOf st) (formulaTable st)
+judgeIn st = judgeOf (caseSaid st) (clauseTable st) (constraintTable st) (formulaTable st)
 
 abbrev pub minimalsOf : Said → List ℕ
-minimalsOf st = minimalsIn (caseSaid st) (clausesOf st) (constraintsOf st) (formulaTable st)
+minimalsOf st = minimalsIn (caseSaid st) (clauseTable st) (constraintTable st) (formulaTable st)
 
 abbrev pub roundsOf : Said → ℕ
-roundsOf st = roundsBelow (judgeIn st) (settingsIn (caseSaid st) (clausesOf st))
+roundsOf st = roundsBelow (judgeIn st) (settingsIn (caseSaid st) (clauseTable st))
 
 abbrev pub verdictIn : Said → Verdict
 verdictIn st = verdictOf (judgeIn st) (minimalsOf st)

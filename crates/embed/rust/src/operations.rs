@@ -65,7 +65,7 @@ pub fn settle(case: &Case, tables: &Tables, setting: u64) -> Result<Settled, Ref
 
 /// Answers the question of a case. `list` gets the minimal settings in rising order, as many as it has slots for;
 /// byte s of `work` becomes 0 (setting s doesn't explain), 1 (explains, not minimal) or 2 (minimal). Refuses with 13
-/// and 15, and then touches neither.
+/// and 15, and then touches neither. Takes about 63 KB of stack.
 pub fn question(case: &Case, tables: &Tables, list: &mut [u16], work: &mut [u8]) -> Result<Answer, Refusal> {
     let record = case.words();
     let mut words = [0; 4];
@@ -94,7 +94,7 @@ pub fn question(case: &Case, tables: &Tables, list: &mut [u16], work: &mut [u8])
 }
 
 /// Writes the report of a case file to the front of `out` and answers its length. Refuses with 19 an output that is
-/// shorter, and then doesn't touch it. Takes about 80 KB of stack.
+/// shorter, and then doesn't touch it. Takes about 132 KB of stack.
 pub fn report(file: &[u8], out: &mut [u8]) -> Result<usize, Refusal> {
     let mut words = [0; 1];
     // SAFETY: each pointer comes with the length of its slice, and the output is borrowed for writing.

@@ -5,7 +5,7 @@ use native.Mathlib.Omega.{arith}
 use native.Mathlib.Nat.{le-refl}
 use borrow.Author.Needs.{needs}
 use borrow.Author.Tests.{not-true, not-false}
-use Rattle.question.specs.Walking.{joined}
+use Rattle.question.specs.Walking.{verdictWith}
 use Rattle.question.proofs.Steps.{visit-other, visit-larger, visit-minimal}
 use Rattle.question.proofs.walk.take.Statement.{statement}
 use Rattle.question.proofs.walk.take.Tie as tie
@@ -102,7 +102,7 @@ returns-3 c = λ J cs list₀ work₀ j l p.
     (sym l ∙ b .before .before .if2 .left) (j .rounds-are)
     (b .put .ensures .0) (b .put .ensures .1)
     (c .with .ensures
-    ∙ ap (joined (s .args .t .verdict))
+    ∙ ap (verdictWith (s .args .t .verdict))
     (c .before .query-value .ensures (s .args .c .atoms) (j .is-formula) ∙ j .value-is))
 
 pub take-spec : {M : Type 1} → statement M
