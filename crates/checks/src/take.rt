@@ -30,8 +30,12 @@ fn take_form(
     formula: &mut [u8],
     names: &mut [u8],
 ) -> Taken
-    requires { ⌜ Long (lent (now clauses) (now constraints) (now formula) (now names)) × (c .atoms ≤ 64) × (length (now l) ≤ 200) ⌝ }
-    ensures { λ r. ⌜ ((st : Said) (old : Lent) → Held st c old (lent (now (clauses .entry)) (now (constraints .entry)) (now (formula .entry)) (now (names .entry))) → Took (formRefusal st (tokens (now (l .entry)))) (saidWith st (tokens (now (l .entry)))) r old (lent (now (clauses .exit)) (now (constraints .exit)) (now (formula .exit)) (now (names .exit)))) ⌝ }
+    requires { ⌜ Long (lent (now clauses) (now constraints) (now formula) (now names)) × (c .atoms ≤ 64)
+        × (length (now l) ≤ 200) ⌝ }
+    ensures { λ r. ⌜ ((st : Said) (old : Lent) → Held st c old
+        (lent (now (clauses .entry)) (now (constraints .entry)) (now (formula .entry)) (now (names .entry)))
+        → Took (formRefusal st (tokens (now (l .entry)))) (saidWith st (tokens (now (l .entry)))) r old
+        (lent (now (clauses .exit)) (now (constraints .exit)) (now (formula .exit)) (now (names .exit)))) ⌝ }
 {
     let x = form_of(l);
     if is_no_form(x) {
@@ -68,7 +72,10 @@ pub fn take_line(
     names: &mut [u8],
 ) -> Taken
     requires { ⌜ Long (lent (now clauses) (now constraints) (now formula) (now names)) × (c .atoms ≤ 64) ⌝ }
-    ensures { λ r. ⌜ ((st : Said) (old : Lent) → Held st c old (lent (now (clauses .entry)) (now (constraints .entry)) (now (formula .entry)) (now (names .entry))) → Took (lineRefusal st (now (l .entry))) (saidAfter st (now (l .entry))) r old (lent (now (clauses .exit)) (now (constraints .exit)) (now (formula .exit)) (now (names .exit)))) ⌝ }
+    ensures { λ r. ⌜ ((st : Said) (old : Lent) → Held st c old
+        (lent (now (clauses .entry)) (now (constraints .entry)) (now (formula .entry)) (now (names .entry)))
+        → Took (lineRefusal st (now (l .entry))) (saidAfter st (now (l .entry))) r old
+        (lent (now (clauses .exit)) (now (constraints .exit)) (now (formula .exit)) (now (names .exit)))) ⌝ }
 {
     if 200 < l.len() {
         return Taken::Stop(3);

@@ -1,9 +1,9 @@
 -- What the exported functions answer and leave in lent memory, on every input.
 -- From: document 01, "What each operation refuses" ("a new table is held to 1 wherever it is lent").
 --
--- Each answers the number of the refusal, 0 for none, and writes the rest of its answer to lent words. Where those words,
--- or those of a lent case record, are too few, the answer is 1 and nothing is touched. Otherwise a is what the operation
--- of the crate below answers, determined by its own contract.
+-- Each answers the number of the refusal, 0 for none, and writes the rest of its answer to lent words. Where those
+-- words, or those of a lent case record, are too few, the answer is 1 and nothing is touched. Otherwise a is what the
+-- operation of the crate below answers, determined by its own contract.
 --
 --   ReadOut       line and the six words of the record, seven words, and the four tables
 --   SettleOut     the true atoms, the false atoms and the rounds, three words

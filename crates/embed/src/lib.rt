@@ -1,6 +1,6 @@
-// The operations for C and Rust to link: numbers and slices only. Each answers the number of the refusal, 0 for none, and
-// writes the rest of its answer to lent words. A lent record or answer with too few words is refused with 1, and nothing
-// is touched.
+// The operations for C and Rust to link: numbers and slices only. Each answers the number of the refusal, 0 for none,
+// and writes the rest of its answer to lent words. A lent record or answer with too few words is refused with 1, and
+// nothing is touched.
 ghost use mathlib.Core.Path.{_≡_};
 ghost use mathlib.Core.List.{[], _∷_};
 ghost use Prim.Native.Nat.{_≤_};
@@ -78,8 +78,8 @@ fn put_settled(answer: &mut [u64], a: settle::operation::Answer)
     put_words(answer, &words);
 }
 
-// Puts what the question answers to words: the verdict's number, the number of minimal explanations, how many are listed,
-// the rounds over all settings.
+// Puts what the question answers to words: the verdict's number, the number of minimal explanations, how many are
+// listed, the rounds over all settings.
 fn put_asked(answer: &mut [u64], a: question::operation::Answer)
     requires { ⌜ 4 ≤ length (now answer) ⌝ }
     ensures { λ _. ⌜ now (answer .exit)
@@ -128,7 +128,8 @@ pub extern "C" fn causes_settle(
     setting: u64,
     answer: &mut [u64],
 ) -> u32
-    ensures { λ r. ⌜ SettleOut (now (fields .entry)) (now (clauses .entry)) (now (constraints .entry)) (now (formula .entry))
+    ensures { λ r. ⌜ SettleOut (now (fields .entry)) (now (clauses .entry)) (now (constraints .entry))
+        (now (formula .entry))
         setting (now (answer .entry)) r (now (answer .exit)) ⌝ }
 {
     if fields.len() < 6 {
@@ -155,8 +156,10 @@ pub extern "C" fn causes_question(
     work: &mut [u8],
     answer: &mut [u64],
 ) -> u32
-    ensures { λ r. ⌜ QuestionOut (now (fields .entry)) (now (clauses .entry)) (now (constraints .entry)) (now (formula .entry))
-        (now (list .entry)) (now (work .entry)) (now (answer .entry)) r (now (list .exit)) (now (work .exit)) (now (answer .exit)) ⌝ }
+    ensures { λ r. ⌜ QuestionOut (now (fields .entry)) (now (clauses .entry)) (now (constraints .entry))
+        (now (formula .entry))
+        (now (list .entry)) (now (work .entry)) (now (answer .entry)) r (now (list .exit)) (now (work .exit))
+        (now (answer .exit)) ⌝ }
 {
     if fields.len() < 6 {
         return 1;

@@ -1,5 +1,6 @@
 -- The forms of a line, and how they are spelled.
--- From: document 01, "The file" ("(true N) (false N) (if N L .. L) (never L .. L) (seen L) (query F); L is N or (not N)").
+-- From: document 01, "The file" ("Every other line is one form of nested brackets: `(true N)`, `(false N)`,
+-- `(if N L..)`, `(never L..)`, `(seen L)`, `(query F)`, with at least one L"; "L is N or `(not N)`").
 --
 --   Literal         a name or its negation: L
 --   Line            what a line is: skipped, one of the six forms, or no form

@@ -16,7 +16,8 @@ use text::tokens::token;
 // Whether row i is the part of l from a to e, followed by zeros.
 pub fn row_is(names: &[u8], i: usize, l: &[u8], a: usize, e: usize) -> bool
     requires { ⌜ (i < 64) × (1024 ≤ length (now names)) × (a ≤ e) × (e ≤ length (now l)) ⌝ }
-    ensures { λ r. ⌜ r ≡ sameBytes (slice (i * 16) (i * 16 + 16) (now (names .entry))) (padded 16 (slice a e (now (l .entry)))) ⌝ }
+    ensures { λ r. ⌜ r ≡ sameBytes (slice (i * 16) (i * 16 + 16) (now (names .entry))) (padded 16 (slice a e
+        (now (l .entry)))) ⌝ }
 {
     let base = i * 16;
     let mut j = 0;
@@ -48,7 +49,8 @@ pub fn find(names: &[u8], count: usize, l: &[u8], a: usize, e: usize) -> usize
 // room.
 pub fn intern(names: &mut [u8], count: usize, l: &[u8], a: usize, e: usize) -> usize
     requires { ⌜ (count ≤ 64) × (1024 ≤ length (now names)) × (a ≤ e) × (e ≤ length (now l)) ⌝ }
-    ensures { λ r. ⌜ ((ns : List (List ℕ)) (old : List ℕ) → length ns ≡ count → Holds ns old (now (names .entry)) → Named (slice a e (now (l .entry))) → Interned ns old (slice a e (now (l .entry))) r (now (names .exit))) ⌝ }
+    ensures { λ r. ⌜ ((ns : List (List ℕ)) (old : List ℕ) → length ns ≡ count → Holds ns old (now (names .entry))
+        → Named (slice a e (now (l .entry))) → Interned ns old (slice a e (now (l .entry))) r (now (names .exit))) ⌝ }
 {
     let i = find(names, count, l, a, e);
     if i < count {
@@ -64,7 +66,9 @@ pub fn intern(names: &mut [u8], count: usize, l: &[u8], a: usize, e: usize) -> u
 // Adds the names of a line to the count names; answers how many there are, over 64 where there is no room.
 pub fn intern_line(l: &[u8], names: &mut [u8], count: usize) -> usize
     requires { ⌜ (count ≤ 64) × (1024 ≤ length (now names)) ⌝ }
-    ensures { λ r. ⌜ ((ns : List (List ℕ)) (old : List ℕ) → length ns ≡ count → Holds ns old (now (names .entry)) → someLong (namesIn (tokens (now (l .entry)))) ≡ false → LineInterned ns (namesIn (tokens (now (l .entry)))) old r (now (names .exit))) ⌝ }
+    ensures { λ r. ⌜ ((ns : List (List ℕ)) (old : List ℕ) → length ns ≡ count → Holds ns old (now (names .entry))
+        → someLong (namesIn (tokens (now (l .entry)))) ≡ false
+        → LineInterned ns (namesIn (tokens (now (l .entry)))) old r (now (names .exit))) ⌝ }
 {
     let mut at = 0;
     let mut n = count;

@@ -1,5 +1,5 @@
-// Writing bytes, texts, numbers in decimal and names to a lent output, from a place on. Bytes behind the output's end are
-// counted and not written.
+// Writing bytes, texts, numbers in decimal and names to a lent output, from a place on. Bytes behind the output's end
+// are counted and not written.
 ghost use mathlib.Core.List.{[], _∷_};
 ghost use Prim.Native.Nat.{_+_, _*_, _≤_, _<_};
 ghost use lib.ListN.{length};

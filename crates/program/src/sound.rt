@@ -4,7 +4,8 @@ ghost use mathlib.Core.Bool.{true, false};
 ghost use Prim.Native.Nat.{_+_, _*_, _^_, _≤_, _<_};
 ghost use lib.ListN.{length};
 ghost use Rattle.program.specs.Case.{tablesFull};
-ghost use Rattle.program.specs.Sound.{limitsHold, bare, shaped, within, soundClause, soundClauses, soundConstraint, soundConstraints, fewCauses, sound};
+ghost use Rattle.program.specs.Sound.{limitsHold, bare, shaped, within, soundClause};
+ghost use Rattle.program.specs.Sound.{soundClauses, soundConstraint, soundConstraints, fewCauses, sound};
 use crate::case::Case;
 
 // Whether the counts are within the limits.

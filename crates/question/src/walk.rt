@@ -38,8 +38,8 @@ fn put(rest: &mut [u16], setting: u16) -> usize
     0
 }
 
-// Takes what is judged of a setting, and whether a proper subset of it explains, into the tally: marks the setting in the
-// work area, and counts and lists it where it is minimal.
+// Takes what is judged of a setting, and whether a proper subset of it explains, into the tally: marks the setting in
+// the work area, and counts and lists it where it is minimal.
 fn take(
     c: Case,
     formula: &[u8],

@@ -38,7 +38,9 @@ fn refused(number: u32, line: u32) -> Answer
 // Zeroes the four tables in their sizes.
 fn zero(clauses: &mut [u64], constraints: &mut [u64], formula: &mut [u8], names: &mut [u8])
     requires { ⌜ Long (lent (now clauses) (now constraints) (now formula) (now names)) ⌝ }
-    ensures { λ _. ⌜ Zeroed (lent (now (clauses .entry)) (now (constraints .entry)) (now (formula .entry)) (now (names .entry))) (lent (now (clauses .exit)) (now (constraints .exit)) (now (formula .exit)) (now (names .exit))) ⌝ }
+    ensures { λ _. ⌜ Zeroed
+        (lent (now (clauses .entry)) (now (constraints .entry)) (now (formula .entry)) (now (names .entry)))
+        (lent (now (clauses .exit)) (now (constraints .exit)) (now (formula .exit)) (now (names .exit))) ⌝ }
 {
     table::zero_words(clauses, Case::CLAUSE_WORDS);
     table::zero_words(constraints, Case::CONSTRAINT_WORDS);
@@ -55,7 +57,9 @@ fn read_lines(
     names: &mut [u8],
 ) -> Answer
     requires { ⌜ Long (lent (now clauses) (now constraints) (now formula) (now names)) × (length (now file) ≤ 32768) ⌝ }
-    ensures { λ r. ⌜ LinesRead (now (file .entry)) (lent (now (clauses .entry)) (now (constraints .entry)) (now (formula .entry)) (now (names .entry))) (lent (now (clauses .exit)) (now (constraints .exit)) (now (formula .exit)) (now (names .exit))) r ⌝ }
+    ensures { λ r. ⌜ LinesRead (now (file .entry))
+        (lent (now (clauses .entry)) (now (constraints .entry)) (now (formula .entry)) (now (names .entry)))
+        (lent (now (clauses .exit)) (now (constraints .exit)) (now (formula .exit)) (now (names .exit))) r ⌝ }
 {
     zero(clauses, constraints, formula, names);
     let mut c = Case {
@@ -107,7 +111,9 @@ pub fn read(
     formula: &mut [u8],
     names: &mut [u8],
 ) -> Answer
-    ensures { λ r. ⌜ ReadAs (now (file .entry)) (lent (now (clauses .entry)) (now (constraints .entry)) (now (formula .entry)) (now (names .entry))) (lent (now (clauses .exit)) (now (constraints .exit)) (now (formula .exit)) (now (names .exit))) r ⌝ }
+    ensures { λ r. ⌜ ReadAs (now (file .entry))
+        (lent (now (clauses .entry)) (now (constraints .entry)) (now (formula .entry)) (now (names .entry)))
+        (lent (now (clauses .exit)) (now (constraints .exit)) (now (formula .exit)) (now (names .exit))) r ⌝ }
 {
     if !program::case::tables_full(clauses, constraints, formula) {
         return refused(1, 0);

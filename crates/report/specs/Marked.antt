@@ -1,5 +1,5 @@
--- The ten marked files of document 01, from their bytes to list, rounds and verdict: claim 7 of the design, one table of
--- rows and one statement. Proved in proofs/Theorems.antt by computation.
+-- The ten marked files of document 01, from their bytes to list, rounds and verdict: claim 7 of the design, one table
+-- of rows and one statement. Proved in proofs/Theorems.antt by computation.
 -- From: document 01, "Ten marked files".
 --
 --   Row            a file's bytes, its minimal settings, the rounds over all settings, the verdict

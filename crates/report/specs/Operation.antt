@@ -1,5 +1,6 @@
 -- What the operation *report* answers and leaves in the lent output, on every input.
--- From: document 01, "The program `causes`" and "What each operation refuses" ("For operations and tables that come later").
+-- From: document 01, "The program `causes`" and "What each operation refuses" ("For operations and tables that come
+-- later").
 --
 --   reportRefusal      0, or 19 the lent output is shorter than the text
 --   Shown              the answer and the output at exit, for a text

@@ -39,9 +39,11 @@ fn show_answer(
     out: &mut [u8],
 ) -> Answer
     requires { ⌜ (1024 ≤ length (now names)) × (a .written ≤ length (now list))
-        × Room (answerText (nameIn (now names)) causes (a .verdict) (a .rounds) (a .minimal) (take (a .written) (now list))) 0 ⌝ }
+        × Room (answerText (nameIn (now names)) causes (a .verdict) (a .rounds) (a .minimal) (take (a .written)
+        (now list))) 0 ⌝ }
     ensures { λ r. ⌜ Shown
-        (answerText (nameIn (now (names .entry))) causes (a .verdict) (a .rounds) (a .minimal) (take (a .written) (now (list .entry))))
+        (answerText (nameIn (now (names .entry))) causes (a .verdict) (a .rounds) (a .minimal) (take (a .written)
+        (now (list .entry))))
         (now (out .entry)) r (now (out .exit)) ⌝ }
 {
     let verdict = a.verdict;

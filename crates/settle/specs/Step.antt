@@ -34,7 +34,8 @@ abbrev pub hasSome : List Formula → Bool
 hasSome [] = false
 hasSome (f ∷ fs) = true
 
--- the value that bodies give their head: true if one is true, false if there is one and all are false, otherwise unknown
+-- the value that bodies give their head: true if one is true, false if there is one and all are false, otherwise
+-- unknown
 abbrev pub given : (ℕ → Value) → List Formula → Value
 given v fs = among (someTrue v fs) (hasSome fs && allFalse v fs)
 

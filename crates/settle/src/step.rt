@@ -25,7 +25,8 @@ pub fn body_value(i: Interpretation, kind: u64, plain: u64, negated: u64) -> Val
     i.body(plain, negated)
 }
 
-// The interpretation after i: the defined atoms are false at first, and each clause raises its head to its body's value.
+// The interpretation after i: the defined atoms are false at first, and each clause raises its head to its body's
+// value.
 pub fn apply(
     i: Interpretation,
     clauses: &[u64],

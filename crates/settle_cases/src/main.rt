@@ -1,5 +1,6 @@
 // Settles every setting of document 01's marked files M1 to M10, from their tables, and of a chain of 64 atoms; writes
-// the true atoms, the false atoms and the rounds of each, the sum of the rounds, and the refusal that ends the settings.
+// the true atoms, the false atoms and the rounds of each, the sum of the rounds, and the refusal that ends the
+// settings.
 use libc::STDOUT_FILENO;
 use program::case::Case;
 use settle::operation::Answer;

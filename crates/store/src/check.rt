@@ -62,7 +62,8 @@ pub fn is_one_too_many(x: Form, c: Case) -> bool
 
 // Whether a line is a second query: the case has nodes exactly when it has a query.
 pub fn is_second_query(x: Form, c: Case) -> bool
-    ensures { λ r. ⌜ ((l : List ℕ) (y : Line) (st : Said) → FormIs l x y → c ≡ caseSaid st → Limits st → r ≡ isSecondQuery st y) ⌝ }
+    ensures { λ r. ⌜ ((l : List ℕ) (y : Line) (st : Said) → FormIs l x y → c ≡ caseSaid st → Limits st
+        → r ≡ isSecondQuery st y) ⌝ }
 {
     match x {
         Form::Query(_, _) => 1 <= c.nodes,

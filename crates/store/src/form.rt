@@ -23,8 +23,10 @@ fn store_clause(
     names: &[u8],
     clauses: &mut [u64],
 ) -> Case
-    requires { ⌜ (c .atoms ≤ 64) × (kind ≤ 2) × (a ≤ e) × (e ≤ length (now l)) × (1024 ≤ length (now names)) × (768 ≤ length (now clauses)) ⌝ }
-    ensures { λ r. ⌜ ClauseStored (slice a e (now (l .entry))) kind m c (now (names .entry)) (now (clauses .entry)) r (now (clauses .exit)) ⌝ }
+    requires { ⌜ (c .atoms ≤ 64) × (kind ≤ 2) × (a ≤ e) × (e ≤ length (now l)) × (1024 ≤ length (now names))
+        × (768 ≤ length (now clauses)) ⌝ }
+    ensures { λ r. ⌜ ClauseStored (slice a e (now (l .entry))) kind m c (now (names .entry)) (now (clauses .entry)) r
+        (now (clauses .exit)) ⌝ }
 {
     let n = c.clauses;
     if Case::CLAUSES <= n {
@@ -65,7 +67,8 @@ fn store_observed(m: Masks, c: Case) -> Case
 // Stores the nodes of the query at or behind a place of a line.
 fn store_query(l: &[u8], at: usize, c: Case, names: &[u8], formula: &mut [u8]) -> Case
     requires { ⌜ (c .atoms ≤ 64) × (1024 ≤ length (now names)) × (128 ≤ length (now formula)) ⌝ }
-    ensures { λ r. ⌜ QueryStored (now (l .entry)) at c (now (names .entry)) (now (formula .entry)) r (now (formula .exit)) ⌝ }
+    ensures { λ r. ⌜ QueryStored (now (l .entry)) at c (now (names .entry)) (now (formula .entry)) r
+        (now (formula .exit)) ⌝ }
 {
     let s = store_nodes(l, at, names, c.atoms, formula, c.nodes);
     let mut next = c;
@@ -83,8 +86,11 @@ pub fn store_form(
     constraints: &mut [u64],
     formula: &mut [u8],
 ) -> Case
-    requires { ⌜ Long (lent (now clauses) (now constraints) (now formula) (now names)) × (c .atoms ≤ 64) × PartsInside (now l) x ⌝ }
-    ensures { λ r. ⌜ StoredAs (now (l .entry)) x c (lent (now (clauses .entry)) (now (constraints .entry)) (now (formula .entry)) (now (names .entry))) r (lent (now (clauses .exit)) (now (constraints .exit)) (now (formula .exit)) (now (names .entry))) ⌝ }
+    requires { ⌜ Long (lent (now clauses) (now constraints) (now formula) (now names)) × (c .atoms ≤ 64)
+        × PartsInside (now l) x ⌝ }
+    ensures { λ r. ⌜ StoredAs (now (l .entry)) x c
+        (lent (now (clauses .entry)) (now (constraints .entry)) (now (formula .entry)) (now (names .entry))) r
+        (lent (now (clauses .exit)) (now (constraints .exit)) (now (formula .exit)) (now (names .entry))) ⌝ }
 {
     match x {
         Form::NoForm => c,

@@ -107,7 +107,8 @@ pub fn store_nodes(
     len: usize,
 ) -> Stored
     requires { ⌜ (count ≤ 64) × (1024 ≤ length (now names)) × (128 ≤ length (now nodes)) ⌝ }
-    ensures { λ r. ⌜ NodesStored (now (l .entry)) at (now (names .entry)) count (now (nodes .entry)) len (r .next) (r .len) (now (nodes .exit)) ⌝ }
+    ensures { λ r. ⌜ NodesStored (now (l .entry)) at (now (names .entry)) count
+        (now (nodes .entry)) len (r .next) (r .len) (now (nodes .exit)) ⌝ }
 {
     match token(l, at) {
         Next::End => Stored { next: at, len },

@@ -1,6 +1,6 @@
 -- The words and brackets of a line.
--- From: document 01, "The file" ("A word is a longest run of letters, digits and `-`. Spaces are needed only between two
--- words and may stand anywhere outside a word").
+-- From: document 01, "The file" ("A word is a longest run of letters, digits and `-`. Spaces are needed only between
+-- two words and may stand anywhere outside a word").
 --
 --   tokens l         the words and brackets of l in order
 use mathlib.Core.List.{List, [], _∷_, _++_}

@@ -41,7 +41,8 @@ fn rounds_line(out: &mut [u8], at: usize, n: u64) -> usize
 // Writes a line with two numbers behind its opening: a bracket, a word and a space.
 fn pair_line(out: &mut [u8], at: usize, opening: &[u8], x: u64, y: u64) -> usize
     requires { ⌜ Room (now opening ++ (decimal x ++ (32 ∷ (decimal y ++ (41 ∷ (10 ∷ [])))))) at ⌝ }
-    ensures { λ r. ⌜ Writes (now (opening .entry) ++ (decimal x ++ (32 ∷ (decimal y ++ (41 ∷ (10 ∷ [])))))) (now (out .entry)) at r
+    ensures { λ r. ⌜ Writes (now (opening .entry) ++ (decimal x ++ (32 ∷ (decimal y ++ (41 ∷ (10 ∷ []))))))
+        (now (out .entry)) at r
         (now (out .exit)) ⌝ }
 {
     let first = put_text(out, at, opening);
@@ -53,8 +54,10 @@ fn pair_line(out: &mut [u8], at: usize, opening: &[u8], x: u64, y: u64) -> usize
 
 // Writes a form with an atom's name behind its opening: a space, a bracket, a word and a space.
 fn put_form(out: &mut [u8], at: usize, opening: &[u8], names: &[u8], atom: usize) -> usize
-    requires { ⌜ (16 * atom + 16 ≤ length (now names)) × Room (now opening ++ (nameIn (now names) atom ++ (41 ∷ []))) at ⌝ }
-    ensures { λ r. ⌜ Writes (now (opening .entry) ++ (nameIn (now (names .entry)) atom ++ (41 ∷ []))) (now (out .entry)) at r
+    requires { ⌜ (16 * atom + 16 ≤ length (now names))
+        × Room (now opening ++ (nameIn (now names) atom ++ (41 ∷ []))) at ⌝ }
+    ensures { λ r. ⌜ Writes (now (opening .entry) ++ (nameIn (now (names .entry)) atom ++ (41 ∷ [])))
+        (now (out .entry)) at r
         (now (out .exit)) ⌝ }
 {
     let name = put_text(out, at, opening);
@@ -64,7 +67,8 @@ fn put_form(out: &mut [u8], at: usize, opening: &[u8], names: &[u8], atom: usize
 
 // Writes what a digit adds for an atom: 0 nothing, 1 a fact, 2 an assumption.
 fn put_abducible(out: &mut [u8], at: usize, names: &[u8], atom: usize, digit: u64) -> usize
-    requires { ⌜ (16 * atom + 16 ≤ length (now names)) × Room (spaced (withAbducible digit (nameIn (now names) atom) [])) at ⌝ }
+    requires { ⌜ (16 * atom + 16 ≤ length (now names))
+        × Room (spaced (withAbducible digit (nameIn (now names) atom) [])) at ⌝ }
     ensures { λ r. ⌜ Writes (spaced (withAbducible digit (nameIn (now (names .entry)) atom) [])) (now (out .entry)) at r
         (now (out .exit)) ⌝ }
 {
@@ -81,7 +85,8 @@ fn put_abducible(out: &mut [u8], at: usize, names: &[u8], atom: usize, digit: u6
 fn put_abducibles(out: &mut [u8], at: usize, names: &[u8], causes: u64, setting: u64) -> usize
     requires { ⌜ (1024 ≤ length (now names))
         × Room (spaced (abducibles (nameIn (now names)) (atomsIn causes) (digitsOf causes setting))) at ⌝ }
-    ensures { λ r. ⌜ Writes (spaced (abducibles (nameIn (now (names .entry))) (atomsIn causes) (digitsOf causes setting)))
+    ensures { λ r. ⌜ Writes (spaced (abducibles (nameIn (now (names .entry))) (atomsIn causes) (digitsOf causes
+        setting)))
         (now (out .entry)) at r (now (out .exit)) ⌝ }
 {
     let mut place = at;
@@ -100,7 +105,8 @@ fn put_abducibles(out: &mut [u8], at: usize, names: &[u8], causes: u64, setting:
 // Writes the line of a setting.
 fn cause_line(out: &mut [u8], at: usize, names: &[u8], causes: u64, setting: u64) -> usize
     requires { ⌜ (1024 ≤ length (now names)) × Room (causeLine (nameIn (now names)) causes setting) at ⌝ }
-    ensures { λ r. ⌜ Writes (causeLine (nameIn (now (names .entry))) causes setting) (now (out .entry)) at r (now (out .exit)) ⌝ }
+    ensures { λ r. ⌜ Writes (causeLine (nameIn (now (names .entry))) causes setting) (now (out .entry)) at r
+        (now (out .exit)) ⌝ }
 {
     let first = put_text(out, at, b"(cause");
     let end = put_abducibles(out, first, names, causes, setting);
@@ -118,7 +124,8 @@ fn cause_lines(
 ) -> usize
     requires { ⌜ (1024 ≤ length (now names)) × (n ≤ length (now list))
         × Room (causeLines (nameIn (now names)) causes (take n (now list))) at ⌝ }
-    ensures { λ r. ⌜ Writes (causeLines (nameIn (now (names .entry))) causes (take n (now (list .entry)))) (now (out .entry)) at r
+    ensures { λ r. ⌜ Writes (causeLines (nameIn (now (names .entry))) causes (take n (now (list .entry))))
+        (now (out .entry)) at r
         (now (out .exit)) ⌝ }
 {
     let mut place = at;
@@ -144,7 +151,8 @@ pub fn answer_text(
 ) -> usize
     requires { ⌜ (1024 ≤ length (now names)) × (n ≤ length (now list))
         × Room (answerText (nameIn (now names)) causes verdict rounds minimal (take n (now list))) 0 ⌝ }
-    ensures { λ r. ⌜ Writes (answerText (nameIn (now (names .entry))) causes verdict rounds minimal (take n (now (list .entry))))
+    ensures { λ r. ⌜ Writes (answerText (nameIn (now (names .entry))) causes verdict rounds minimal (take n
+        (now (list .entry))))
         (now (out .entry)) 0 r (now (out .exit)) ⌝ }
 {
     let second = verdict_line(out, 0, verdict);

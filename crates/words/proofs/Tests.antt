@@ -1,4 +1,5 @@
--- Bools as tests: cases on an order, implications between tests, and facts that name no notion of ours. Assumes nothing.
+-- Bools as tests: cases on an order, implications between tests, and facts that name no notion of ours. Assumes
+-- nothing.
 use mathlib.Core.Path.{_≡_, refl, sym, ap, ap₂, _∙_}
 use mathlib.Core.Bool.{Bool, true, false, not, _&&_, _||_, false≢true}
 use mathlib.Core.Logic.{_⊎_, inl, inr}
