@@ -1,7 +1,6 @@
 // Interpretations: which atoms are true and which are false.
 ghost use mathlib.Core.Path.{_≡_};
 ghost use Prim.Native.Nat.{_+_, _<_};
-ghost use Rattle.logic.specs.declared.value.Value.the-variants.{Unknown};
 ghost use Rattle.logic.specs.Value.{greater};
 ghost use Rattle.logic.specs.Formula.{valueOf, literal, body};
 ghost use Rattle.logic.specs.Interpretation.{nothing, valueAt, ofValues, assigned, decidedIn, Disjoint};
@@ -85,24 +84,6 @@ impl Interpretation {
                 trues: self.trues & !bit,
                 falses: self.falses & !bit,
             },
-        }
-    }
-
-    // The interpretation in which an undecided atom gets the value v, and every other keeps its own.
-    pub fn extend(self, atom: u32, v: Value) -> Interpretation
-        requires { ⌜ (atom < 64) × Disjoint self × (valueAt self atom ≡ Unknown) ⌝ }
-        ensures { λ r. ⌜ r ≡ ofValues (assigned (valueAt self) atom v) ⌝ }
-    {
-        match v {
-            Value::True => Interpretation {
-                trues: self.trues | words::single(atom),
-                falses: self.falses,
-            },
-            Value::False => Interpretation {
-                trues: self.trues,
-                falses: self.falses | words::single(atom),
-            },
-            Value::Unknown => self,
         }
     }
 

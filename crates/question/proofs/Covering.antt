@@ -16,7 +16,7 @@ use borrow.Author.Tests.{eqb-true, eqb-false, ne-eqb, not-true}
 use Rattle.words.proofs.Tests.{true-or-false, and-true-l, and-true-r}
 use Rattle.program.specs.Setting.{product}
 use Rattle.question.specs.Subset.{subsetOf, someProper}
-use Rattle.question.specs.Covering.{covers, markedIn, Covered, someDropped}
+use Rattle.question.specs.Covering.{covers, someDropped}
 use Rattle.question.proofs.Subsets.{factor-positive, rest-below, digitWithin, digit-refl, digit-cases}
 use Rattle.question.proofs.Subsets.{subset-digit, subset-rest, subset-refl, subset-trans, subset-le}
 use Rattle.question.proofs.Subsets.{proper-subset, proper-lt, subset-proper, some-proper-at, some-proper-found}
@@ -79,7 +79,7 @@ module _ (c s : ℕ) where
   not-zero e = eqb-false (s % c) 0 (not-true (eqb (s % c) 0) e)
 
 -- only the tests of smaller settings count
-dropped-ext : (q r : ℕ → Bool) (cs : List ℕ) (s : ℕ) → s < product cs → ((t : ℕ) → t < s → q t ≡ r t)
+pub dropped-ext : (q r : ℕ → Bool) (cs : List ℕ) (s : ℕ) → s < product cs → ((t : ℕ) → t < s → q t ≡ r t)
     → someDropped q cs s ≡ someDropped r cs s
 unfolding someDropped product
 dropped-ext q r [] s l e = refl
@@ -224,32 +224,5 @@ module _ (p : ℕ → Bool) (cs : List ℕ) where
         dropped-finds (covers p cs) cs (r .0) s (r .1) l (proper-subset cs (r .0) s (r .2)) (λ e. omega arith)
         (covers-above (r .0) (r .1) (r .3))
 
-    dropped-proper : someDropped (covers p cs) cs s ≡ someProper p cs s
+    pub dropped-proper : someDropped (covers p cs) cs s ≡ someProper p cs s
     dropped-proper = both-ways (someDropped (covers p cs) cs s) (someProper p cs s) dropped-covered covered-dropped
-
-    -- by the bytes of the settings below s
-    pub covered-proper : (bytes : List ℕ) → Covered p cs s bytes
-        → someDropped (markedIn bytes) cs s ≡ someProper p cs s
-    covered-proper bytes h = dropped-ext (markedIn bytes) (covers p cs) cs s l h ∙ dropped-proper
-
-  -- ---- one byte more
-  pub covered-start : (bytes : List ℕ) → Covered p cs 0 bytes
-  covered-start bytes t h = absurd (omega arith)
-
-  -- the byte of s says whether s explains, or a proper subset of it
-  pub covered-more : (s : ℕ) (e l : Bool) (bytes : List ℕ) → s < length bytes → e ≡ p s → l ≡ someProper p cs s
-      → Covered p cs s bytes → Covered p cs (s + 1) (set bytes s (boolByte (e || l)))
-  unfolding covers
-  covered-more s e l bytes m f g h t k =
-      ⊎-elim
-      (λ (q : t ≡ s).
-      ap (markedIn (set bytes s (boolByte (e || l)))) q
-      ∙ ap (λ (x : ℕ). not (eqb x 0)) (getD-set-same bytes s (boolByte (e || l)) 0 m)
-      ∙ byte-marked (e || l) ∙ ap₂ _||_ f g ∙ ap (covers p cs) (sym q))
-      (λ (q : t < s).
-      ap (λ (x : ℕ). not (eqb x 0)) (getD-set-other bytes s t (boolByte (e || l)) 0 (λ r. omega arith)) ∙ h t q)
-      (eq-or-lt-of-le (omega arith))
-    where
-      byte-marked : (b : Bool) → not (eqb (boolByte b) 0) ≡ b
-      byte-marked true = refl
-      byte-marked false = refl

@@ -23,43 +23,9 @@ use Rattle.program.specs.Cause.{atomsFrom, atomsIn}
 use Rattle.program.specs.Setting.{choicesFor, digits, digitOf, additionsOf}
 use Rattle.program.proofs.Settings.{digit-none}
 use Rattle.program.proofs.Sets.{additions-facts-of, additions-assumptions-of}
-use Rattle.touched.specs.Opening.{noAdditions}
+use Rattle.prepared.specs.Opening.{noAdditions}
 use Rattle.question.specs.Covering.{someDropped, weightIn, Weights, Decodes}
 use Rattle.question.proofs.Covering.{and-ext}
-
--- ---- a search among the bits of a word w, of which those of left are to come
-pub record Sought (w : ℕ) (p : ℕ → Bool) (left : ℕ) : Type 0 where
-  pub within : (a : ℕ) → BitOf left a → BitOf w a
-  pub same : any 64 (λ a. has w a && p a) ≡ any 64 (λ a. has left a && p a)
-
-pub sought-start : (w : ℕ) (p : ℕ → Bool) → Sought w p w
-sought-start w p = record { within = λ a b. b; same = refl }
-
-module _ (w : ℕ) (p : ℕ → Bool) (left : ℕ) (f : Sought w p left) where
-  module _ (a : ℕ) (b : BitOf left a) where
-    -- some of the bits behind a passes
-    abbrev later : Bool
-    later = any 64 (λ i. has (withoutBit left a) i && p i)
-
-    pub sought-here : p a ≡ true → true ≡ any 64 (λ i. has w i && p i)
-    sought-here e = sym (f .same ∙ any-without left a b p ∙ ap (λ (t : Bool). later || t) e ∙ or-true later)
-
-    pub sought-next : p a ≡ false → Sought w p (withoutBit left a)
-    sought-next e = record {
-      within = λ i c. f .within i (record { small = c .small; there = kept i c });
-      same = f .same ∙ any-without left a b p ∙ ap (λ (t : Bool). later || t) e ∙ or-false later;
-    }
-      where
-        kept : (i : ℕ) → BitOf (withoutBit left a) i → has left i ≡ true
-        kept i c =
-            sym (without-other left a b i (c .small)
-            (λ q. true≢false (sym (c .there) ∙ ap (has (withoutBit left a)) q ∙ without-here left a b)))
-            ∙ c .there
-
-  pub sought-end : left ≡ 0 → false ≡ any 64 (λ a. has w a && p a)
-  sought-end e =
-      sym (f .same ∙ all-false 64 (λ a. has left a && p a)
-      (λ a l. ap (λ (t : Bool). t && p a) (ap (λ (k : ℕ). has k a) e ∙ has-zero a)))
 
 -- ---- digits
 -- the digit that setting s of the causes l gives to atom b
@@ -247,15 +213,8 @@ module _ (w s : ℕ) (x : Additions) (f : Decodes w s x) where
       abbrev assumptionDropped : Bool
       assumptionDropped = any 64 (λ a. has (x .assumptions) a && q (s - 2 * getD table a 0))
 
-      either-dropped : (factDropped || assumptionDropped) ≡ someDropped q (choicesFor (atomsIn w)) s
+      pub either-dropped : (factDropped || assumptionDropped) ≡ someDropped q (choicesFor (atomsIn w)) s
       either-dropped =
           ap₂ _||_ (weight-any w s 1 (x .facts) table g facts-of facts-bits q)
           (weight-any w s 2 (x .assumptions) table g assumptions-of assumptions-bits q)
           ∙ either-from w 64 0 s q (omega arith)
-
-      pub fact-found : (r : Bool) → r ≡ factDropped → r ≡ true → true ≡ someDropped q (choicesFor (atomsIn w)) s
-      fact-found r e h = ap (λ (t : Bool). t || assumptionDropped) (sym h ∙ e) ∙ either-dropped
-
-      pub no-fact-found : (r u : Bool) → r ≡ factDropped → r ≡ false → u ≡ assumptionDropped
-          → u ≡ someDropped q (choicesFor (atomsIn w)) s
-      no-fact-found r u e h k = k ∙ ap (λ (t : Bool). t || assumptionDropped) (sym h ∙ e) ∙ either-dropped

@@ -1,22 +1,23 @@
-// One walk over all settings in rising order.
+// One walk over all settings in rising order, 64 at a time.
 ghost use mathlib.Core.Path.{_≡_};
-ghost use mathlib.Core.List.{List};
-ghost use Prim.Native.Nat.{ℕ, _+_, _≤_, _<_, min};
+ghost use Prim.Native.Nat.{_+_, _*_, _-_, _≤_, _<_, min};
 ghost use lib.ListN.{length, set};
-ghost use Rattle.question.specs.Judge.{Judge, judgeOf};
-ghost use Rattle.question.specs.Subset.{someProper};
+ghost use Rattle.question.specs.Judge.{judgeOf};
 ghost use Rattle.question.specs.Operation.{choicesIn, settingsIn};
-ghost use Rattle.question.specs.Judging.{AtHand, Tabled, Tells};
-ghost use Rattle.question.specs.Walking.{Walked, Ready};
-use crate::judge::Judged;
-use crate::judge::judge;
-use crate::judge::query_value;
-use crate::subset::some_dropped;
-use crate::subset::weigh;
-use crate::verdict::Verdict;
+ghost use Rattle.question.specs.Judging.{AtHand, Tabled};
+ghost use Rattle.question.specs.Walking.{Walked};
+ghost use Rattle.lanes.specs.Fill.{Even};
+use crate::cover::cover;
+use crate::explain::explaining;
+use crate::lane::visit;
+use lanes::fill::broadcast;
+use lanes::fill::fill;
+use lanes::rounds::run;
 use program::case::Case;
 use program::cause::Additions;
-use touched::opening::Opening;
+use crate::subset::weigh;
+use crate::verdict::Verdict;
+use prepared::opening::Opening;
 
 // What a walk has counted: minimal explanations, those written to the list, rounds, and the verdict over them.
 pub struct Tally {
@@ -27,7 +28,7 @@ pub struct Tally {
 }
 
 // Writes a setting into the first slot of the list's free rest, where it has one; answers how many slots that took.
-fn put(rest: &mut [u16], setting: u16) -> usize
+pub fn put(rest: &mut [u16], setting: u16) -> usize
     ensures { λ r. ⌜ (r ≡ min 1 (length (now (rest .entry))))
         × (now (rest .exit) ≡ set (now (rest .entry)) 0 setting) ⌝ }
 {
@@ -38,46 +39,15 @@ fn put(rest: &mut [u16], setting: u16) -> usize
     0
 }
 
-// Takes what is judged of a setting, and whether a proper subset of it explains, into the tally: marks the setting in
-// the work area, and counts and lists it where it is minimal.
-fn take(
-    c: Case,
-    formula: &[u8],
-    j: Judged,
-    larger: bool,
-    setting: usize,
-    t: Tally,
-    list: &mut [u16],
-    work: &mut [u8],
-) -> Tally
-    requires { ⌜ (c .nodes ≤ 128) × (128 ≤ length (now formula)) × (j .rounds ≤ 64)
-        × Ready setting t (now list) (now work) ⌝ }
-    ensures { λ r. ⌜ ((J : Judge) (cs list₀ work₀ : List ℕ) → Tells J c (now (formula .entry)) setting j
-        → larger ≡ someProper (J .explains) cs setting
-        → Walked J cs list₀ work₀ setting t (now (list .entry)) (now (work .entry))
-        → Walked J cs list₀ work₀ (setting + 1) r (now (list .exit)) (now (work .exit))) ⌝ }
+// How many of the next 64 settings there are, where n are left.
+fn lanes_of(n: usize) -> u32
+    requires { ⌜ 1 ≤ n ⌝ }
+    ensures { λ r. ⌜ r ≡ min 64 n ⌝ }
 {
-    let mut next = t;
-    next.rounds = t.rounds + j.rounds as u64;
-    if !j.explains {
-        work[setting] = 0;
-        return next;
+    if n < 64 {
+        return n as u32;
     }
-    if larger {
-        work[setting] = 1;
-        return next;
-    }
-    work[setting] = 2;
-    let w = t.written;
-    let took = put(&mut list[w..], setting as u16);
-    let verdict = t.verdict;
-    let i = j.interpretation;
-    Tally {
-        minimal: t.minimal + 1,
-        written: w + took,
-        rounds: next.rounds,
-        verdict: verdict.with(query_value(c, formula, i)),
-    }
+    64
 }
 
 // Visits the settings below end in rising order.
@@ -92,14 +62,18 @@ fn visit_all(
     last: &[usize; 64],
     prev: &[usize; 256],
     weights: &[usize; 64],
+    ot: &[u64; 64],
+    of: &[u64; 64],
+    oh: &[u64; 64],
     end: usize,
     list: &mut [u16],
     work: &mut [u8],
-    covered: &mut [u8; 59049],
+    row: &mut [u64; 1848],
 ) -> Tally
     requires { ⌜ Tabled c (now clauses) (now constraints) (now formula) causes opening (now dependents) (now last)
-        (now prev) (now weights) × (end ≡ settingsIn c (now clauses)) × (end ≤ 59049) × (end ≤ length (now work))
-        × (length (now covered) ≡ 59049) ⌝ }
+        (now prev) (now weights) × Even (opening .trues) (now ot) × Even (opening .falses) (now of)
+        × Even (opening .heads) (now oh) × (end ≡ settingsIn c (now clauses)) × (end ≤ 59049)
+        × (end ≤ length (now work)) × (length (now row) ≡ 1848) ⌝ }
     ensures { λ r. ⌜ Walked (judgeOf c (now (clauses .entry)) (now (constraints .entry)) (now (formula .entry)))
         (choicesIn c (now (clauses .entry))) (now (list .entry)) (now (work .entry)) end r (now (list .exit))
         (now (work .exit)) ⌝ }
@@ -110,29 +84,53 @@ fn visit_all(
         rounds: 0,
         verdict: Verdict::Unexplained,
     };
+    let mut rounds: u64 = 0;
     let mut added = Additions {
         facts: 0,
         assumptions: 0,
     };
+    let mut b: usize = 923;
     let mut s: usize = 0;
     while s < end {
-        let j = judge(
-            c,
+        let mut x = [0u64; 64];
+        let mut y = [0u64; 64];
+        let mut tp = [0u64; 64];
+        let mut fp = [0u64; 64];
+        let next = fill(causes, added, &mut x, &mut y);
+        let m = lanes_of(end - s);
+        let sum = run(
             clauses,
-            constraints,
+            c.clauses,
             opening,
             dependents,
             last,
             prev,
-            added,
+            ot,
+            of,
+            oh,
+            causes,
+            s,
+            m,
+            &x,
+            &y,
+            &mut tp,
+            &mut fp,
         );
-        let larger = some_dropped(covered, weights, s, added);
-        t = take(c, formula, j, larger, s, t, list, work);
-        covered[s] = (j.explains | larger) as u8;
-        added = added.next(causes);
-        s += 1;
+        rounds = rounds + sum;
+        let e = explaining(c, constraints, &tp, &fp);
+        let larger = cover(row, b, e, causes, weights, &x, &y);
+        t = visit(c, formula, e, larger, m, &tp, &fp, s, t, list, work);
+        added = next;
+        b += 1;
+        s += 64;
     }
-    t
+    let verdict = t.verdict;
+    Tally {
+        minimal: t.minimal,
+        written: t.written,
+        rounds,
+        verdict,
+    }
 }
 
 // Walks over the settings below end, with the tables for settling prepared once.
@@ -157,8 +155,11 @@ pub fn walk(
     let mut last = [0usize; 64];
     let mut prev = [0usize; 256];
     let mut weights = [0usize; 64];
-    let mut covered = [0u8; 59049];
-    let opening = touched::prepared::prepare(
+    let mut ot = [0u64; 64];
+    let mut of = [0u64; 64];
+    let mut oh = [0u64; 64];
+    let mut row = [0u64; 1848];
+    let opening = prepared::tables::prepare(
         clauses,
         c.clauses,
         heads,
@@ -167,6 +168,9 @@ pub fn walk(
         &mut prev,
     );
     weigh(causes, &mut weights);
+    broadcast(opening.trues, &mut ot);
+    broadcast(opening.falses, &mut of);
+    broadcast(opening.heads, &mut oh);
     visit_all(
         c,
         clauses,
@@ -178,9 +182,12 @@ pub fn walk(
         &last,
         &prev,
         &weights,
+        &ot,
+        &of,
+        &oh,
         end,
         list,
         work,
-        &mut covered,
+        &mut row,
     )
 }

@@ -1,0 +1,87 @@
+-- meets its contract. Assumes nothing.
+use Prim.Native.Nat.{_-_}
+use Rattle.program.specs.Case.{headAt}
+use Rattle.prepared.proofs.Along.{last-le}
+use Rattle.lanes.proofs.Joining.{Ruling, ruling-start, ruling-next, ruling-end}
+use native.Mathlib.Omega.{arith}
+use borrow.Author.Needs.{needs}
+use Rattle.lanes.proofs.plane.rules.Statement.{statement}
+use Rattle.lanes.proofs.plane.rules.Tie as tie
+
+abbrev Inv-loop : tie.InvT-loop
+Inv-loop clauses n prev head from t f up₀ down₀ k₀ up down k = Ruling clauses head n t f up down k
+
+abbrev μ-loop : tie.MeasureT-loop
+μ-loop clauses n prev head from t f up₀ down₀ k₀ up down k = k
+
+loop-holds : tie.Need-loop-holds Inv-loop μ-loop
+loop-holds c = ruling-start _ _ _ _ _ _ (c .before .pre .2)
+
+sub-rule : tie.Need-sub-rule Inv-loop μ-loop
+sub-rule c = search needs
+
+mul-at : tie.Need-mul-at Inv-loop μ-loop
+mul-at c = search needs
+
+add-body : tie.Need-add-body Inv-loop μ-loop
+add-body c = search needs
+
+mul-body : tie.Need-mul-body Inv-loop μ-loop
+mul-body c = search needs
+
+shared-slice-read-body : tie.Need-shared-slice-read-body Inv-loop μ-loop
+shared-slice-read-body c = search needs
+
+add-body-2 : tie.Need-add-body-2 Inv-loop μ-loop
+add-body-2 c = search needs
+
+mul-body-2 : tie.Need-mul-body-2 Inv-loop μ-loop
+mul-body-2 c = search needs
+
+shared-slice-read-body-2 : tie.Need-shared-slice-read-body-2 Inv-loop μ-loop
+shared-slice-read-body-2 c = search needs
+
+body-requires : tie.Need-body-requires Inv-loop μ-loop
+body-requires c κs = c .before .before .before .before .before .pre .4
+
+mul-k : tie.Need-mul-k Inv-loop μ-loop
+mul-k c = search needs
+
+element-copy-out-k : tie.Need-element-copy-out-k Inv-loop μ-loop
+element-copy-out-k c = search needs
+
+loop-less : tie.Need-loop-less Inv-loop μ-loop
+loop-less c =     let k = c .before .before .before .before .before .before .before .loop .k - 1 in
+    let b = c .before .before .before .before .before .before .before .before .before in
+    let cl = b .args .clauses .now in
+    omega (arith, last-le cl (headAt cl k) k, b .pre .3 k (omega arith))
+
+loop-again : tie.Need-loop-again Inv-loop μ-loop
+loop-again c =     let k = c .before .before .before .before .before .before .before .loop .k - 1 in
+    ruling-next _ _ _ _ _ _ _ _ _ _ (c .before .before .before .before .before .before .before .loop .inv) k (omega arith) (c .before .before .before .body .ensures)
+    (c .before .before .before .before .before .before .before .before .before .pre .3 k (omega arith))
+
+returns : tie.Need-returns Inv-loop μ-loop
+returns c = ruling-end _ _ _ _ _ _ _ _ (c .before .loop .inv) (c .loop-test .left)
+
+pub rules-spec : {M : Type 1} → statement M
+rules-spec =
+    tie.close
+    (tie.spec
+    Inv-loop
+    μ-loop
+    loop-holds
+    sub-rule
+    mul-at
+    add-body
+    mul-body
+    shared-slice-read-body
+    add-body-2
+    mul-body-2
+    shared-slice-read-body-2
+    body-requires
+    mul-k
+    element-copy-out-k
+    loop-less
+    loop-again
+    returns)

@@ -1,0 +1,55 @@
+// Settling 64 settings: rounds until no lane changes.
+ghost use mathlib.Core.Path.{_≡_};
+ghost use Prim.Native.Nat.{_*_, _≤_};
+ghost use lib.ListN.{length};
+ghost use Rattle.prepared.specs.Opening.{openingOf};
+ghost use Rattle.prepared.specs.Prepared.{Prepared};
+ghost use Rattle.lanes.specs.Planes.{Sizes};
+ghost use Rattle.lanes.specs.Fill.{Even, Filled};
+ghost use Rattle.lanes.specs.Rounds.{addsAt, Settles};
+use crate::fill::begin;
+use crate::redo::redo;
+use prepared::dependent::touched;
+use prepared::opening::Opening;
+
+// Settles the 64 settings from first on, in lanes; answers the sum of the round counts of the first m of them.
+// first and causes say which settings x and y are filled with.
+pub fn run(
+    clauses: &[u64],
+    n: usize,
+    opening: Opening,
+    dependents: &[u64; 64],
+    last: &[usize; 64],
+    prev: &[usize; 256],
+    ot: &[u64; 64],
+    of: &[u64; 64],
+    oh: &[u64; 64],
+    causes: u64,
+    first: usize,
+    m: u32,
+    x: &[u64; 64],
+    y: &[u64; 64],
+    t: &mut [u64; 64],
+    f: &mut [u64; 64],
+) -> u64
+    requires { ⌜ Prepared (now clauses) n opening (now dependents) (now last) (now prev)
+        × Even (opening .trues) (now ot) × Even (opening .falses) (now of) × Even (opening .heads) (now oh)
+        × Filled causes first (now x) (now y) × (1 ≤ m) × (m ≤ 64) × Sizes (now t) (now f) ⌝ }
+    ensures { λ r. ⌜ Settles (now (clauses .entry)) n (addsAt causes first) m (now (t .exit)) (now (f .exit)) r ⌝ }
+{
+    let mut ut = [0u64; 64];
+    let mut uf = [0u64; 64];
+    let valid = words::lowest(m);
+    let mut c = begin(ot, of, oh, x, y, t, f);
+    let mut total: u64 = 0;
+    let mut k: u32 = 0;
+    loop {
+        if c.lanes == 0 {
+            break total;
+        }
+        total = total + words::count(c.lanes & valid) as u64;
+        let heads = touched(dependents, c.atoms);
+        c = redo(heads, clauses, n, last, prev, t, f, &mut ut, &mut uf);
+        k += 1;
+    }
+}
