@@ -2,22 +2,22 @@
 ghost use mathlib.Core.Path.{_≡_};
 ghost use Prim.Native.Nat.{_+_, _*_, _-_, _≤_, _<_, min};
 ghost use lib.ListN.{length, set};
-ghost use Rattle.question.specs.Judge.{judgeOf};
+ghost use Rattle.explanation.specs.Judge.{judgeOf};
 ghost use Rattle.question.specs.Operation.{choicesIn, settingsIn};
 ghost use Rattle.question.specs.Judging.{AtHand, Tabled};
 ghost use Rattle.question.specs.Walking.{Walked};
 ghost use Rattle.lanes.specs.Fill.{Even};
-use crate::cover::cover;
-use crate::explain::explaining;
 use crate::lane::visit;
+use crate::verdict::Verdict;
+use explanation::cover::cover;
+use explanation::explain::explaining;
+use explanation::weights::weigh;
 use lanes::fill::broadcast;
 use lanes::fill::fill;
 use lanes::rounds::run;
+use prepared::opening::Opening;
 use program::case::Case;
 use program::cause::Additions;
-use crate::subset::weigh;
-use crate::verdict::Verdict;
-use prepared::opening::Opening;
 
 // What a walk has counted: minimal explanations, those written to the list, rounds, and the verdict over them.
 pub struct Tally {

@@ -10,8 +10,8 @@ use Rattle.program.specs.Setting.{choicesFor, product, digits, digitOf, setting
 use Rattle.program.specs.Sound.{fewCauses}
 use Rattle.settle.specs.Step.{bodiesOf, someTrue, allFalse, nextValue, step}
 use Rattle.settle.specs.Rounds.{rounds, roundCount, settled}
-use Rattle.question.specs.Explanation.{observedTrue, noneBroken, explainsUnder, setExplains}
-use Rattle.question.specs.Subset.{subsetOf, properOf, someProper, minimal}
+use Rattle.explanation.specs.Explanation.{observedTrue, noneBroken, explainsUnder, setExplains}
+use Rattle.explanation.specs.Subset.{subsetOf, properOf, someProper, minimal}
 use Rattle.question.specs.Walk.{minimalsBelow, roundsBelow, trueInAll, falseInAll, verdictOf}
 use Rattle.text.specs.Bytes.{isWordByte, isAllowed, allOf, sameBytes}
 use Rattle.text.specs.Lines.{linesFrom, isComment}

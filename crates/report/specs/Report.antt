@@ -15,7 +15,7 @@ use lib.ListN.{length, getD, take}
 use Rattle.table.specs.Filled.{padded}
 use Rattle.program.specs.Cause.{causesOf}
 use Rattle.question.specs.declared.verdict.Verdict.{Verdict}
-use Rattle.question.specs.Judge.{Judge, judgeOf}
+use Rattle.explanation.specs.Judge.{Judge, judgeOf}
 use Rattle.question.specs.Walk.{roundsBelow, verdictOf}
 use Rattle.question.specs.Operation.{settingsIn, minimalsIn}
 use Rattle.store.specs.Saying.{Said}

@@ -1,0 +1,66 @@
+-- Which lanes explain: the constraints one by one. Assumes nothing.
+use mathlib.Core.Path.{_≡_, refl, sym, ap, ap₂, _∙_}
+use mathlib.Core.Bool.{Bool, true, false, not, _&&_, and-true}
+use mathlib.Core.List.{List}
+use Prim.Native.Nat.{ℕ, suc, _+_, _-_, _^_, _≤_, _<_}
+use native.Mathlib.Numerals.{add-one}
+use native.Mathlib.Omega.{arith}
+use lib.Bits.{bitAnd}
+use Rattle.words.specs.Below.{every}
+use Rattle.words.specs.Bits.{has}
+use Rattle.words.proofs.Bits.{has-and, has-not}
+use Rattle.logic.specs.declared.value.Value.{Value}
+use Rattle.logic.specs.Value.{isTrue}
+use Rattle.logic.specs.Formula.{valueOf, body}
+use Rattle.logic.specs.Interpretation.{valueAt}
+use Rattle.program.specs.declared.case.Case.{Case}
+use Rattle.program.specs.Case.{forbidden, forbiddenNot}
+use Rattle.explanation.specs.Explanation.{observedTrue, noneBroken, explainsUnder}
+use Rattle.lanes.specs.declared.plane.Lanes.{Lanes}
+use Rattle.lanes.specs.Planes.{column, Worth}
+
+pub lacking-bits : (w v : ℕ) → v < 2 ^ 64 → (j : ℕ) → j < 64
+    → has (bitAnd w (2 ^ 64 - 1 - v)) j ≡ (has w j && not (has v j))
+lacking-bits w v h j l = has-and w (2 ^ 64 - 1 - v) j ∙ ap (λ (t : Bool). has w j && t) (has-not 64 v j h l)
+
+-- the body of constraint k isn't true under v
+abbrev pub unbroken : List ℕ → (ℕ → Value) → ℕ → Bool
+unbroken co v k = not (isTrue (valueOf v (body (forbidden co k) (forbiddenNot co k))))
+
+-- k constraints are passed
+pub record Passing (w : ℕ) (co t f : List ℕ) (n ok k : ℕ) : Type 0 where
+  pub low : k ≤ n
+  pub lanes-are : (j : ℕ) → j < 64 → has ok j ≡ (has w j && every k (unbroken co (valueAt (column t f j))))
+
+module _ (w : ℕ) (co t f : List ℕ) (n : ℕ) where
+  pub passing-start : Passing w co t f n w 0
+  passing-start = record { low = omega arith; lanes-are = λ j l. sym (and-true (has w j)) }
+
+  pub passing-next : (ok k ok₁ : ℕ) (v : Lanes) → Passing w co t f n ok k → k < n
+      → Worth v (λ j. valueOf (valueAt (column t f j)) (body (forbidden co k) (forbiddenNot co k)))
+      → ((j : ℕ) → j < 64 → has ok₁ j ≡ (has ok j && not (has (v .trues) j))) → Passing w co t f n ok₁ (k + 1)
+  passing-next ok k ok₁ v p m h q = record {
+    low = omega arith;
+    lanes-are = λ j l. q j l
+        ∙ ap₂ (λ (s u : Bool). s && not u) (p .lanes-are j l) (h j l .is-true)
+        ∙ assoc (has w j) (every k (unbroken co (valueAt (column t f j)))) _
+        ∙ ap (λ (i : ℕ). has w j && every i (unbroken co (valueAt (column t f j)))) (sym (add-one k));
+  }
+    where
+      assoc : (x y z : Bool) → ((x && y) && z) ≡ (x && (y && z))
+      assoc true y z = refl
+      assoc false y z = refl
+
+  pub passing-end : (ok k : ℕ) → Passing w co t f n ok k → k ≡ n
+      → (j : ℕ) → j < 64 → has ok j ≡ (has w j && noneBroken co n (valueAt (column t f j)))
+  unfolding noneBroken
+  passing-end ok k p e j l =
+      p .lanes-are j l ∙ ap (λ (i : ℕ). has w j && every i (unbroken co (valueAt (column t f j)))) e
+
+pub explaining-is : (c : Case) (co t f : List ℕ) (r : ℕ) (v : Lanes)
+    → Worth v (λ j. valueOf (valueAt (column t f j)) (body (c .plain) (c .negated)))
+    → ((j : ℕ) → j < 64 → has r j ≡ (has (v .trues) j && noneBroken co (c .constraints) (valueAt (column t f j))))
+    → (j : ℕ) → j < 64 → has r j ≡ explainsUnder c co (valueAt (column t f j))
+unfolding explainsUnder observedTrue
+explaining-is c co t f r v h q j l =
+    q j l ∙ ap (λ (s : Bool). s && noneBroken co (c .constraints) (valueAt (column t f j))) (h j l .is-true)

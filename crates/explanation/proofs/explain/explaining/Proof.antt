@@ -1,0 +1,18 @@
+-- meets its contract. Assumes nothing.
+use Rattle.explanation.proofs.Explaining.{explaining-is}
+use borrow.Author.Needs.{needs}
+use borrow.Author.Needs.{needs}
+use Rattle.explanation.proofs.explain.explaining.Statement.{statement}
+use Rattle.explanation.proofs.explain.explaining.Tie as tie
+
+body-requires : tie.Need-body-requires
+body-requires c κs = search needs
+
+unbroken-requires : tie.Need-unbroken-requires
+unbroken-requires c κs = search needs
+
+returns : tie.Need-returns
+returns c = explaining-is _ _ (c .before .before .before .args .t .now) (c .before .before .before .args .f .now) _ _ (c .before .body .ensures) (c .unbroken .ensures)
+
+pub explaining-spec : {M : Type 1} → statement M
+explaining-spec = tie.close (tie.spec body-requires unbroken-requires returns)

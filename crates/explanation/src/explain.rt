@@ -1,0 +1,45 @@
+// Which of 64 settings explain the readings.
+ghost use mathlib.Core.Path.{_≡_};
+ghost use mathlib.Core.Bool.{not, _&&_};
+ghost use Prim.Native.Nat.{ℕ, _*_, _≤_, _<_};
+ghost use lib.ListN.{length};
+ghost use Rattle.words.specs.Bits.{has};
+ghost use Rattle.logic.specs.Interpretation.{valueAt};
+ghost use Rattle.lanes.specs.Planes.{column, Planes};
+ghost use Rattle.explanation.specs.Explanation.{noneBroken, explainsUnder};
+use lanes::plane::body;
+use program::case::Case;
+
+// The lanes of w that are none of v.
+fn lacking(w: u64, v: u64) -> u64
+    ensures { λ r. ⌜ ((j : ℕ) → j < 64 → has r j ≡ (has w j && not (has v j))) ⌝ }
+{
+    w & !v
+}
+
+// The lanes of w in which no body of the first n constraints is true.
+fn unbroken(w: u64, constraints: &[u64], n: usize, t: &[u64; 64], f: &[u64; 64]) -> u64
+    requires { ⌜ Planes (now t) (now f) × (n ≤ 32) × (2 * n ≤ length (now constraints)) ⌝ }
+    ensures { λ r. ⌜ ((j : ℕ) → j < 64 → has r j
+        ≡ (has w j && noneBroken (now (constraints .entry)) n (valueAt (column (now (t .entry)) (now (f .entry)) j)))) ⌝ }
+{
+    let mut ok = w;
+    let mut k = 0;
+    while k < n {
+        let at = 2 * k;
+        let b = body(constraints[at], constraints[at + 1], t, f);
+        ok = lacking(ok, b.trues);
+        k += 1;
+    }
+    ok
+}
+
+// The lanes in which every observation is true and no constraint's body.
+pub fn explaining(c: Case, constraints: &[u64], t: &[u64; 64], f: &[u64; 64]) -> u64
+    requires { ⌜ Planes (now t) (now f) × (c .constraints ≤ 32) × (64 ≤ length (now constraints)) ⌝ }
+    ensures { λ r. ⌜ ((j : ℕ) → j < 64 → has r j
+        ≡ explainsUnder c (now (constraints .entry)) (valueAt (column (now (t .entry)) (now (f .entry)) j))) ⌝ }
+{
+    let seen = body(c.plain, c.negated, t, f);
+    unbroken(seen.trues, constraints, c.constraints, t, f)
+}
