@@ -1,5 +1,5 @@
--- Laws of covered settings: a proper subset passes a test exactly where a setting with one digit dropped is covered;
--- and of the bytes that say which of the settings below one are covered. Assumes nothing.
+-- Laws of covered settings: a proper subset passes a test exactly where a setting with one digit dropped is covered.
+-- Assumes nothing.
 use mathlib.Core.Path.{_≡_, refl, sym, ap, ap₂, subst, _∙_}
 use mathlib.Core.Bool.{Bool, true, false, not, _&&_, _||_, or-true, false≢true}
 use mathlib.Core.List.{List, [], _∷_}
@@ -9,17 +9,15 @@ use native.Mathlib.Nat.{div-add-mod, mul-comm, mul-lt-mul-of-pos-left, mod-lt, e
 use native.Mathlib.Omega.{arith}
 use lib.Arith.{digits-lt, digits-div, digits-mod}
 use lib.Dec.{eqb}
-use lib.ListN.{length, set}
-use lib.Seq.{getD-set-same, getD-set-other}
-use mir.Val.{boolByte}
 use borrow.Author.Tests.{eqb-true, eqb-false, ne-eqb, not-true}
-use Rattle.words.proofs.Tests.{true-or-false, and-true-l, and-true-r}
+use Rattle.words.proofs.Tests.{true-or-false, Gives, or-gives, and-true-l, and-true-r}
 use Rattle.program.specs.Setting.{product}
 use Rattle.explanation.specs.Subset.{subsetOf, someProper}
 use Rattle.explanation.specs.Covering.{covers, someDropped}
 use Rattle.explanation.proofs.Subsets.{factor-positive, rest-below, digitWithin, digit-refl, digit-cases}
 use Rattle.explanation.proofs.Subsets.{subset-digit, subset-rest, subset-refl, subset-trans, subset-le}
-use Rattle.explanation.proofs.Subsets.{proper-subset, proper-lt, subset-proper, some-proper-at, some-proper-found}
+use Rattle.explanation.proofs.Subsets.{proper-subset, proper-lt, subset-proper}
+use Rattle.explanation.proofs.Subsets.{some-proper-at, some-proper-found}
 
 or-cases : (a b : Bool) → (a || b) ≡ true → (a ≡ true) ⊎ (b ≡ true)
 or-cases true b h = inl refl
@@ -28,6 +26,11 @@ or-cases false b h = inr h
 pub and-ext : (b : Bool) {x y : Bool} → (b ≡ true → x ≡ y) → (b && x) ≡ (b && y)
 and-ext true h = h refl
 and-ext false h = refl
+
+-- a test after b gives another where b holds
+and-given : (b : Bool) {x y : Bool} → (b ≡ true → Gives x y) → Gives (b && x) (b && y)
+and-given true h = h refl
+and-given false h = λ z. z
 
 -- two tests that each make the other pass are the same
 both-ways : (a b : Bool) → (a ≡ true → b ≡ true) → (b ≡ true → a ≡ true) → a ≡ b
@@ -78,17 +81,25 @@ module _ (c s : ℕ) where
   not-zero : not (eqb (s % c) 0) ≡ true → s % c ≡ 0 → ⊥
   not-zero e = eqb-false (s % c) 0 (not-true (eqb (s % c) 0) e)
 
--- only the tests of smaller settings count
+-- only the tests of smaller settings count: where one gives the other there, so it does for the settings that lack one
+-- digit
+pub dropped-gives : (q r : ℕ → Bool) (cs : List ℕ) (s : ℕ) → s < product cs
+    → ((t : ℕ) → t < s → Gives (q t) (r t)) → Gives (someDropped q cs s) (someDropped r cs s)
+unfolding someDropped product
+dropped-gives q r [] s l e = λ h. h
+dropped-gives q r (c ∷ cs) s l e =
+    let pos = factor-positive c (product cs) (omega arith) in
+    or-gives {a = not (eqb (s % c) 0) && q (c * (s / c))} {b = not (eqb (s % c) 0) && r (c * (s / c))}
+    (and-given (not (eqb (s % c) 0)) (λ z. e (c * (s / c)) (lowest-less c s (not-zero c s z))))
+    (dropped-gives (λ t. q (s % c + c * t)) (λ t. r (s % c + c * t)) cs (s / c) (rest-below c s (product cs) l)
+    (λ t h. e (s % c + c * t) (other-less c s pos t h)))
+
 pub dropped-ext : (q r : ℕ → Bool) (cs : List ℕ) (s : ℕ) → s < product cs → ((t : ℕ) → t < s → q t ≡ r t)
     → someDropped q cs s ≡ someDropped r cs s
-unfolding someDropped product
-dropped-ext q r [] s l e = refl
-dropped-ext q r (c ∷ cs) s l e =
-    let pos = factor-positive c (product cs) (omega arith) in
-    ap₂ _||_
-    (and-ext (not (eqb (s % c) 0)) (λ z. e (c * (s / c)) (lowest-less c s (not-zero c s z))))
-    (dropped-ext (λ t. q (s % c + c * t)) (λ t. r (s % c + c * t)) cs (s / c) (rest-below c s (product cs) l)
-    (λ t h. e (s % c + c * t) (other-less c s pos t h)))
+dropped-ext q r cs s l e =
+    both-ways (someDropped q cs s) (someDropped r cs s)
+    (dropped-gives q r cs s l (λ t h z. sym (e t h) ∙ z))
+    (dropped-gives r q cs s l (λ t h z. e t h ∙ z))
 
 -- ---- what is found where one of them passes a test
 record Dropped (q : ℕ → Bool) (cs : List ℕ) (s : ℕ) : Type 0 where
@@ -162,6 +173,18 @@ module _ (q : ℕ → Bool) (c : ℕ) (cs : List ℕ) (u s : ℕ) (l : s < c * p
       a (s % c + c * t) (digits-below c (s % c) t low (product cs) m)
       (digits-subset c (s % c) t low cs u (ap (λ (x : ℕ). digitWithin x (s % c)) e ∙ digit-refl (s % c)) h)
 
+  -- u lacks the lowest digit of s, or has the same
+  either-finds : HoldsAbove q (c ∷ cs) u → subsetOf (c ∷ cs) u s ≡ true
+      → (u % c ≡ s % c → someDropped q (c ∷ cs) s ≡ true) → someDropped q (c ∷ cs) s ≡ true
+  either-finds a h same =
+      ⊎-elim
+      (λ (z : u % c ≡ 0). ⊎-elim
+      (λ (e : eqb (s % c) 0 ≡ true). same (z ∙ sym (eqb-true (s % c) 0 e)))
+      (λ (e : eqb (s % c) 0 ≡ false). lowest-finds a (subset-rest c cs u s h) z (eqb-false (s % c) 0 e))
+      (true-or-false (eqb (s % c) 0)))
+      (λ z. same (z .0))
+      (digit-cases (u % c) (s % c) (subset-digit c cs u s h))
+
   rest-apart : (u ≡ s → ⊥) → u % c ≡ s % c → u / c ≡ s / c → ⊥
   rest-apart n e f = n (sym (div-add-mod u c) ∙ ap₂ (λ (x y : ℕ). c * x + y) f e ∙ div-add-mod s c)
 
@@ -170,18 +193,10 @@ dropped-finds : (q : ℕ → Bool) (cs : List ℕ) (u s : ℕ) → u < product c
 unfolding product
 dropped-finds q [] u s k l h n a = absurd (n (omega arith))
 dropped-finds q (c ∷ cs) u s k l h n a =
-    let rest = subset-rest c cs u s h in
-    let same : u % c ≡ s % c → someDropped q (c ∷ cs) s ≡ true =
-    λ e. other-finds q c cs u s l
+    either-finds q c cs u s l a h (λ e. other-finds q c cs u s l
     (dropped-finds (λ t. q (s % c + c * t)) cs (u / c) (s / c) (rest-below c u (product cs) k)
-    (rest-below c s (product cs) l) rest (rest-apart q c cs u s l n e) (rest-above q c cs u s l a e)) in
-    ⊎-elim
-    (λ (z : u % c ≡ 0). ⊎-elim
-    (λ (e : eqb (s % c) 0 ≡ true). same (z ∙ sym (eqb-true (s % c) 0 e)))
-    (λ (e : eqb (s % c) 0 ≡ false). lowest-finds q c cs u s l a rest z (eqb-false (s % c) 0 e))
-    (true-or-false (eqb (s % c) 0)))
-    (λ z. same (z .0))
-    (digit-cases (u % c) (s % c) (subset-digit c cs u s h))
+    (rest-below c s (product cs) l) (subset-rest c cs u s h) (rest-apart q c cs u s l n e)
+    (rest-above q c cs u s l a e)))
 
 -- ---- covered settings
 module _ (p : ℕ → Bool) (cs : List ℕ) where

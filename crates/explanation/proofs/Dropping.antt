@@ -2,7 +2,7 @@
 -- digit are the setting less a cause's digit times its weight, for the causes that get a fact and those that get an
 -- assumption. Assumes nothing.
 use mathlib.Core.Path.{_≡_, refl, sym, ap, ap₂, _∙_}
-use mathlib.Core.Bool.{Bool, true, false, not, _&&_, _||_, and-true, and-false, or-true, or-false, true≢false}
+use mathlib.Core.Bool.{Bool, true, false, not, _&&_, _||_, and-true, and-false, or-false}
 use mathlib.Core.List.{List, [], _∷_}
 use Prim.Native.Nat.{ℕ, zero, suc, _+_, _-_, _*_, _/_, _%_, _≤_, _<_}
 use native.Mathlib.Nat.{mul-left-comm, mul-one}
@@ -13,11 +13,10 @@ use lib.Pow.{pow-pos}
 use borrow.Author.Tests.{eqb-true}
 use Rattle.words.specs.Choice.{pick, consIf}
 use Rattle.words.specs.Below.{any}
-use Rattle.words.specs.Bits.{has, word, withoutBit, BitOf}
+use Rattle.words.specs.Bits.{has, word, BitOf}
 use Rattle.words.proofs.Below.{any-ext, any-or, any-at, all-false}
 use Rattle.words.proofs.Bits.{has-zero}
 use Rattle.words.proofs.Words.{has-word, is-word}
-use Rattle.words.proofs.BitWalks.{without-here, without-other, any-without}
 use Rattle.program.specs.declared.cause.Additions.{Additions}
 use Rattle.program.specs.Cause.{atomsFrom, atomsIn}
 use Rattle.program.specs.Setting.{choicesFor, digits, digitOf, additionsOf}
@@ -26,6 +25,15 @@ use Rattle.program.proofs.Sets.{additions-facts-of, additions-assumptions-of}
 use Rattle.prepared.specs.Opening.{noAdditions}
 use Rattle.explanation.specs.Covering.{someDropped, weightIn, Weights, Decodes}
 use Rattle.explanation.proofs.Covering.{and-ext}
+
+turn : (a b c d : Bool) → ((a || b) || (c || d)) ≡ ((b || d) || (a || c))
+turn true true c d = refl
+turn true false c true = refl
+turn true false c false = refl
+turn false true c d = refl
+turn false false true true = refl
+turn false false true false = refl
+turn false false false d = sym (or-false d)
 
 -- ---- digits
 -- the digit that setting s of the causes l gives to atom b
@@ -132,15 +140,6 @@ module _ (q : ℕ → Bool) (a : ℕ) (l : List ℕ) (s : ℕ) (small : a < 64) 
       ap₂ _||_ (some-cons 1 refl) (some-cons 2 refl)
       ∙ turn (someDrop (onRest q s) l (s / 3) 1) (lowestIs 1) (someDrop (onRest q s) l (s / 3) 2) (lowestIs 2)
       ∙ ap₂ _||_ lowest-either ih
-    where
-      turn : (a b c d : Bool) → ((a || b) || (c || d)) ≡ ((b || d) || (a || c))
-      turn true true c d = refl
-      turn true false c true = refl
-      turn true false c false = refl
-      turn false true c d = refl
-      turn false false true true = refl
-      turn false false true false = refl
-      turn false false false d = sym (or-false d)
 
 -- of the causes of w among the n atoms from a on
 either-from : (w n a s : ℕ) (q : ℕ → Bool) → a + n ≤ 64

@@ -1,8 +1,8 @@
--- Which lanes explain: the constraints one by one. Assumes nothing.
+-- Which lanes explain: those of the true observations, the constraints taken one by one. Assumes nothing.
 use mathlib.Core.Path.{_≡_, refl, sym, ap, ap₂, _∙_}
 use mathlib.Core.Bool.{Bool, true, false, not, _&&_, and-true}
 use mathlib.Core.List.{List}
-use Prim.Native.Nat.{ℕ, suc, _+_, _-_, _^_, _≤_, _<_}
+use Prim.Native.Nat.{ℕ, _+_, _-_, _^_, _≤_, _<_}
 use native.Mathlib.Numerals.{add-one}
 use native.Mathlib.Omega.{arith}
 use lib.Bits.{bitAnd}
@@ -14,10 +14,11 @@ use Rattle.logic.specs.Value.{isTrue}
 use Rattle.logic.specs.Formula.{valueOf, body}
 use Rattle.logic.specs.Interpretation.{valueAt}
 use Rattle.program.specs.declared.case.Case.{Case}
+use Rattle.program.specs.declared.cause.Additions.{Additions}
 use Rattle.program.specs.Case.{forbidden, forbiddenNot}
-use Rattle.explanation.specs.Explanation.{observedTrue, noneBroken, explainsUnder}
 use Rattle.lanes.specs.declared.plane.Lanes.{Lanes}
 use Rattle.lanes.specs.Planes.{column, Worth}
+use Rattle.explanation.specs.Explanation.{observedTrue, noneBroken, explainsUnder, settledWith, setExplains}
 
 pub lacking-bits : (w v : ℕ) → v < 2 ^ 64 → (j : ℕ) → j < 64
     → has (bitAnd w (2 ^ 64 - 1 - v)) j ≡ (has w j && not (has v j))
@@ -27,7 +28,8 @@ lacking-bits w v h j l = has-and w (2 ^ 64 - 1 - v) j ∙ ap (λ (t : Bool). has
 abbrev pub unbroken : List ℕ → (ℕ → Value) → ℕ → Bool
 unbroken co v k = not (isTrue (valueOf v (body (forbidden co k) (forbiddenNot co k))))
 
--- k constraints are passed
+-- ---- the constraints one by one
+-- ok has the lanes of w in which the first k aren't broken
 pub record Passing (w : ℕ) (co t f : List ℕ) (n ok k : ℕ) : Type 0 where
   pub low : k ≤ n
   pub lanes-are : (j : ℕ) → j < 64 → has ok j ≡ (has w j && every k (unbroken co (valueAt (column t f j))))
@@ -64,3 +66,8 @@ pub explaining-is : (c : Case) (co t f : List ℕ) (r : ℕ) (v : Lanes)
 unfolding explainsUnder observedTrue
 explaining-is c co t f r v h q j l =
     q j l ∙ ap (λ (s : Bool). s && noneBroken co (c .constraints) (valueAt (column t f j))) (h j l .is-true)
+
+pub set-explains : (c : Case) (cl co : List ℕ) (x : Additions)
+    → setExplains c cl co x ≡ explainsUnder c co (settledWith c cl x)
+unfolding setExplains
+set-explains c cl co x = refl

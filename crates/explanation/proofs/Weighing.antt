@@ -82,15 +82,18 @@ module _ (w left weight : ℕ) (t : List ℕ) (a : ℕ) (g : Weighed w left weig
       let pos = choices-positive (atomsIn (withoutBit left a)) in
       omega (arith, few-next, le-mul-of-pos-right (3 * weight) pos)
 
+  own-next : getD (set t a weight) a 0 ≡ weightIn (atomsIn w) a
+  own-next =
+      getD-set-same t a weight 0 (omega (arith, g .size, h .bit .small))
+      ∙ sym (g .to-come a (h .bit) ∙ ap (λ (k : ℕ). weight * k) (weight-own left a h) ∙ mul-one weight)
+
   passed-next : (b : ℕ) → BitOf w b → has (withoutBit left a) b ≡ false
       → getD (set t a weight) b 0 ≡ weightIn (atomsIn w) b
   passed-next b f e =
       ⊎-elim
       (λ (q : eqb b a ≡ true).
-      ap (λ (k : ℕ). getD (set t a weight) k 0) (eqb-true b a q)
-      ∙ getD-set-same t a weight 0 (omega (arith, g .size, h .bit .small))
-      ∙ sym (ap (weightIn (atomsIn w)) (eqb-true b a q) ∙ g .to-come a (h .bit)
-      ∙ ap (λ (k : ℕ). weight * k) (weight-own left a h) ∙ mul-one weight))
+      ap (λ (k : ℕ). getD (set t a weight) k 0) (eqb-true b a q) ∙ own-next
+      ∙ sym (ap (weightIn (atomsIn w)) (eqb-true b a q)))
       (λ (q : eqb b a ≡ false).
       let n = eqb-false b a q in
       getD-set-other t a b weight 0 n
@@ -121,7 +124,7 @@ module _ (w left weight : ℕ) (t : List ℕ) (a : ℕ) (g : Weighed w left weig
 pub weighed-end : (w left weight : ℕ) (t : List ℕ) → left ≡ 0 → Weighed w left weight t → Weights w t
 weighed-end w left weight t e g a b = g .passed a b (ap (λ (k : ℕ). has k a) e ∙ has-zero a)
 
--- ---- the weight of a cause
+-- ---- a weight is below the settings
 weight-fits : (l : List ℕ) (a : ℕ) → 3 * weightIn l a ≤ product (choicesFor l)
 unfolding weightIn choicesFor product
 weight-fits [] a = omega arith
@@ -132,6 +135,6 @@ weight-fits (b ∷ l) a = go (weight-fits l a) (eqb a b)
     go h true = omega (arith, choices-positive l)
     go h false = omega arith
 
-pub weights-low : (w : ℕ) (t : List ℕ) → Weights w t → settingsOf w ≤ 59049 → (a : ℕ) → BitOf w a → 2 * getD t a 0 ≤ 59072
-weights-low w t g h a b =
-    omega (arith, g a b, weight-fits (atomsIn w) a, settings-product w)
+pub weights-low : (w : ℕ) (t : List ℕ) → Weights w t → settingsOf w ≤ 59049 → (a : ℕ) → BitOf w a
+    → 2 * getD t a 0 ≤ 59072
+weights-low w t g h a b = omega (arith, g a b, weight-fits (atomsIn w) a, settings-product w)

@@ -20,8 +20,8 @@ fn lacking(w: u64, v: u64) -> u64
 // The lanes of w in which no body of the first n constraints is true.
 fn unbroken(w: u64, constraints: &[u64], n: usize, t: &[u64; 64], f: &[u64; 64]) -> u64
     requires { ⌜ Planes (now t) (now f) × (n ≤ 32) × (2 * n ≤ length (now constraints)) ⌝ }
-    ensures { λ r. ⌜ ((j : ℕ) → j < 64 → has r j
-        ≡ (has w j && noneBroken (now (constraints .entry)) n (valueAt (column (now (t .entry)) (now (f .entry)) j)))) ⌝ }
+    ensures { λ r. ⌜ ((j : ℕ) → j < 64 → has r j ≡ (has w j
+        && noneBroken (now (constraints .entry)) n (valueAt (column (now (t .entry)) (now (f .entry)) j)))) ⌝ }
 {
     let mut ok = w;
     let mut k = 0;

@@ -1,14 +1,14 @@
 // One walk over all settings in rising order, 64 at a time.
 ghost use mathlib.Core.Path.{_≡_};
-ghost use Prim.Native.Nat.{_+_, _*_, _-_, _≤_, _<_, min};
-ghost use lib.ListN.{length, set};
+ghost use Prim.Native.Nat.{_≤_, min};
+ghost use lib.ListN.{length};
 ghost use Rattle.explanation.specs.Judge.{judgeOf};
 ghost use Rattle.question.specs.Operation.{choicesIn, settingsIn};
-ghost use Rattle.question.specs.Judging.{AtHand, Tabled};
+ghost use Rattle.question.specs.Judging.{AtHand, Bounded, Tabled};
 ghost use Rattle.question.specs.Walking.{Walked};
-ghost use Rattle.lanes.specs.Fill.{Even};
-use crate::lane::visit;
-use crate::verdict::Verdict;
+use crate::counts::Counts;
+use crate::visit::Found;
+use crate::visit::visit;
 use explanation::cover::cover;
 use explanation::explain::explaining;
 use explanation::weights::weigh;
@@ -19,24 +19,10 @@ use prepared::opening::Opening;
 use program::case::Case;
 use program::cause::Additions;
 
-// What a walk has counted: minimal explanations, those written to the list, rounds, and the verdict over them.
+// What a walk leaves: what it found setting by setting, and the rounds, which are summed 64 settings at a time.
 pub struct Tally {
-    pub minimal: u64,
-    pub written: usize,
+    pub found: Found,
     pub rounds: u64,
-    pub verdict: Verdict,
-}
-
-// Writes a setting into the first slot of the list's free rest, where it has one; answers how many slots that took.
-pub fn put(rest: &mut [u16], setting: u16) -> usize
-    ensures { λ r. ⌜ (r ≡ min 1 (length (now (rest .entry))))
-        × (now (rest .exit) ≡ set (now (rest .entry)) 0 setting) ⌝ }
-{
-    if 0 < rest.len() {
-        rest[0] = setting;
-        return 1;
-    }
-    0
 }
 
 // How many of the next 64 settings there are, where n are left.
@@ -50,7 +36,8 @@ fn lanes_of(n: usize) -> u32
     64
 }
 
-// Visits the settings below end in rising order.
+// Visits the settings below end in rising order, 64 at a time. ot, of and oh are the planes of the opening; the row
+// gets a bit for each setting that is covered, from word 923 on.
 fn visit_all(
     c: Case,
     clauses: &[u64],
@@ -70,19 +57,16 @@ fn visit_all(
     work: &mut [u8],
     row: &mut [u64; 1848],
 ) -> Tally
-    requires { ⌜ Tabled c (now clauses) (now constraints) (now formula) causes opening (now dependents) (now last)
-        (now prev) (now weights) × Even (opening .trues) (now ot) × Even (opening .falses) (now of)
-        × Even (opening .heads) (now oh) × (end ≡ settingsIn c (now clauses)) × (end ≤ 59049)
-        × (end ≤ length (now work)) × (length (now row) ≡ 1848) ⌝ }
+    requires { ⌜ Bounded c (now clauses) (now constraints) (now formula) causes end (now work)
+        × Tabled c (now clauses) causes opening (now dependents) (now last) (now prev) (now weights) (now ot) (now of)
+        (now oh) × (length (now row) ≡ 1848) ⌝ }
     ensures { λ r. ⌜ Walked (judgeOf c (now (clauses .entry)) (now (constraints .entry)) (now (formula .entry)))
         (choicesIn c (now (clauses .entry))) (now (list .entry)) (now (work .entry)) end r (now (list .exit))
         (now (work .exit)) ⌝ }
 {
-    let mut t = Tally {
-        minimal: 0,
+    let mut found = Found {
+        counts: Counts::none(),
         written: 0,
-        rounds: 0,
-        verdict: Verdict::Unexplained,
     };
     let mut rounds: u64 = 0;
     let mut added = Additions {
@@ -94,8 +78,8 @@ fn visit_all(
     while s < end {
         let mut x = [0u64; 64];
         let mut y = [0u64; 64];
-        let mut tp = [0u64; 64];
-        let mut fp = [0u64; 64];
+        let mut t = [0u64; 64];
+        let mut f = [0u64; 64];
         let next = fill(causes, added, &mut x, &mut y);
         let m = lanes_of(end - s);
         let sum = run(
@@ -113,24 +97,18 @@ fn visit_all(
             m,
             &x,
             &y,
-            &mut tp,
-            &mut fp,
+            &mut t,
+            &mut f,
         );
         rounds = rounds + sum;
-        let e = explaining(c, constraints, &tp, &fp);
+        let e = explaining(c, constraints, &t, &f);
         let larger = cover(row, b, e, causes, weights, &x, &y);
-        t = visit(c, formula, e, larger, m, &tp, &fp, s, t, list, work);
+        found = visit(c, formula, e, larger, &t, &f, m, s, found, list, work);
         added = next;
         b += 1;
         s += 64;
     }
-    let verdict = t.verdict;
-    Tally {
-        minimal: t.minimal,
-        written: t.written,
-        rounds,
-        verdict,
-    }
+    Tally { found, rounds }
 }
 
 // Walks over the settings below end, with the tables for settling prepared once.

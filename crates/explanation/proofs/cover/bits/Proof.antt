@@ -1,8 +1,7 @@
--- meets its contract. Assumes nothing.
-use Rattle.explanation.proofs.Rows.{bits-whole, bits-glued}
+-- `bits` meets its contract: the place begins a word of the row, or the bits are glued from two. Assumes nothing.
 use native.Mathlib.Omega.{arith}
 use borrow.Author.Needs.{needs}
-use borrow.Author.Needs.{needs}
+use Rattle.explanation.proofs.Rows.{bits-whole, bits-glued}
 use Rattle.explanation.proofs.cover.bits.Statement.{statement}
 use Rattle.explanation.proofs.cover.bits.Tie as tie
 
@@ -16,7 +15,9 @@ element-copy-out-result : tie.Need-element-copy-out-result
 element-copy-out-result c = search needs
 
 returns : tie.Need-returns
-returns c = λ j l. bits-whole (c .before .before .args .row .now) (c .before .before .args .place) j l (omega arith)
+returns c =
+    let a = c .before .before .args in
+    λ j l. bits-whole (a .row .now) (a .place) j l (omega arith)
 
 mul-glue : tie.Need-mul-glue
 mul-glue c = search needs
@@ -37,7 +38,9 @@ glue-requires : tie.Need-glue-requires
 glue-requires c κs = search needs
 
 returns-2 : tie.Need-returns-2
-returns-2 c = λ j l. bits-glued (c .before .before .before .before .args .row .now) (c .before .before .before .before .args .place) j l _ (c .glue .ensures)
+returns-2 c =
+    let a = c .before .before .before .before .args in
+    λ j l. bits-glued (a .row .now) (a .place) j l _ (c .glue .ensures)
 
 pub bits-spec : {M : Type 1} → statement M
 bits-spec =

@@ -1,10 +1,11 @@
--- meets its contract. Assumes nothing.
+-- `dropped` meets its contract: the causes are taken one by one, lowest first (`Dropping`). The measure is the word of
+-- the causes left. Assumes nothing.
 use Prim.Native.Nat.{_*_, _≤_}
+use native.Mathlib.Omega.{arith}
 use lib.ListN.{getD}
+use borrow.Author.Needs.{needs}
 use Rattle.words.proofs.BitWalks.{without-less}
 use Rattle.explanation.proofs.Rows.{Dropping, dropping-start, dropping-next, dropping-end}
-use native.Mathlib.Omega.{arith}
-use borrow.Author.Needs.{needs}
 use Rattle.explanation.proofs.cover.dropped.Statement.{statement}
 use Rattle.explanation.proofs.cover.dropped.Tie as tie
 
@@ -14,12 +15,22 @@ Inv-loop row place causes weights x y lanes₀ left₀ lanes left = Dropping row
 abbrev μ-loop : tie.MeasureT-loop
 μ-loop row place causes weights x y lanes₀ left₀ lanes left = left
 
+-- the places before: the loop, where the lowest cause left is found, and where the bits of its first digit are read
+abbrev looped : tie.After-lowest-bit Inv-loop μ-loop → tie.At-loop Inv-loop μ-loop
+looped c = c .before .before
+
+abbrev found : tie.After-bits2 Inv-loop μ-loop → tie.After-lowest-bit Inv-loop μ-loop
+found c = c .before .before .before .before
+
 -- twice the weight of the lowest cause left is at most the place
-low : (c : tie.After-w Inv-loop μ-loop) → 2 * getD (c .before .before .before .before .args .weights .now) (c .before .lowest-bit .result) 0 ≤ c .before .before .before .before .args .place
-low c = c .before .before .before .before .pre .1 _ (c .before .before .before .loop .inv .within _ (c .before .lowest-bit .ensures .bit))
+low : (c : tie.After-w Inv-loop μ-loop) → let a = looped (c .before) .before .args in
+    2 * getD (a .weights .now) (c .before .lowest-bit .result) 0 ≤ a .place
+low c =
+    let d = looped (c .before) in
+    d .before .pre .1 _ (d .loop .inv .within _ (c .before .lowest-bit .ensures .bit))
 
 loop-holds : tie.Need-loop-holds Inv-loop μ-loop
-loop-holds c = dropping-start _ _ _ _ _ _
+loop-holds c = dropping-start
 
 lowest-bit-requires : tie.Need-lowest-bit-requires Inv-loop μ-loop
 lowest-bit-requires c κs = search needs
@@ -64,16 +75,19 @@ without-lowest-requires : tie.Need-without-lowest-requires Inv-loop μ-loop
 without-lowest-requires c κs = search needs
 
 loop-less : tie.Need-loop-less Inv-loop μ-loop
-loop-less c = let b = c .before .before .before .before .before .before .lowest-bit .ensures in
-    rw (c .without-lowest .ensures _ b) (without-less _ _ (b .bit))
+loop-less c =
+    let h = found (c .before .before) .lowest-bit .ensures in
+    rw (c .without-lowest .ensures _ h) (without-less _ _ (h .bit))
 
 loop-again : tie.Need-loop-again Inv-loop μ-loop
-loop-again c = let b = c .before .before .before .before .before .before .lowest-bit .ensures in
-    rw (c .without-lowest .ensures _ b)
-    (dropping-next _ _ _ _ _ _ _ _ _ _ _ (c .before .before .before .before .before .before .before .before .loop .inv) (b .bit) (c .before .before .before .before .bits .ensures) (c .before .before .bits2 .ensures))
+loop-again c =
+    let d = c .before .before in
+    let h = found d .lowest-bit .ensures in
+    rw (c .without-lowest .ensures _ h)
+    (dropping-next (looped (found d) .loop .inv) _ _ _ (h .bit) (d .before .before .bits .ensures) (d .bits2 .ensures))
 
 returns : tie.Need-returns Inv-loop μ-loop
-returns c = dropping-end _ _ _ _ _ _ _ _ (c .before .loop .inv) (c .loop-test .left)
+returns c = dropping-end (c .before .loop .inv) (c .loop-test .left)
 
 pub dropped-spec : {M : Type 1} → statement M
 dropped-spec =

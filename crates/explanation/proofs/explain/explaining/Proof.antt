@@ -1,7 +1,6 @@
--- meets its contract. Assumes nothing.
+-- `explaining` meets its contract: the observations as one body, then the constraints. Assumes nothing.
+use borrow.Author.Needs.{needs}
 use Rattle.explanation.proofs.Explaining.{explaining-is}
-use borrow.Author.Needs.{needs}
-use borrow.Author.Needs.{needs}
 use Rattle.explanation.proofs.explain.explaining.Statement.{statement}
 use Rattle.explanation.proofs.explain.explaining.Tie as tie
 
@@ -12,7 +11,9 @@ unbroken-requires : tie.Need-unbroken-requires
 unbroken-requires c κs = search needs
 
 returns : tie.Need-returns
-returns c = explaining-is _ _ (c .before .before .before .args .t .now) (c .before .before .before .args .f .now) _ _ (c .before .body .ensures) (c .unbroken .ensures)
+returns c =
+    let a = c .before .before .before .args in
+    explaining-is _ _ (a .t .now) (a .f .now) _ _ (c .before .body .ensures) (c .unbroken .ensures)
 
 pub explaining-spec : {M : Type 1} → statement M
 explaining-spec = tie.close (tie.spec body-requires unbroken-requires returns)

@@ -1,7 +1,6 @@
--- meets its contract. Assumes nothing.
-use Rattle.explanation.proofs.Explaining.{lacking-bits}
+-- `lacking` meets its contract, bit by bit. Assumes nothing.
 use native.Mathlib.Omega.{arith}
-use borrow.Author.Needs.{needs}
+use Rattle.explanation.proofs.Explaining.{lacking-bits}
 use Rattle.explanation.proofs.explain.lacking.Statement.{statement}
 use Rattle.explanation.proofs.explain.lacking.Tie as tie
 

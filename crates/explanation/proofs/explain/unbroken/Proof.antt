@@ -1,8 +1,9 @@
--- meets its contract. Assumes nothing.
+-- `unbroken` meets its contract: the constraints are taken one by one (`Passing`). The measure is those to come.
+-- Assumes nothing.
 use Prim.Native.Nat.{_-_}
-use Rattle.explanation.proofs.Explaining.{Passing, passing-start, passing-next, passing-end}
 use native.Mathlib.Omega.{arith}
 use borrow.Author.Needs.{needs}
+use Rattle.explanation.proofs.Explaining.{Passing, passing-start, passing-next, passing-end}
 use Rattle.explanation.proofs.explain.unbroken.Statement.{statement}
 use Rattle.explanation.proofs.explain.unbroken.Tie as tie
 
@@ -46,7 +47,9 @@ loop-less : tie.Need-loop-less Inv-loop μ-loop
 loop-less c = search needs
 
 loop-again : tie.Need-loop-again Inv-loop μ-loop
-loop-again c = passing-next _ _ _ _ _ _ _ _ _ (c .before .before .before .before .before .loop .inv) (omega arith) (c .before .body .ensures) (c .lacking .ensures)
+loop-again c =
+    let i = c .before .before .before .before .before .loop .inv in
+    passing-next _ _ _ _ _ _ _ _ _ i (omega arith) (c .before .body .ensures) (c .lacking .ensures)
 
 returns : tie.Need-returns Inv-loop μ-loop
 returns c = passing-end _ _ _ _ _ _ _ (c .before .loop .inv) (omega arith)

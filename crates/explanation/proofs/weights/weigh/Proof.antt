@@ -1,4 +1,4 @@
--- `subset::weigh` meets its contract: the causes passed have their weights, and those left have theirs from the weight
+-- `weigh` meets its contract: the causes passed have their weights, and those left have theirs from the weight
 -- reached on (`Weighed`). The measure is the word of the causes left. Assumes nothing.
 use native.Mathlib.Omega.{arith}
 use borrow.Author.Needs.{needs}

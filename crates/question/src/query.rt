@@ -1,4 +1,4 @@
-// What settling one setting tells of it.
+// The query.
 ghost use mathlib.Core.Path.{_≡_};
 ghost use mathlib.Core.Bool.{true};
 ghost use Prim.Native.Nat.{ℕ, _≤_};
@@ -10,14 +10,7 @@ use logic::interpretation::Interpretation;
 use logic::value::Value;
 use program::case::Case;
 
-// Whether a setting explains, its settled interpretation and its rounds.
-pub struct Judged {
-    pub explains: bool,
-    pub interpretation: Interpretation,
-    pub rounds: u32,
-}
-
-// The value of the query.
+// The value of the query under an interpretation.
 pub fn query_value(c: Case, formula: &[u8], i: Interpretation) -> Value
     requires { ⌜ (c .nodes ≤ 128) × (128 ≤ length (now formula)) ⌝ }
     ensures { λ r. ⌜ ((n : ℕ) → oneFormula n (take (c .nodes) (now (formula .entry))) ≡ true
