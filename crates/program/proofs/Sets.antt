@@ -1,5 +1,5 @@
--- Laws of sets of causes: what a setting adds is one; where the causes are below m, so is every set of them; and each in
--- which no cause gets both a fact and an assumption is what some setting adds. Assumes nothing.
+-- Laws of sets of causes: what a setting adds is one; a set has only bits that the causes have; and each in which no
+-- cause gets both a fact and an assumption is what some setting adds. Assumes nothing.
 use mathlib.Core.Path.{_≡_, refl, sym, ap, ap₂, _∙_}
 use mathlib.Core.Bool.{Bool, true, false, _&&_, true≢false, false≢true}
 use mathlib.Core.List.{List, [], _∷_}
@@ -47,7 +47,7 @@ additions-set w s = record {
   assumptions-of = λ a l. additions-assumptions-of w s a l;
 }
 
--- ---- a set of causes below m is below m
+-- ---- where the causes are among the m lowest atoms, so is every set of them
 part-lt : (w x m : ℕ) → m ≤ 64 → w < 2 ^ m → x < 2 ^ 64 → ((a : ℕ) → a < 64 → has x a ≡ true → has w a ≡ true)
     → x < 2 ^ m
 part-lt w x m h l f g =

@@ -51,7 +51,8 @@ module _ (n : ℕ) (p : List Clause) (m : n ≤ 64) (s : Steady p) (b : HeadsBel
   }
 
 -- ---- a sound case and a set of its causes
-module _ (c : Case) (cl co fo : List ℕ) (x : Additions) (h : sound c cl co fo ≡ true) (g : SetOf (causesOf c cl) x) where
+module _ (c : Case) (cl co fo : List ℕ) (x : Additions)
+    (h : sound c cl co fo ≡ true) (g : SetOf (causesOf c cl) x) where
   atoms-le : c .atoms ≤ 64
   atoms-le = sound-atoms c cl co fo h .1
 
