@@ -9,6 +9,21 @@ use Rattle.program.proofs.Soundness.{limits-atoms, clauses-held, constr
 use Rattle.program.proofs.sound.is_sound.Statement.{statement}
 use Rattle.program.proofs.sound.is_sound.Tie as tie
 
+returns-6 : tie.Need-returns-6
+returns-6 c =
+    let o = c .before .before in
+    let w = o .before .before in
+    let k = w .before .before .before .before in
+    let l = k .before .before in
+    let s = l .before .before in
+    c .one-formula .ensures
+    ∙ sound-rest _ _ _ _ (s .before .before .before .before .before .pre)
+    (passed (s .before .limits-hold .ensures) (s .if1 .left))
+    (passed (l .before .clauses-sound .ensures) (l .if2 .left))
+    (passed (k .before .constraints-sound .ensures) (k .if3 .left))
+    (passed (w .before .is-within .ensures) (w .if4 .left))
+    (passed (o .before .causes-few .ensures) (o .if5 .left))
+
 limits-hold-requires : tie.Need-limits-hold-requires
 limits-hold-requires c κs = search needs
 
@@ -68,21 +83,6 @@ slice-aggregate-one-formula c =
 
 one-formula-requires : tie.Need-one-formula-requires
 one-formula-requires c κs = search needs
-
-returns-6 : tie.Need-returns-6
-returns-6 c =
-    let o = c .before .before in
-    let w = o .before .before in
-    let k = w .before .before .before .before in
-    let l = k .before .before in
-    let s = l .before .before in
-    c .one-formula .ensures
-    ∙ sound-rest _ _ _ _ (s .before .before .before .before .before .pre)
-    (passed (s .before .limits-hold .ensures) (s .if1 .left))
-    (passed (l .before .clauses-sound .ensures) (l .if2 .left))
-    (passed (k .before .constraints-sound .ensures) (k .if3 .left))
-    (passed (w .before .is-within .ensures) (w .if4 .left))
-    (passed (o .before .causes-few .ensures) (o .if5 .left))
 
 pub is-sound-spec : {M : Type 1} → statement M
 is-sound-spec =
