@@ -1,5 +1,6 @@
 -- What is claimed of settling beyond the functions' contracts: claims 1 and 2 of the design. Proved in
 -- proofs/Theorems.antt.
+-- From: document 01, "Interpretations and the step" and "Causes, settings, explanations" ("The least model of a set").
 use mathlib.Core.Path.{_≡_}
 use mathlib.Core.Bool.{true, false}
 use mathlib.Core.List.{List}
