@@ -4,7 +4,8 @@ ghost use Prim.Native.Nat.{_+_, _<_};
 ghost use Rattle.logic.specs.declared.value.Value.the-variants.{Unknown};
 ghost use Rattle.logic.specs.Value.{isTrue, greater};
 ghost use Rattle.logic.specs.Formula.{valueOf, literal, body};
-ghost use Rattle.logic.specs.Interpretation.{nothing, valueAt, ofValues, assigned, decidedIn, Disjoint};
+ghost use Rattle.logic.specs.Interpretation.{nothing, valueAt, ofValues, decidedIn, Disjoint};
+ghost use Rattle.logic.specs.Assigned.{assigned};
 use crate::value::Value;
 
 // Bit i of trues: atom i is true; bit i of falses: it is false. Never both.

@@ -11,13 +11,15 @@ use lib.ListN.{length}
 use lib.Pow.{pow-pos}
 use borrow.Author.Tests.{eqb-true, ne-eqb}
 use Rattle.words.specs.Choice.{pick, consIf}
-use Rattle.words.specs.Bits.{has, word, withBit, withoutBit, LowestOf}
+use Rattle.words.specs.Bits.{has, word}
+use Rattle.words.specs.OneBit.{withBit, withoutBit, LowestOf}
 use Rattle.words.proofs.Bits.{has-zero}
 use Rattle.words.proofs.Words.{has-word, is-word}
 use Rattle.words.proofs.BitWalks.{has-with, with-lt, without-here}
 use Rattle.program.specs.declared.cause.Additions.{Additions}
 use Rattle.program.specs.Cause.{atomsFrom, atomsIn}
-use Rattle.program.specs.Setting.{choicesFor, product, digits, digitOf, settingsOf, additionsOf, withDigit}
+use Rattle.program.specs.Setting.{choicesFor, product, digits, digitOf, settingsOf, additionsOf}
+use Rattle.program.specs.Digit.{withDigit}
 use Rattle.program.proofs.Atoms.{atoms-zero, atoms-lowest}
 
 -- ---- how many settings

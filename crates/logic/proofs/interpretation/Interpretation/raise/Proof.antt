@@ -7,7 +7,8 @@ use Prim.Native.Nat.{ℕ}
 use Rattle.logic.specs.declared.value.Value.{Value}
 use Rattle.logic.specs.declared.interpretation.Interpretation.{Interpretation}
 use Rattle.logic.specs.Formula.{valueOf}
-use Rattle.logic.specs.Interpretation.{valueAt, ofValues, assigned}
+use Rattle.logic.specs.Interpretation.{valueAt, ofValues}
+use Rattle.logic.specs.Assigned.{assigned}
 use Rattle.logic.proofs.Values.{is-true, greater-false-r, greater-unknown-r, greater-true-r}
 use Rattle.logic.proofs.Interpretations.{Good, values-ext, of-values-at, assigned-kept}
 use Rattle.logic.proofs.interpretation.Interpretation.raise.Statement.{statement}
