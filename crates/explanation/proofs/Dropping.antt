@@ -13,7 +13,8 @@ use lib.Pow.{pow-pos}
 use borrow.Author.Tests.{eqb-true}
 use Rattle.words.specs.Choice.{pick, consIf}
 use Rattle.words.specs.Below.{any}
-use Rattle.words.specs.Bits.{has, word, BitOf}
+use Rattle.words.specs.Bits.{has, word}
+use Rattle.words.specs.OneBit.{BitOf}
 use Rattle.words.proofs.Below.{any-ext, any-or, any-at, all-false}
 use Rattle.words.proofs.Bits.{has-zero}
 use Rattle.words.proofs.Words.{has-word, is-word}

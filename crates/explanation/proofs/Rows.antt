@@ -12,7 +12,8 @@ use lib.ListN.{getD}
 use borrow.Author.Tests.{lt-ltb, le-ltb}
 use Rattle.words.specs.Choice.{pick}
 use Rattle.words.specs.Below.{any}
-use Rattle.words.specs.Bits.{has, withoutBit, BitOf}
+use Rattle.words.specs.Bits.{has}
+use Rattle.words.specs.OneBit.{withoutBit, BitOf}
 use Rattle.words.proofs.Tests.{lt-or-le, and-true-l}
 use Rattle.words.proofs.Below.{all-false}
 use Rattle.words.proofs.Bits.{has-zero, has-and, has-or}

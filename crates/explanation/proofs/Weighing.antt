@@ -12,7 +12,8 @@ use lib.ListN.{length, getD, set, length-set}
 use lib.Seq.{getD-set-same, getD-set-other}
 use borrow.Author.Tests.{eqb-true, eqb-false, eq-eqb, ne-eqb}
 use Rattle.words.specs.Choice.{pick}
-use Rattle.words.specs.Bits.{has, BitOf, withoutBit, LowestOf}
+use Rattle.words.specs.Bits.{has}
+use Rattle.words.specs.OneBit.{BitOf, withoutBit, LowestOf}
 use Rattle.words.proofs.Tests.{true-or-false}
 use Rattle.words.proofs.Bits.{has-zero}
 use Rattle.words.proofs.BitWalks.{without-here, without-other}

@@ -13,7 +13,7 @@ use Prim.Native.Nat.{ℕ, _+_, _*_, _/_, _%_, _<_}
 use lib.Dec.{eqb}
 use lib.ListN.{getD}
 use Rattle.words.specs.Choice.{pick}
-use Rattle.words.specs.Bits.{BitOf}
+use Rattle.words.specs.OneBit.{BitOf}
 use Rattle.program.specs.declared.cause.Additions.{Additions}
 use Rattle.program.specs.Cause.{atomsIn}
 use Rattle.program.specs.Setting.{settingsOf, additionsOf}

@@ -3,7 +3,8 @@
 ghost use mathlib.Core.Path.{_≡_};
 ghost use Prim.Native.Nat.{ℕ, _+_, _*_, _≤_, _<_};
 ghost use lib.ListN.{length, getD};
-ghost use Rattle.words.specs.Bits.{has, BitOf};
+ghost use Rattle.words.specs.Bits.{has};
+ghost use Rattle.words.specs.OneBit.{BitOf};
 ghost use Rattle.explanation.specs.Row.{rowBit, Glued, Droppable, Covers};
 
 // The upper bits of low from bit r on, and behind them the lower bits of high.

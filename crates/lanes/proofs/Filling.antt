@@ -14,7 +14,8 @@ use lib.Pow.{pow-pos}
 use lib.Seq.{getD-set-same, getD-set-other}
 use borrow.Author.Tests.{eq-eqb, ne-eqb, lt-ltb, le-ltb, eqb-true, eqb-false}
 use Rattle.words.specs.Below.{any}
-use Rattle.words.specs.Bits.{has, withBit}
+use Rattle.words.specs.Bits.{has}
+use Rattle.words.specs.OneBit.{withBit}
 use Rattle.words.proofs.Tests.{lt-or-le}
 use Rattle.words.proofs.Below.{any-ext}
 use Rattle.words.proofs.Bits.{has-zero, has-and, has-or, has-not}

@@ -10,7 +10,8 @@ use lib.Dec.{eqb}
 use lib.ListN.{getD}
 use lib.Pow.{pow-pos}
 use Rattle.words.specs.Below.{any}
-use Rattle.words.specs.Bits.{has, withoutBit, BitOf}
+use Rattle.words.specs.Bits.{has}
+use Rattle.words.specs.OneBit.{withoutBit, BitOf}
 use Rattle.words.proofs.Below.{any-ext, any-or, all-false}
 use Rattle.words.proofs.Bits.{has-zero, has-and, has-or, has-not}
 use Rattle.words.proofs.BitWalks.{any-without}

@@ -16,7 +16,8 @@ use lib.Dec.{eqb}
 use lib.ListN.{getD, set}
 use Rattle.words.specs.Choice.{pick}
 use Rattle.words.specs.Below.{any}
-use Rattle.words.specs.Bits.{has, withBit}
+use Rattle.words.specs.Bits.{has}
+use Rattle.words.specs.OneBit.{withBit}
 use Rattle.logic.specs.declared.value.Value.{Value}
 use Rattle.logic.specs.Value.{isTrue, isFalse}
 use Rattle.logic.specs.Interpretation.{valueAt, sameIn}

@@ -20,7 +20,8 @@ use Rattle.logic.specs.declared.value.Value.{Value}
 use Rattle.logic.specs.declared.value.Value.the-variants.{Unknown}
 use Rattle.logic.specs.declared.interpretation.Interpretation.{Interpretation}
 use Rattle.logic.specs.Value.{isTrue, isFalse}
-use Rattle.logic.specs.Interpretation.{nothing, among, valueAt, ofValues, assigned, decidedIn, Disjoint, sameIn}
+use Rattle.logic.specs.Interpretation.{nothing, among, valueAt, ofValues, decidedIn, Disjoint, sameIn}
+use Rattle.logic.specs.Assigned.{assigned}
 use Rattle.logic.specs.Order.{Contained}
 use Rattle.logic.proofs.Values.{by-tests, not-both, true-among, false-among}
 use Rattle.logic.proofs.Order.{leq-refl, leq-unknown}

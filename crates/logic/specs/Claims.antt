@@ -1,4 +1,5 @@
 -- What is claimed of the logic beyond the functions' contracts. Proved in proofs/Theorems.antt.
+-- From: document 01, "Formulas" and "Case tables and sound cases" ("exactly one formula of depth at most 16").
 use mathlib.Core.Path.{_≡_}
 use mathlib.Core.Bool.{true}
 use mathlib.Core.List.{List}

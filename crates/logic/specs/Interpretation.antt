@@ -5,7 +5,6 @@
 --   valueAt i a       the value of atom a in i
 --   ofValues v        the interpretation that gives the atoms below 64 the values v
 --   decidedIn i       the number of decided atoms
---   assigned v a x    the values v, but x at atom a
 --   Disjoint i        no atom is both true and false in i
 --   sameIn i j        i and j are the same interpretation
 use mathlib.Core.Path.{_≡_}
@@ -14,7 +13,6 @@ use Prim.Native.Nat.{ℕ, _+_}
 use lib.Dec.{eqb}
 use lib.Bits.{bitAnd}
 use lib.Count.{ones}
-use Rattle.words.specs.Choice.{pick}
 use Rattle.words.specs.Bits.{has, word}
 use Rattle.logic.specs.declared.value.Value.{Value}
 use Rattle.logic.specs.declared.value.Value.the-variants.{False, Unknown, True}
@@ -35,9 +33,6 @@ valueAt i a = among (has (i .trues) a) (has (i .falses) a)
 
 abbrev pub ofValues : (ℕ → Value) → Interpretation
 ofValues v = record { trues = word 64 (λ a. isTrue (v a)); falses = word 64 (λ a. isFalse (v a)) }
-
-abbrev pub assigned : (ℕ → Value) → ℕ → Value → ℕ → Value
-assigned v a x b = pick (eqb b a) x (v b)
 
 abbrev pub decidedIn : Interpretation → ℕ
 decidedIn i = ones (i .trues) + ones (i .falses)

@@ -1,9 +1,10 @@
 // Interpretations: which atoms are true and which are false.
 ghost use mathlib.Core.Path.{_≡_};
 ghost use Prim.Native.Nat.{_+_, _<_};
-ghost use Rattle.logic.specs.Value.{greater};
+ghost use Rattle.logic.specs.Value.{isTrue, greater};
 ghost use Rattle.logic.specs.Formula.{valueOf, literal, body};
-ghost use Rattle.logic.specs.Interpretation.{nothing, valueAt, ofValues, assigned, decidedIn, Disjoint};
+ghost use Rattle.logic.specs.Interpretation.{nothing, valueAt, ofValues, decidedIn, Disjoint};
+ghost use Rattle.logic.specs.Assigned.{assigned};
 use crate::value::Value;
 
 // Bit i of trues: atom i is true; bit i of falses: it is false. Never both.
@@ -37,16 +38,15 @@ impl Interpretation {
         Value::Unknown
     }
 
-    // The value of an atom, or of its negation.
-    pub fn literal(self, atom: u32, negated: bool) -> Value
-        requires { ⌜ atom < 64 ⌝ }
-        ensures { λ r. ⌜ r ≡ valueOf (valueAt self) (literal negated atom) ⌝ }
+    // Whether a literal, an atom or its negation, is true.
+    pub fn holds(self, atom: u32, negated: bool) -> bool
+        requires { ⌜ (atom < 64) × Disjoint self ⌝ }
+        ensures { λ r. ⌜ r ≡ isTrue (valueOf (valueAt self) (literal negated atom)) ⌝ }
     {
-        let v = self.value(atom);
         if negated {
-            return v.not();
+            return words::test(self.falses, atom);
         }
-        v
+        words::test(self.trues, atom)
     }
 
     // The value of a body by the masks of its plain and its negated atoms.
@@ -95,7 +95,7 @@ impl Interpretation {
         match v {
             Value::True => self.decide(atom, Value::True),
             Value::Unknown => {
-                if words::test(self.trues, atom) {
+                if self.holds(atom, false) {
                     return self;
                 }
                 self.decide(atom, Value::Unknown)

@@ -13,7 +13,8 @@ use lib.Seq.{getD-set-same, getD-set-other}
 use borrow.Author.Tests.{eqb-true, eqb-false, eq-eqb, ne-eqb}
 use Rattle.words.specs.Choice.{pick}
 use Rattle.words.specs.Below.{any}
-use Rattle.words.specs.Bits.{has, withBit, withoutBit, BitOf}
+use Rattle.words.specs.Bits.{has}
+use Rattle.words.specs.OneBit.{withBit, withoutBit, BitOf}
 use Rattle.words.proofs.Bits.{has-zero, has-or}
 use Rattle.words.proofs.Words.{word-lt, has-word, is-word}
 use Rattle.words.proofs.BitWalks.{has-with, with-lt, without-here, without-other}

@@ -9,7 +9,8 @@ use lib.Dec.{eqb, lit<}
 use lib.ListN.{getD}
 use borrow.Author.Tests.{eqb-true, eqb-false}
 use Rattle.words.specs.Choice.{pick}
-use Rattle.words.specs.Bits.{has, word, withoutBit, BitOf}
+use Rattle.words.specs.Bits.{has, word}
+use Rattle.words.specs.OneBit.{withoutBit, BitOf}
 use Rattle.words.specs.Below.{any}
 use Rattle.words.proofs.Below.{any-ext, any-or, all-false}
 use Rattle.words.proofs.Bits.{has-zero, has-or}
@@ -17,7 +18,8 @@ use Rattle.words.proofs.Words.{word-lt, has-word, is-word, word-ext}
 use Rattle.words.proofs.BitWalks.{without-here, without-other, any-without}
 use Rattle.logic.specs.declared.value.Value.{Value}
 use Rattle.logic.specs.declared.interpretation.Interpretation.{Interpretation}
-use Rattle.logic.specs.Interpretation.{valueAt, ofValues, assigned}
+use Rattle.logic.specs.Interpretation.{valueAt, ofValues}
+use Rattle.logic.specs.Assigned.{assigned}
 use Rattle.logic.proofs.Interpretations.{Good, values-at, values-ext, values-good, of-values-at}
 use Rattle.logic.proofs.Interpretations.{assigned-same, assigned-other}
 use Rattle.prepared.specs.Dependents.{dependentsOf, touchedFrom, Dependents, touchedBy}

@@ -14,7 +14,8 @@ use Prim.Native.Nat.{ℕ, _^_, _<_}
 use lib.Dec.{eqb}
 use lib.ListN.{length, getD}
 use Rattle.words.specs.Below.{any}
-use Rattle.words.specs.Bits.{has, word, withBit}
+use Rattle.words.specs.Bits.{has, word}
+use Rattle.words.specs.OneBit.{withBit}
 use Rattle.program.specs.Case.{headAt, plainAt, negatedAt}
 
 abbrev pub names : List ℕ → ℕ → ℕ → Bool

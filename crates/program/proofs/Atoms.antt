@@ -12,7 +12,8 @@ use lib.ListN.{length, getD}
 use lib.Pow.{shr-shr}
 use borrow.Author.Tests.{eqb-true, eqb-false}
 use Rattle.words.specs.Choice.{consIf}
-use Rattle.words.specs.Bits.{odd, has, withoutBit, LowestOf}
+use Rattle.words.specs.Bits.{odd, has}
+use Rattle.words.specs.OneBit.{withoutBit, LowestOf}
 use Rattle.words.proofs.BitWalks.{without-here, without-other}
 use Rattle.program.specs.Cause.{atomsFrom, atomsIn}
 

@@ -8,12 +8,14 @@ use lib.Bits.{bitOr}
 use lib.Dec.{eqb}
 use borrow.Author.Tests.{eqb-true, eqb-false, eq-eqb}
 use Rattle.words.specs.Choice.{pick}
-use Rattle.words.specs.Bits.{has, word, withBit, withoutBit, LowestOf}
+use Rattle.words.specs.Bits.{has, word}
+use Rattle.words.specs.OneBit.{withBit, withoutBit, LowestOf}
 use Rattle.words.proofs.Bits.{has-zero, has-ext}
 use Rattle.words.proofs.Words.{word-lt, has-word, is-word, has-without-one, without-one-lt}
 use Rattle.words.proofs.BitWalks.{has-with, with-lt}
 use Rattle.program.specs.declared.cause.Additions.{Additions}
-use Rattle.program.specs.Setting.{digits, choicesFor, digitOf, additionsOf, withDigit}
+use Rattle.program.specs.Setting.{digits, choicesFor, digitOf, additionsOf}
+use Rattle.program.specs.Digit.{withDigit}
 use Rattle.program.proofs.Atoms.{atoms-zero}
 use Rattle.program.proofs.Settings.{digitFrom, digit-lowest, digit-passed, with-facts, with-assumptions}
 use Rattle.program.proofs.Settings.{hasDigit, gathered-start, gathered-next}

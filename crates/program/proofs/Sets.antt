@@ -1,5 +1,5 @@
--- Laws of sets of causes: what a setting adds is one, and each in which no cause gets both a fact and an assumption is
--- what some setting adds. Assumes nothing.
+-- Laws of sets of causes: what a setting adds is one; a set has only bits that the causes have; and each in which no
+-- cause gets both a fact and an assumption is what some setting adds. Assumes nothing.
 use mathlib.Core.Path.{_≡_, refl, sym, ap, ap₂, _∙_}
 use mathlib.Core.Bool.{Bool, true, false, _&&_, true≢false, false≢true}
 use mathlib.Core.List.{List, [], _∷_}
@@ -11,11 +11,13 @@ use borrow.Author.Tests.{eqb-true, eqb-false}
 use Rattle.words.specs.Choice.{pick, consIf}
 use Rattle.words.specs.Bits.{has}
 use Rattle.words.proofs.Tests.{lt-or-le, gives-false}
-use Rattle.words.proofs.Words.{has-word, is-word}
+use Rattle.words.proofs.Bits.{has-above}
+use Rattle.words.proofs.Words.{word-lt, has-word, is-word, lt-of-bits}
 use Rattle.program.specs.declared.cause.Additions.{Additions}
 use Rattle.program.specs.Cause.{atomsFrom, atomsIn}
 use Rattle.program.specs.Setting.{choicesFor, product, digitOf, settingsOf, additionsOf}
-use Rattle.program.proofs.Settings.{digitFrom, digit-cause, digit-other, digit-none}
+use Rattle.program.specs.Set.{SetOf}
+use Rattle.program.proofs.Settings.{digitFrom, hasDigit, digit-cause, digit-other, digit-none}
 
 -- ---- what a setting adds, it adds for causes
 module _ (w s a : ℕ) (l : a < 64) where
@@ -35,6 +37,28 @@ module _ (w s a : ℕ) (l : a < 64) where
   pub additions-assumptions-of : has (additionsOf w s .assumptions) a ≡ true → has w a ≡ true
   unfolding additionsOf
   additions-assumptions-of e = digit-of 2 refl (sym (has-word 64 (λ b. eqb (digitFrom w 0 64 s b) 2) a l) ∙ e)
+
+pub additions-set : (w s : ℕ) → SetOf w (additionsOf w s)
+unfolding additionsOf
+additions-set w s = record {
+  facts-fit = word-lt 64 (hasDigit w s 1);
+  assumptions-fit = word-lt 64 (hasDigit w s 2);
+  facts-of = λ a l. additions-facts-of w s a l;
+  assumptions-of = λ a l. additions-assumptions-of w s a l;
+}
+
+-- ---- where the causes are among the m lowest atoms, so is every set of them
+part-lt : (w x m : ℕ) → m ≤ 64 → w < 2 ^ m → x < 2 ^ 64 → ((a : ℕ) → a < 64 → has x a ≡ true → has w a ≡ true)
+    → x < 2 ^ m
+part-lt w x m h l f g =
+    lt-of-bits 64 m x h f (λ a i j. sym (gives-false (has w a) (has x a) (g a j) (has-above m w a l i)))
+
+module _ (w m : ℕ) (h : m ≤ 64) (l : w < 2 ^ m) (x : Additions) (g : SetOf w x) where
+  pub set-facts-lt : x .facts < 2 ^ m
+  set-facts-lt = part-lt w (x .facts) m h l (g .facts-fit) (g .facts-of)
+
+  pub set-assumptions-lt : x .assumptions < 2 ^ m
+  set-assumptions-lt = part-lt w (x .assumptions) m h l (g .assumptions-fit) (g .assumptions-of)
 
 -- ---- the setting with given digits d, each below 3, of the causes l
 numberOf : List ℕ → (ℕ → ℕ) → ℕ

@@ -11,13 +11,15 @@ use lib.ListN.{length}
 use lib.Pow.{pow-pos}
 use borrow.Author.Tests.{eqb-true, ne-eqb}
 use Rattle.words.specs.Choice.{pick, consIf}
-use Rattle.words.specs.Bits.{has, word, withBit, withoutBit, LowestOf}
-use Rattle.words.proofs.Bits.{has-zero, has-above}
-use Rattle.words.proofs.Words.{word-lt, has-word, is-word, lt-of-bits}
+use Rattle.words.specs.Bits.{has, word}
+use Rattle.words.specs.OneBit.{withBit, withoutBit, LowestOf}
+use Rattle.words.proofs.Bits.{has-zero}
+use Rattle.words.proofs.Words.{has-word, is-word}
 use Rattle.words.proofs.BitWalks.{has-with, with-lt, without-here}
 use Rattle.program.specs.declared.cause.Additions.{Additions}
 use Rattle.program.specs.Cause.{atomsFrom, atomsIn}
-use Rattle.program.specs.Setting.{choicesFor, product, digits, digitOf, settingsOf, additionsOf, withDigit}
+use Rattle.program.specs.Setting.{choicesFor, product, digits, digitOf, settingsOf, additionsOf}
+use Rattle.program.specs.Digit.{withDigit}
 use Rattle.program.proofs.Atoms.{atoms-zero, atoms-lowest}
 
 -- ---- how many settings
@@ -174,23 +176,6 @@ walked-end w s x rest left z h =
     λ i. record { facts = p i; assumptions = q i }
 
 -- ---- what a setting adds
-digit-word-lt : (w s d m : ℕ) → eqb 0 d ≡ false → m ≤ 64 → w < 2 ^ m → word 64 (hasDigit w s d) < 2 ^ m
-digit-word-lt w s d m z h l =
-    lt-of-bits 64 m (word 64 (hasDigit w s d)) h (word-lt 64 (hasDigit w s d))
-    (λ b i j. has-word 64 (hasDigit w s d) b j
-    ∙ ap (λ (n : ℕ). eqb n d) (digit-none w b 64 0 s (λ k o e q. none b k i e q)) ∙ z)
-  where
-    none : (b k : ℕ) → m ≤ b → has w k ≡ true → b ≡ k → ⊥
-    none b k i e q = true≢false (sym e ∙ has-above m w k l (omega arith))
-
-pub additions-facts-lt : (w s m : ℕ) → m ≤ 64 → w < 2 ^ m → additionsOf w s .facts < 2 ^ m
-unfolding additionsOf
-additions-facts-lt w s m h l = digit-word-lt w s 1 m refl h l
-
-pub additions-assumptions-lt : (w s m : ℕ) → m ≤ 64 → w < 2 ^ m → additionsOf w s .assumptions < 2 ^ m
-unfolding additionsOf
-additions-assumptions-lt w s m h l = digit-word-lt w s 2 m refl h l
-
 two-tests : (n : ℕ) → (eqb n 1 && eqb n 2) ≡ false
 two-tests n = go (eqb n 1) refl
   where

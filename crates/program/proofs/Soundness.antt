@@ -14,7 +14,8 @@ use Rattle.logic.specs.Nodes.{oneFormula}
 use Rattle.program.specs.declared.case.Case.{Case}
 use Rattle.program.specs.Case.{tablesFull, headAt, plainAt, negatedAt, forbidden, forbiddenNot}
 use Rattle.program.specs.Cause.{causesOf}
-use Rattle.program.specs.Sound.{limitsHold, within, bare, shaped, soundClause, soundClauses, soundConstraint, soundConstraints, fewCauses, sound}
+use Rattle.program.specs.Sound.{limitsHold, within, bare, shaped, soundClause, soundClauses, soundConstraint}
+use Rattle.program.specs.Sound.{soundConstraints, fewCauses, sound}
 
 -- ---- at most the number below m by one is below m
 pub leb-below : (a t m : ℕ) → t + 1 ≡ m → leb a t ≡ ltb a m

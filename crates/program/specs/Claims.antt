@@ -1,4 +1,5 @@
 -- What is claimed of causes and settings beyond the functions' contracts. Proved in proofs/Theorems.antt.
+-- From: document 01, "Causes, settings, explanations" ("With k causes in atom order, setting s is 0 to 3^k − 1").
 use mathlib.Core.Path.{_≡_}
 use Prim.Native.Nat.{ℕ, _^_, _<_}
 use lib.Count.{ones}

@@ -48,7 +48,8 @@ unfoldable pub addedBelow : Additions → ℕ → List Clause
 addedBelow x zero = []
 addedBelow x (suc a) =
     addedBelow x a
-    ++ (clauseIf (has (x .facts) a) (clause a Formula.truth) ++ clauseIf (has (x .assumptions) a) (clause a Formula.falsity))
+    ++ (clauseIf (has (x .facts) a) (clause a Formula.truth)
+    ++ clauseIf (has (x .assumptions) a) (clause a Formula.falsity))
 
 abbrev pub addedBy : Additions → List Clause
 addedBy x = addedBelow x 64

@@ -8,8 +8,7 @@
 --   settingsOf w         the number of settings of the causes w
 --   additionsOf w s      what setting s of the causes w adds: digit 0 nothing, 1 a fact, 2 an assumption
 use mathlib.Core.List.{List, [], _∷_}
-use Prim.Native.Nat.{ℕ, zero, suc, _*_, _/_, _%_, _^_}
-use lib.Bits.{bitOr}
+use Prim.Native.Nat.{ℕ, _*_, _/_, _%_}
 use lib.Dec.{eqb}
 use Rattle.words.specs.Choice.{pick}
 use Rattle.words.specs.Bits.{word}
@@ -47,10 +46,3 @@ additionsOf w s =
       facts = word 64 (λ a. eqb (digitOf (atomsIn w) ds a) 1);
       assumptions = word 64 (λ a. eqb (digitOf (atomsIn w) ds a) 2);
     }
-
--- x with atom a added as digit d says
-abbrev pub withDigit : Additions → ℕ → ℕ → Additions
-withDigit x a zero = x
-withDigit x a (suc zero) = record { facts = bitOr (x .facts) (2 ^ a); assumptions = x .assumptions }
-withDigit x a (suc (suc zero)) = record { facts = x .facts; assumptions = bitOr (x .assumptions) (2 ^ a) }
-withDigit x a (suc (suc (suc d))) = x

@@ -23,7 +23,8 @@ use Rattle.program.specs.Program.{headsOf}
 use Rattle.program.specs.Cause.{causesAmong}
 
 unfoldable pub limitsHold : Case → Bool
-limitsHold c = leb 1 (c .atoms) && leb (c .atoms) 64 && leb (c .clauses) 256 && leb (c .constraints) 32 && leb (c .nodes) 128
+limitsHold c =
+    leb 1 (c .atoms) && leb (c .atoms) 64 && leb (c .clauses) 256 && leb (c .constraints) 32 && leb (c .nodes) 128
 
 unfoldable pub within : ℕ → ℕ → ℕ → Bool
 within n p q = ltb p (2 ^ n) && ltb q (2 ^ n)

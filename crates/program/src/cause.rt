@@ -5,7 +5,8 @@ ghost use lib.Count.{ones};
 ghost use lib.ListN.{length};
 ghost use Rattle.program.specs.Program.{headsOf};
 ghost use Rattle.program.specs.Cause.{causesAmong};
-ghost use Rattle.program.specs.Setting.{settingsOf, withDigit, additionsOf};
+ghost use Rattle.program.specs.Setting.{settingsOf, additionsOf};
+ghost use Rattle.program.specs.Digit.{withDigit};
 
 // The heads of the first n clauses, bit i for atom i.
 pub fn heads(clauses: &[u64], n: usize) -> u64

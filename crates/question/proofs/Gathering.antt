@@ -8,7 +8,8 @@ use native.Mathlib.Nat.{le-refl, eq-or-lt-of-le}
 use native.Mathlib.Omega.{arith}
 use lib.Dec.{eqb, lit<}
 use borrow.Author.Tests.{eq-eqb, ne-eqb}
-use Rattle.words.specs.Bits.{has, word, withBit}
+use Rattle.words.specs.Bits.{has, word}
+use Rattle.words.specs.OneBit.{withBit}
 use Rattle.words.proofs.Bits.{has-zero}
 use Rattle.words.proofs.Words.{is-word}
 use Rattle.words.proofs.BitWalks.{has-with, with-lt}

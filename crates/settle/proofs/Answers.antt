@@ -1,11 +1,12 @@
 -- Laws of what settling one setting answers: which refusal is due, and the answer with or without one. Assumes nothing.
 use mathlib.Core.Path.{_≡_, sym, ap, _∙_}
-use mathlib.Core.Bool.{Bool, true, false}
-use mathlib.Core.List.{List}
+use mathlib.Core.Bool.{true, false}
+use mathlib.Core.List.{List, [], _∷_}
 use Prim.Native.Nat.{ℕ, suc, _≤_, _<_}
 use lib.Dec.{ltb}
 use borrow.Author.Tests.{lt-ltb, le-ltb}
-use Rattle.words.specs.Choice.{unlessRefused}
+use Rattle.words.specs.Choice.{unlessRefused, Check, check}
+use Rattle.words.proofs.Checks.{first-failed-here, first-failed-behind}
 use Rattle.program.specs.declared.case.Case.{Case}
 use Rattle.program.specs.Case.{tablesFull}
 use Rattle.program.specs.Cause.{causesOf}
@@ -14,36 +15,40 @@ use Rattle.program.specs.Sound.{sound}
 use Rattle.settle.specs.declared.operation.Answer.{Answer}
 use Rattle.settle.specs.declared.settle.Settled.{Settled}
 use Rattle.settle.specs.Rounds.{settled}
-use Rattle.settle.specs.Operation.{unless, settleRefusal, programOf, refusedWith, SettledOne}
+use Rattle.settle.specs.Operation.{settleRefusal, programOf, refusedWith, SettledOne}
 
 module _ (c : Case) (cl co fo : List ℕ) (s : ℕ) where
   abbrev refusal : ℕ
   refusal = settleRefusal c cl co fo s
 
   -- ---- the refusal that is due
+  -- the last check, and the last two
+  abbrev settingCheck : List Check
+  settingCheck = check 14 (ltb s (settingsOf (causesOf c cl))) ∷ []
+
+  abbrev caseChecks : List Check
+  caseChecks = check 13 (sound c cl co fo) ∷ settingCheck
+
   pub refusal-short : tablesFull cl co fo ≡ false → refusal ≡ 1
   unfolding settleRefusal
-  refusal-short e = rw e
+  refusal-short e = first-failed-here 1 caseChecks e
 
   pub refusal-unsound : tablesFull cl co fo ≡ true → sound c cl co fo ≡ false → refusal ≡ 13
   unfolding settleRefusal
-  refusal-unsound e f = rw (e, f)
-
-  due : ℕ
-  due = unless (ltb s (settingsOf (causesOf c cl))) 14 0
-
-  refusal-sound : tablesFull cl co fo ≡ true → sound c cl co fo ≡ true → refusal ≡ due
-  unfolding settleRefusal due
-  refusal-sound e f = rw (e, f)
+  refusal-unsound e f = first-failed-behind 1 caseChecks e ∙ first-failed-here 13 settingCheck f
 
   pub refusal-past : tablesFull cl co fo ≡ true → sound c cl co fo ≡ true → settingsOf (causesOf c cl) ≤ s
       → refusal ≡ 14
-  unfolding due
-  refusal-past e f l = refusal-sound e f ∙ ap (λ (t : Bool). unless t 14 0) (le-ltb s (settingsOf (causesOf c cl)) l)
+  unfolding settleRefusal
+  refusal-past e f l =
+      first-failed-behind 1 caseChecks e ∙ first-failed-behind 13 settingCheck f
+      ∙ first-failed-here 14 [] (le-ltb s (settingsOf (causesOf c cl)) l)
 
   pub refusal-none : tablesFull cl co fo ≡ true → sound c cl co fo ≡ true → s < settingsOf (causesOf c cl) → refusal ≡ 0
-  unfolding due
-  refusal-none e f l = refusal-sound e f ∙ ap (λ (t : Bool). unless t 14 0) (lt-ltb s (settingsOf (causesOf c cl)) l)
+  unfolding settleRefusal
+  refusal-none e f l =
+      first-failed-behind 1 caseChecks e ∙ first-failed-behind 13 settingCheck f
+      ∙ first-failed-behind 14 [] (lt-ltb s (settingsOf (causesOf c cl)) l)
 
   -- ---- the answer
   abbrev result : Settled

@@ -21,7 +21,8 @@ use Rattle.logic.specs.declared.value.Value.the-variants.{False, Unknown, True}
 use Rattle.logic.specs.declared.interpretation.Interpretation.{Interpretation}
 use Rattle.logic.specs.Value.{isTrue, isFalse, greater}
 use Rattle.logic.specs.Formula.{valueOf}
-use Rattle.logic.specs.Interpretation.{valueAt, ofValues, assigned, Disjoint}
+use Rattle.logic.specs.Interpretation.{valueAt, ofValues, Disjoint}
+use Rattle.logic.specs.Assigned.{assigned}
 use Rattle.logic.proofs.Values.{greater-false-r}
 use Rattle.logic.proofs.Interpretations.{interpretation-eq, values-at, values-ext, values-good}
 use Rattle.program.specs.declared.cause.Additions.{Additions}

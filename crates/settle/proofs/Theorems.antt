@@ -7,16 +7,16 @@ use Prim.Native.Nat.{ℕ, _^_, _≤_, _<_}
 use native.Mathlib.Omega.{arith}
 use Rattle.logic.proofs.Interpretations.{decided-le, same-in-refl}
 use Rattle.program.specs.declared.case.Case.{Case}
-use Rattle.program.specs.Program.{Clause, headsOf}
+use Rattle.program.specs.declared.cause.Additions.{Additions}
+use Rattle.program.specs.Program.{Clause, programWith, headsOf}
 use Rattle.program.specs.Cause.{causesOf}
-use Rattle.program.specs.Setting.{additionsOf}
+use Rattle.program.specs.Set.{SetOf}
 use Rattle.program.specs.Sound.{sound}
 use Rattle.program.proofs.Causes.{causes-lt}
-use Rattle.program.proofs.Settings.{additions-facts-lt, additions-assumptions-lt}
+use Rattle.program.proofs.Sets.{additions-set, set-facts-lt, set-assumptions-lt}
 use Rattle.program.proofs.Soundness.{sound-atoms, sound-head}
 use Rattle.settle.specs.Rounds.{rounds, roundCount, settled}
-use Rattle.settle.specs.Operation.{programOf}
-use Rattle.settle.specs.Claims.{IsLeastModel, IsRoundCount, SettledLeastModel, RoundCountLeast}
+use Rattle.settle.specs.Claims.{IsLeastModel, IsRoundCount, SetSettled, SettledLeastModel, RoundCountLeast}
 use Rattle.settle.proofs.Steady.{Steady, program-steady}
 use Rattle.settle.proofs.Heads.{HeadsBelow, rounds-within, program-heads-below}
 use Rattle.settle.proofs.Reached.{rounds-good}
@@ -50,8 +50,9 @@ module _ (n : ℕ) (p : List Clause) (m : n ≤ 64) (s : Steady p) (b : HeadsBel
     decides-more = λ j l. changed-more p s j (settled-ended p s .reached .fresh j l);
   }
 
--- ---- a sound case and a setting
-module _ (c : Case) (cl co fo : List ℕ) (s : ℕ) (h : sound c cl co fo ≡ true) where
+-- ---- a sound case and a set of its causes
+module _ (c : Case) (cl co fo : List ℕ) (x : Additions)
+    (h : sound c cl co fo ≡ true) (g : SetOf (causesOf c cl) x) where
   atoms-le : c .atoms ≤ 64
   atoms-le = sound-atoms c cl co fo h .1
 
@@ -59,21 +60,28 @@ module _ (c : Case) (cl co fo : List ℕ) (s : ℕ) (h : sound c cl co fo ≡ tr
   unfolding causesOf
   causes-within = causes-lt (c .atoms) (headsOf cl (c .clauses)) atoms-le
 
-  sound-steady : Steady (programOf c cl s)
-  sound-steady = program-steady cl (c .clauses) (additionsOf (causesOf c cl) s)
+  set-steady : Steady (programWith cl (c .clauses) x)
+  set-steady = program-steady cl (c .clauses) x
 
-  sound-heads-below : HeadsBelow (c .atoms) (programOf c cl s)
-  sound-heads-below =
-      program-heads-below (c .atoms) cl (c .clauses) (additionsOf (causesOf c cl) s) (sound-head c cl co fo h)
-      (additions-facts-lt (causesOf c cl) s (c .atoms) atoms-le causes-within)
-      (additions-assumptions-lt (causesOf c cl) s (c .atoms) atoms-le causes-within)
+  set-heads-below : HeadsBelow (c .atoms) (programWith cl (c .clauses) x)
+  set-heads-below =
+      program-heads-below (c .atoms) cl (c .clauses) x (sound-head c cl co fo h)
+      (set-facts-lt (causesOf c cl) (c .atoms) atoms-le causes-within x g)
+      (set-assumptions-lt (causesOf c cl) (c .atoms) atoms-le causes-within x g)
 
+pub set-settled : SetSettled
+set-settled = record {
+  to-least-model = λ c cl co fo x h g.
+      steady-least-model (c .atoms) (programWith cl (c .clauses) x) (atoms-le c cl co fo x h g)
+      (set-steady c cl co fo x h g) (set-heads-below c cl co fo x h g);
+  in-least-rounds = λ c cl co fo x h g.
+      steady-round-count (c .atoms) (programWith cl (c .clauses) x) (atoms-le c cl co fo x h g)
+      (set-steady c cl co fo x h g) (set-heads-below c cl co fo x h g);
+}
+
+-- ---- a sound case and a setting
 pub settled-least-model : SettledLeastModel
-settled-least-model c cl co fo s h =
-    steady-least-model (c .atoms) (programOf c cl s) (atoms-le c cl co fo s h) (sound-steady c cl co fo s h)
-    (sound-heads-below c cl co fo s h)
+settled-least-model c cl co fo s h = set-settled .to-least-model c cl co fo _ h (additions-set (causesOf c cl) s)
 
 pub round-count-least : RoundCountLeast
-round-count-least c cl co fo s h =
-    steady-round-count (c .atoms) (programOf c cl s) (atoms-le c cl co fo s h) (sound-steady c cl co fo s h)
-    (sound-heads-below c cl co fo s h)
+round-count-least c cl co fo s h = set-settled .in-least-rounds c cl co fo _ h (additions-set (causesOf c cl) s)

@@ -1,5 +1,6 @@
 -- What is claimed of settling beyond the functions' contracts: claims 1 and 2 of the design. Proved in
 -- proofs/Theorems.antt.
+-- From: document 01, "Interpretations and the step" and "Causes, settings, explanations" ("The least model of a set").
 use mathlib.Core.Path.{_≡_}
 use mathlib.Core.Bool.{true, false}
 use mathlib.Core.List.{List}
@@ -8,7 +9,10 @@ use Rattle.logic.specs.declared.value.Value.{Value}
 use Rattle.logic.specs.declared.interpretation.Interpretation.{Interpretation}
 use Rattle.logic.specs.Interpretation.{valueAt, decidedIn, Disjoint}
 use Rattle.program.specs.declared.case.Case.{Case}
-use Rattle.program.specs.Program.{Clause}
+use Rattle.program.specs.declared.cause.Additions.{Additions}
+use Rattle.program.specs.Program.{Clause, programWith}
+use Rattle.program.specs.Cause.{causesOf}
+use Rattle.program.specs.Set.{SetOf}
 use Rattle.program.specs.Sound.{sound}
 use Rattle.settle.specs.Rounds.{rounds, unchanged, settled}
 use Rattle.settle.specs.Completion.{LeastModel}
@@ -30,6 +34,16 @@ pub record IsRoundCount (n : ℕ) (p : List Clause) (k : ℕ) : Type 0 where
   pub changed-before : (j : ℕ) → j < k → unchanged p j ≡ false
   pub at-most : k ≤ n
   pub decides-more : (j : ℕ) → j < k → decidedIn (rounds p j) < decidedIn (rounds p (suc j))
+
+-- claims 1 and 2: for every sound case and every set of its causes, those with both a fact and an assumption for one
+-- cause included
+pub record SetSettled : Type 0 where
+  pub to-least-model : (c : Case) (cl co fo : List ℕ) (x : Additions) → sound c cl co fo ≡ true
+      → SetOf (causesOf c cl) x → let p = programWith cl (c .clauses) x in
+      IsLeastModel (c .atoms) p (settled p .interpretation)
+  pub in-least-rounds : (c : Case) (cl co fo : List ℕ) (x : Additions) → sound c cl co fo ≡ true
+      → SetOf (causesOf c cl) x → let p = programWith cl (c .clauses) x in
+      IsRoundCount (c .atoms) p (settled p .rounds)
 
 -- claim 1: for every sound case and setting
 abbrev pub SettledLeastModel : Type 0

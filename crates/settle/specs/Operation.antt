@@ -7,10 +7,10 @@
 --   SettledOne        the answer, part by part
 use mathlib.Core.Path.{_≡_}
 use mathlib.Core.Bool.{Bool}
-use mathlib.Core.List.{List}
+use mathlib.Core.List.{List, [], _∷_}
 use Prim.Native.Nat.{ℕ}
 use lib.Dec.{ltb}
-use Rattle.words.specs.Choice.{pick, unlessRefused}
+use Rattle.words.specs.Choice.{pick, unlessRefused, check, firstFailed}
 use Rattle.program.specs.declared.case.Case.{Case}
 use Rattle.program.specs.Case.{tablesFull}
 use Rattle.program.specs.Program.{Clause, programWith}
@@ -26,7 +26,11 @@ unless b n x = pick b x n
 
 unfoldable pub settleRefusal : Case → List ℕ → List ℕ → List ℕ → ℕ → ℕ
 settleRefusal c cl co fo s =
-    unless (tablesFull cl co fo) 1 (unless (sound c cl co fo) 13 (unless (ltb s (settingsOf (causesOf c cl))) 14 0))
+    firstFailed
+    (check 1 (tablesFull cl co fo)
+    ∷ check 13 (sound c cl co fo)
+    ∷ check 14 (ltb s (settingsOf (causesOf c cl)))
+    ∷ [])
 
 abbrev pub programOf : Case → List ℕ → ℕ → List Clause
 programOf c cl s = programWith cl (c .clauses) (additionsOf (causesOf c cl) s)

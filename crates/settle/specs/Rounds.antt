@@ -4,7 +4,7 @@
 --   rounds p k       the interpretation after k rounds
 --   unchanged p k    k and k + 1 rounds give the same
 --   roundLimit       the number of rounds among which it is looked for: as many as there can be atoms
---   roundCount p     the least such k; there is one up to the limit (Claims, RoundCountLeast)
+--   roundCount p     the least such k; there is one up to the limit (Claims, SetSettled)
 --   settled p        the settled interpretation with its round count
 use mathlib.Core.Bool.{Bool}
 use mathlib.Core.List.{List}

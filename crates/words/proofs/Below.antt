@@ -69,13 +69,16 @@ any-at zero p i l = absurd (not-suc-le-zero l)
 any-at (suc n) p i l =
     ⊎-elim
     (λ (q : i ≡ n). rw q (at-top n))
-    (λ (q : i < n). ap₂ _||_ (any-at n p i q) (ap (λ (b : Bool). p n && b) (ne-eqb n i (omega arith)) ∙ and-false (p n)) ∙ or-false (p i))
+    (λ (q : i < n).
+    ap₂ _||_ (any-at n p i q) (ap (λ (b : Bool). p n && b) (ne-eqb n i (omega arith)) ∙ and-false (p n))
+    ∙ or-false (p i))
     (eq-or-lt-of-le (le-of-suc-le-suc l))
   where
     at-top : (m : ℕ) → (any m (λ j. p j && eqb j m) || (p m && eqb m m)) ≡ p m
     at-top m =
         ap₂ _||_
-        (all-false m (λ j. p j && eqb j m) (λ j h. ap (λ (b : Bool). p j && b) (ne-eqb j m (omega arith)) ∙ and-false (p j)))
+        (all-false m (λ j. p j && eqb j m)
+        (λ j h. ap (λ (b : Bool). p j && b) (ne-eqb j m (omega arith)) ∙ and-false (p j)))
         (ap (λ (b : Bool). p m && b) (eq-eqb m m refl) ∙ and-true (p m))
 
 pub any-is : (k : ℕ) (p : ℕ → Bool) (i : ℕ) → i < k → any k (λ j. p j && eqb i j) ≡ p i
@@ -119,5 +122,6 @@ first-is zero p k j h l e f = omega arith
 first-is (suc n) p k j h l e f =
     ⊎-elim
     (λ (q : k ≡ j). ap (λ (b : Bool). pick b k (firstFrom n p (suc k))) (ap p q ∙ e) ∙ q)
-    (λ (q : k < j). ap (λ (b : Bool). pick b k (firstFrom n p (suc k))) (f k q) ∙ first-is n p (suc k) j q (omega arith) e f)
+    (λ (q : k < j).
+    ap (λ (b : Bool). pick b k (firstFrom n p (suc k))) (f k q) ∙ first-is n p (suc k) j q (omega arith) e f)
     (eq-or-lt-of-le h)

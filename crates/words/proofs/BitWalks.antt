@@ -12,7 +12,8 @@ use lib.Count.{trailingZeros, under}
 use lib.Dec.{eqb}
 use borrow.Author.Tests.{eqb-true, eq-eqb, ne-eqb}
 use Rattle.words.specs.Below.{any}
-use Rattle.words.specs.Bits.{has, withBit, withoutBit, BitOf, LowestOf}
+use Rattle.words.specs.Bits.{has}
+use Rattle.words.specs.OneBit.{withBit, withoutBit, BitOf, LowestOf}
 use Rattle.words.proofs.Tests.{Gives}
 use Rattle.words.proofs.Below.{any-ext, any-or, any-at}
 use Rattle.words.proofs.Bits.{has-low, has-half}

@@ -3,7 +3,8 @@
 use mathlib.Core.Path.{_≡_, refl, sym, ap, _∙_}
 use mathlib.Core.Bool.{Bool, true, false, not, _&&_, _||_}
 use Prim.Native.Nat.{ℕ, zero, suc, _+_, _-_, _*_, _/_, _%_, _^_, _≤_, _<_}
-use native.Mathlib.Nat.{mod-lt, zero-div, div-one, div-eq-of-lt, one-mul, not-suc-le-zero, le-of-suc-le-suc, pow-suc, add-comm, zero-lt-suc, lt-of-lt-of-le}
+use native.Mathlib.Nat.{mod-lt, zero-div, div-one, div-eq-of-lt, one-mul, pow-suc, add-comm}
+use native.Mathlib.Nat.{not-suc-le-zero, le-of-suc-le-suc, zero-lt-suc, lt-of-lt-of-le}
 use native.Mathlib.Numerals.{add-one}
 use native.Mathlib.Omega.{arith}
 use lib.Dec.{eqb, eqb·zero-suc, eqb·suc-zero, eqb·suc-suc}
@@ -52,7 +53,8 @@ four P a b c d (suc zero) (suc (suc y)) h k = absurd (not-suc-le-zero (le-of-suc
 four P a b c d (suc (suc x)) y h k = absurd (not-suc-le-zero (le-of-suc-le-suc (le-of-suc-le-suc h)))
 
 pub has-and : (a b i : ℕ) → has (bitAnd a b) i ≡ (has a i && has b i)
-has-and = has-op bitAnd _&&_ and-shr and-mod (four (λ x y. eqb (bitAnd x y) 1 ≡ (eqb x 1 && eqb y 1)) refl refl refl refl)
+has-and =
+    has-op bitAnd _&&_ and-shr and-mod (four (λ x y. eqb (bitAnd x y) 1 ≡ (eqb x 1 && eqb y 1)) refl refl refl refl)
 
 pub has-or : (a b i : ℕ) → has (bitOr a b) i ≡ (has a i || has b i)
 has-or = has-op bitOr _||_ or-shr or-mod (four (λ x y. eqb (bitOr x y) 1 ≡ (eqb x 1 || eqb y 1)) refl refl refl refl)
@@ -120,6 +122,7 @@ pub has-ext : (k a b : ℕ) → a < 2 ^ k → b < 2 ^ k → ((i : ℕ) → i < k
 has-ext zero a b h l e = lt-one h ∙ sym (lt-one l)
 has-ext (suc k) a b h l e =
     let p : 2 ^ suc k ≡ 2 ^ k * 2 = pow-suc 2 k in
-    let q : a / 2 ≡ b / 2 = has-ext k (a / 2) (b / 2) (omega arith) (omega arith) (λ i m. sym (has-half a i) ∙ e (suc i) (omega arith) ∙ has-half b i) in
+    let q : a / 2 ≡ b / 2 = has-ext k (a / 2) (b / 2) (omega arith) (omega arith)
+    (λ i m. sym (has-half a i) ∙ e (suc i) (omega arith) ∙ has-half b i) in
     let r : a % 2 ≡ b % 2 = odd-inj a b (sym (has-low a) ∙ e 0 (omega arith) ∙ has-low b) in
     omega arith

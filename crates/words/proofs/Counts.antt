@@ -26,7 +26,9 @@ low-le a b h = go (a % 2) refl
 -- a word within another is the other, or has fewer bits
 pub ones-grow : (k a b : ℕ) → a < 2 ^ k → b < 2 ^ k → Within k a b → (a ≡ b) ⊎ (ones a < ones b)
 ones-grow zero a b h l s = inl (lt-one h ∙ sym (lt-one l))
-ones-grow (suc k) a b h l s = go (ones-grow k (a / 2) (b / 2) (omega arith) (omega arith) (λ i m e. sym (has-half b i) ∙ s (suc i) (omega arith) (has-half a i ∙ e)))
+ones-grow (suc k) a b h l s =
+    go (ones-grow k (a / 2) (b / 2) (omega arith) (omega arith)
+    (λ i m e. sym (has-half b i) ∙ s (suc i) (omega arith) (has-half a i ∙ e)))
   where
     p : 2 ^ suc k ≡ 2 ^ k * 2
     p = pow-suc 2 k
@@ -35,7 +37,11 @@ ones-grow (suc k) a b h l s = go (ones-grow k (a / 2) (b / 2) (omega arith) (ome
     low = low-le a b (λ e. sym (has-low b) ∙ s 0 (omega arith) (has-low a ∙ e))
 
     go : (a / 2 ≡ b / 2) ⊎ (ones (a / 2) < ones (b / 2)) → (a ≡ b) ⊎ (ones a < ones b)
-    go (inl e) = ⊎-elim (λ (q : a % 2 ≡ b % 2). inl (omega arith)) (λ (q : a % 2 < b % 2). inr (omega (arith, ones-step a, ones-step b, ap ones e))) (eq-or-lt-of-le low)
+    go (inl e) =
+        ⊎-elim
+        (λ (q : a % 2 ≡ b % 2). inl (omega arith))
+        (λ (q : a % 2 < b % 2). inr (omega (arith, ones-step a, ones-step b, ap ones e)))
+        (eq-or-lt-of-le low)
     go (inr q) = inr (omega (arith, ones-step a, ones-step b, low))
 
 -- a word without bits is 0
@@ -51,13 +57,16 @@ low-apart a b e = go (a % 2) (b % 2) refl refl
     go zero n p q = omega arith
     go (suc m) zero p q = omega arith
     go (suc m) (suc n) p q =
-        absurd (mathlib.Core.Bool.true≢false (sym (ap₂ _&&_ (eq-eqb (a % 2) 1 (omega arith)) (eq-eqb (b % 2) 1 (omega arith))) ∙ e))
+        absurd (mathlib.Core.Bool.true≢false
+        (sym (ap₂ _&&_ (eq-eqb (a % 2) 1 (omega arith)) (eq-eqb (b % 2) 1 (omega arith))) ∙ e))
 
 -- two words with no bit in common have at most k bits together
-pub ones-apart : (k a b : ℕ) → a < 2 ^ k → b < 2 ^ k → ((i : ℕ) → i < k → (has a i && has b i) ≡ false) → ones a + ones b ≤ k
+pub ones-apart : (k a b : ℕ) → a < 2 ^ k → b < 2 ^ k → ((i : ℕ) → i < k → (has a i && has b i) ≡ false)
+    → ones a + ones b ≤ k
 ones-apart zero a b h l s = omega (arith, ones-le 0 a h, ones-le 0 b l)
 ones-apart (suc k) a b h l s =
     let p : 2 ^ suc k ≡ 2 ^ k * 2 = pow-suc 2 k in
-    let r = ones-apart k (a / 2) (b / 2) (omega arith) (omega arith) (λ i m. ap₂ _&&_ (sym (has-half a i)) (sym (has-half b i)) ∙ s (suc i) (omega arith)) in
+    let r = ones-apart k (a / 2) (b / 2) (omega arith) (omega arith)
+    (λ i m. ap₂ _&&_ (sym (has-half a i)) (sym (has-half b i)) ∙ s (suc i) (omega arith)) in
     let q : a % 2 + b % 2 ≤ 1 = low-apart a b (ap₂ _&&_ (sym (has-low a)) (sym (has-low b)) ∙ s 0 (omega arith)) in
     omega (arith, ones-step a, ones-step b)

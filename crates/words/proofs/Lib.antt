@@ -1,4 +1,5 @@
 -- Tests: Bools as tests: cases on an order, implications.
+-- Checks: laws of `firstFailed`.
 -- Below: laws of `any`, `every` and `first`.
 -- Bits: laws of `has` and of the machine's operations on bits, for every bit number and width.
 -- Words: a number as the word of its bits.
@@ -6,6 +7,7 @@
 -- LowestBit: a word and the number one less.
 -- Counts: how the count of ones grows with the word.
 pub mod Tests
+pub mod Checks
 pub mod Below
 pub mod Bits
 pub mod Words

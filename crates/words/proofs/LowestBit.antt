@@ -7,7 +7,8 @@ use native.Mathlib.Omega.{arith}
 use lib.Bits.{bitAnd, and-le-l}
 use lib.Dec.{eqb, eqb·suc-zero, eqb·suc-suc}
 use borrow.Author.Tests.{eqb-true, eqb-false, ne-eqb}
-use Rattle.words.specs.Bits.{has, withoutBit, LowestOf}
+use Rattle.words.specs.Bits.{has}
+use Rattle.words.specs.OneBit.{withoutBit, LowestOf}
 use Rattle.words.proofs.Bits.{has-low, has-half, has-and, has-ext}
 use Rattle.words.proofs.Words.{has-without-one, without-one-lt}
 

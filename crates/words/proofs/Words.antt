@@ -14,7 +14,8 @@ use Rattle.words.specs.Below.{any}
 use Rattle.words.specs.Bits.{odd, has, digit, word}
 use Rattle.words.proofs.Tests.{lt-or-le}
 use Rattle.words.proofs.Below.{any-ext, any-false, all-false, any-at}
-use Rattle.words.proofs.Bits.{has-low, has-half, has-zero, has-above, has-and, has-or, has-not, has-single, has-ext}
+use Rattle.words.proofs.Bits.{has-low, has-half, has-zero, has-above}
+use Rattle.words.proofs.Bits.{has-and, has-or, has-not, has-single, has-ext}
 
 digit-low : (x : ℕ) (b : Bool) → odd (x * 2 + digit b) ≡ b
 digit-low x true = eq-eqb ((x * 2 + 1) % 2) 1 (omega arith)
@@ -54,7 +55,10 @@ word-ext k p q e = is-word k (word k p) q (word-lt k p) (λ i l. has-word k p i 
 pub lt-of-bits : (k m w : ℕ) → m ≤ k → w < 2 ^ k → ((i : ℕ) → m ≤ i → i < k → has w i ≡ false) → w < 2 ^ m
 lt-of-bits k m w l h e =
     rw (has-ext k w (word m (has w)) h (lt-of-lt-of-le (word-lt m (has w)) (pow-mono l))
-    (λ i j. ⊎-elim (λ (q : i < m). sym (has-word m (has w) i q)) (λ (q : m ≤ i). e i q j ∙ sym (has-above m (word m (has w)) i (word-lt m (has w)) q)) (lt-or-le i m)))
+    (λ i j. ⊎-elim
+    (λ (q : i < m). sym (has-word m (has w) i q))
+    (λ (q : m ≤ i). e i q j ∙ sym (has-above m (word m (has w)) i (word-lt m (has w)) q))
+    (lt-or-le i m)))
     (word-lt m (has w))
 
 -- ---- the lowest n bits: the number below 2 ^ n by one
@@ -86,7 +90,8 @@ zero-and k a b h =
 pub test-one : (k w i : ℕ) → w < 2 ^ k → i < k → not (eqb (bitAnd w (2 ^ i)) 0) ≡ has w i
 test-one k w i h l =
     ap not (zero-and k w (2 ^ i) h) ∙ Bool·not-not _
-    ∙ any-ext k (λ j. has w j && has (2 ^ i) j) (λ j. has w j && eqb j i) (λ j m. ap (λ (b : Bool). has w j && b) (has-single i j))
+    ∙ any-ext k (λ j. has w j && has (2 ^ i) j) (λ j. has w j && eqb j i)
+    (λ j m. ap (λ (b : Bool). has w j && b) (has-single i j))
     ∙ any-at k (has w) i l
 
 -- ---- one bit more

@@ -3,7 +3,8 @@
 ghost use mathlib.Core.Path.{_≡_};
 ghost use Prim.Native.Nat.{ℕ, _+_, _^_, _≤_, _<_};
 ghost use lib.Count.{ones};
-ghost use Rattle.words.specs.Bits.{has, withoutBit, LowestOf};
+ghost use Rattle.words.specs.Bits.{has};
+ghost use Rattle.words.specs.OneBit.{withoutBit, LowestOf};
 
 // The word with bit i alone.
 pub fn single(i: u32) -> u64

@@ -5,9 +5,36 @@ use native.Mathlib.Omega.{arith}
 use lib.ListN.{length-take}
 use borrow.Author.Needs.{needs}
 use Rattle.words.proofs.Tests.{gives-false, failed, passed}
-use Rattle.program.proofs.Soundness.{limits-atoms, clauses-held, constraints-held, nodes-held, sound-limits, sound-clause-table, sound-constraint-table, sound-within, sound-causes, sound-rest}
+use Rattle.program.proofs.Soundness.{limits-atoms, clauses-held, constraints-held, nodes-held, sound-limits}
+use Rattle.program.proofs.Soundness.{sound-clause-table, sound-constraint-table, sound-within, sound-causes}
+use Rattle.program.proofs.Soundness.{sound-rest}
 use Rattle.program.proofs.sound.is_sound.Statement.{statement}
 use Rattle.program.proofs.sound.is_sound.Tie as tie
+
+-- the places before: of the entry, and of the tests passed
+abbrev entry : tie.Else1 → tie.Start
+entry c = c .before .before .before .before .before
+
+abbrev limited : tie.Else3 → tie.Else1
+limited c = c .before .before .before .before
+
+abbrev tabled : tie.Else4 → tie.Else3
+tabled c = c .before .before .before .before
+
+returns-6 : tie.Need-returns-6
+returns-6 c =
+    let o = c .before .before in
+    let w = o .before .before in
+    let k = tabled w in
+    let l = k .before .before in
+    let s = limited k in
+    c .one-formula .ensures
+    ∙ sound-rest _ _ _ _ (entry s .pre)
+    (passed (s .before .limits-hold .ensures) (s .if1 .left))
+    (passed (l .before .clauses-sound .ensures) (l .if2 .left))
+    (passed (k .before .constraints-sound .ensures) (k .if3 .left))
+    (passed (w .before .is-within .ensures) (w .if4 .left))
+    (passed (o .before .causes-few .ensures) (o .if5 .left))
 
 limits-hold-requires : tie.Need-limits-hold-requires
 limits-hold-requires c κs = search needs
@@ -17,7 +44,7 @@ returns c = gives-false _ _ (sound-limits _ _ _ _) (failed (c .before .limits-ho
 
 clauses-sound-requires : tie.Need-clauses-sound-requires
 clauses-sound-requires c κs =
-    clauses-held _ _ _ _ (c .before .before .before .before .before .pre)
+    clauses-held _ _ _ _ (entry c .pre)
     (passed (c .before .limits-hold .ensures) (c .if1 .left))
 
 returns-2 : tie.Need-returns-2
@@ -26,7 +53,7 @@ returns-2 c = gives-false _ _ (sound-clause-table _ _ _ _) (failed (c .before .c
 constraints-sound-requires : tie.Need-constraints-sound-requires
 constraints-sound-requires c κs =
     let s = c .before .before in
-    constraints-held _ _ _ _ (s .before .before .before .before .before .pre)
+    constraints-held _ _ _ _ (entry s .pre)
     (passed (s .before .limits-hold .ensures) (s .if1 .left))
 
 returns-3 : tie.Need-returns-3
@@ -52,8 +79,8 @@ returns-4 c = gives-false _ _ (sound-within _ _ _ _) (failed (c .before .is-with
 
 causes-few-requires : tie.Need-causes-few-requires
 causes-few-requires c κs =
-    let s = c .before .before .before .before .before .before .before .before in
-    clauses-held _ _ _ _ (s .before .before .before .before .before .pre)
+    let s = limited (tabled c) in
+    clauses-held _ _ _ _ (entry s .pre)
     (passed (s .before .limits-hold .ensures) (s .if1 .left))
 
 returns-5 : tie.Need-returns-5
@@ -61,28 +88,13 @@ returns-5 c = gives-false _ _ (sound-causes _ _ _ _) (failed (c .before .causes-
 
 slice-aggregate-one-formula : tie.Need-slice-aggregate-one-formula
 slice-aggregate-one-formula c =
-    let s = c .before .before .before .before .before .before .before .before .before .before .before in
-    let h = nodes-held _ _ _ _ (s .before .before .before .before .before .pre)
+    let s = limited (tabled (c .before .before .before)) in
+    let h = nodes-held _ _ _ _ (entry s .pre)
     (passed (s .before .limits-hold .ensures) (s .if1 .left)) in
     simp length-take (omega arith)
 
 one-formula-requires : tie.Need-one-formula-requires
 one-formula-requires c κs = search needs
-
-returns-6 : tie.Need-returns-6
-returns-6 c =
-    let o = c .before .before in
-    let w = o .before .before in
-    let k = w .before .before .before .before in
-    let l = k .before .before in
-    let s = l .before .before in
-    c .one-formula .ensures
-    ∙ sound-rest _ _ _ _ (s .before .before .before .before .before .pre)
-    (passed (s .before .limits-hold .ensures) (s .if1 .left))
-    (passed (l .before .clauses-sound .ensures) (l .if2 .left))
-    (passed (k .before .constraints-sound .ensures) (k .if3 .left))
-    (passed (w .before .is-within .ensures) (w .if4 .left))
-    (passed (o .before .causes-few .ensures) (o .if5 .left))
 
 pub is-sound-spec : {M : Type 1} → statement M
 is-sound-spec =

@@ -5,6 +5,10 @@ use Rattle.program.specs.Sound.{limitsHold}
 use Rattle.program.proofs.sound.limits_hold.Statement.{statement}
 use Rattle.program.proofs.sound.limits_hold.Tie as tie
 
+-- the place of the entry, before the two tests of the atoms
+abbrev entry : tie.Else2 → tie.Start
+entry c = c .before .before .before .before
+
 returns : tie.Need-returns
 unfolding limitsHold
 returns c = let a = c .before .before .args .c in rw (lt-leb 1 (a .atoms) (omega arith))
@@ -24,7 +28,7 @@ returns-3 c =
 returns-4 : tie.Need-returns-4
 unfolding limitsHold
 returns-4 c =
-    let a = c .before .before .before .before .before .before .before .before .args .c in
+    let a = entry (c .before .before .before .before) .args .c in
     let atoms = le-leb 1 (a .atoms) (omega arith) in
     let few = lt-leb (a .constraints) 32 (omega arith) in
     rw (atoms, le-leb (a .atoms) 64 (omega arith), le-leb (a .clauses) 256 (omega arith), few)
@@ -32,7 +36,7 @@ returns-4 c =
 returns-5 : tie.Need-returns-5
 unfolding limitsHold
 returns-5 c =
-    let a = c .before .before .before .before .before .before .before .before .before .args .c in
+    let a = entry (c .before .before .before .before .before) .args .c in
     let atoms = le-leb 1 (a .atoms) (omega arith) in
     let few = le-leb (a .constraints) 32 (omega arith) in
     rw (atoms, le-leb (a .atoms) 64 (omega arith), le-leb (a .clauses) 256 (omega arith), few)

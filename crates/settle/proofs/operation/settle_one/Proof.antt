@@ -20,30 +20,39 @@ use Rattle.settle.proofs.Answers.{answer-refused, answer-settled}
 use Rattle.settle.proofs.operation.settle_one.Statement.{statement}
 use Rattle.settle.proofs.operation.settle_one.Tie as tie
 
+-- the places before: of the entry, and of the two tests passed
+abbrev entry : tie.Else1 → tie.Start
+entry c = c .before .before .before .before .before
+
+abbrev filled : tie.Else2 → tie.Else1
+filled c = c .before .before
+
+abbrev tested : tie.After-settings → tie.Else2
+tested c = c .before .before .before
+
 -- where the tables are full
-is-full : (c : tie.Else1) → let a = c .before .before .before .before .before .args in
+is-full : (c : tie.Else1) → let a = entry c .args in
     tablesFull (a .clauses .now) (a .constraints .now) (a .formula .now) ≡ true
 is-full c = sym (c .before .tables-full .ensures) ∙ not-false _ (c .if1 .left)
 
 -- where the case is sound
-is-sound : (c : tie.Else2) → let a = c .before .before .before .before .before .before .before .args in
+is-sound : (c : tie.Else2) → let a = entry (filled c) .args in
     sound (a .c) (a .clauses .now) (a .constraints .now) (a .formula .now) ≡ true
 is-sound c = sym (c .before .is-sound .ensures) ∙ not-false _ (c .if2 .left)
 
-clauses-fit : (c : tie.Else2) → let a = c .before .before .before .before .before .before .before .args in
+clauses-fit : (c : tie.Else2) → let a = entry (filled c) .args in
     (a .c .clauses ≤ 256) × (3 * a .c .clauses ≤ length (a .clauses .now))
 clauses-fit c =
-    let a = c .before .before .before .before .before .before .before .args in
+    let a = entry (filled c) .args in
     let l = sound-clauses (a .c) (a .clauses .now) (a .constraints .now) (a .formula .now) (is-sound c) in
-    let f = full-clauses (a .clauses .now) (a .constraints .now) (a .formula .now) (is-full (c .before .before)) in
+    let f = full-clauses (a .clauses .now) (a .constraints .now) (a .formula .now) (is-full (filled c)) in
     (l, omega arith)
 
-causes-are : (c : tie.After-causes)
-    → let a = c .before .before .before .before .before .before .before .before .before .args in
+causes-are : (c : tie.After-causes) → let a = entry (filled (c .before .before)) .args in
     c .causes .result ≡ causesOf (a .c) (a .clauses .now)
 unfolding causesOf
 causes-are c =
-    let a = c .before .before .before .before .before .before .before .before .before .args in
+    let a = entry (filled (c .before .before)) .args in
     c .causes .ensures ∙ ap (causesAmong (a .c .atoms)) (c .before .heads .ensures)
 
 tables-full-requires : tie.Need-tables-full-requires
@@ -81,19 +90,17 @@ settings-requires c κs = rw (causes-are c) (sound-few _ _ _ _ (is-sound (c .bef
 refused-requires-3 : tie.Need-refused-requires-3
 refused-requires-3 c κs = search needs
 
-settings-are : (c : tie.After-settings)
-    → let a = c .before .before .before .before .before .before .before .before .before .before .args in
+settings-are : (c : tie.After-settings) → let a = entry (filled (tested c)) .args in
     c .settings .result ≡ settingsOf (causesOf (a .c) (a .clauses .now))
 settings-are c = c .settings .ensures ∙ ap settingsOf (causes-are (c .before))
 
 returns-3 : tie.Need-returns-3
 returns-3 c =
     let d = c .before .before in
-    let a = d .before .before .before .before .before .before .before .before .before .before .args in
+    let a = entry (filled (tested d)) .args in
     let past : settingsOf (causesOf (a .c) (a .clauses .now)) ≤ a .setting = omega (arith, settings-are d) in
     answer-refused _ _ _ _ _ 13 (c .refused3 .result)
-    (refusal-past _ _ _ _ _ (is-full (d .before .before .before .before .before)) (is-sound (d .before .before .before))
-    past)
+    (refusal-past _ _ _ _ _ (is-full (filled (tested d))) (is-sound (tested d)) past)
     (c .refused3 .ensures)
 
 added-requires : tie.Need-added-requires
@@ -108,13 +115,12 @@ run-requires c κs =
 returns-4 : tie.Need-returns-4
 returns-4 c =
     let d = c .before .before .before .before in
-    let a = d .before .before .before .before .before .before .before .before .before .before .args in
+    let a = entry (filled (tested d)) .args in
     let below : a .setting < settingsOf (causesOf (a .c) (a .clauses .now)) = omega (arith, settings-are d) in
     let added =
     c .before .before .added .ensures ∙ ap (λ (w : ℕ). additionsOf w (a .setting)) (causes-are (d .before)) in
     answer-settled _ _ _ _ _ (c .before .run .result)
-    (refusal-none _ _ _ _ _ (is-full (d .before .before .before .before .before)) (is-sound (d .before .before .before))
-    below)
+    (refusal-none _ _ _ _ _ (is-full (filled (tested d))) (is-sound (tested d)) below)
     (c .before .run .ensures ∙ ap (λ (x : Additions). settled (programWith (a .clauses .now) (a .c .clauses) x)) added)
 
 pub settle-one-spec : {M : Type 1} → statement M

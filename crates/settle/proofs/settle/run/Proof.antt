@@ -18,6 +18,12 @@ Inv-loop clauses n heads added interpretation₀ rounds₀ interpretation rounds
 abbrev μ-loop : tie.MeasureT-loop
 μ-loop clauses n heads added interpretation₀ rounds₀ interpretation rounds = 64 - decidedIn interpretation
 
+returns : tie.Need-returns Inv-loop μ-loop
+returns c =
+    ends _ (program-steady _ _ _) (c .before .before .before .before .loop .inv) _
+    (c .before .before .before .apply .ensures)
+    (sym (c .before .before .decided .ensures) ∙ c .if1 .taken ∙ c .before .decided2 .ensures)
+
 nothing-requires : tie.Need-nothing-requires Inv-loop μ-loop
 nothing-requires c κs = search needs
 
@@ -52,12 +58,6 @@ loop-again : tie.Need-loop-again Inv-loop μ-loop
 loop-again c =
     again _ (program-steady _ _ _) (c .before .before .before .before .loop .inv) _
     (c .before .before .before .apply .ensures) (changed c)
-
-returns : tie.Need-returns Inv-loop μ-loop
-returns c =
-    ends _ (program-steady _ _ _) (c .before .before .before .before .loop .inv) _
-    (c .before .before .before .apply .ensures)
-    (sym (c .before .before .decided .ensures) ∙ c .if1 .taken ∙ c .before .decided2 .ensures)
 
 pub run-spec : {M : Type 1} → statement M
 run-spec =

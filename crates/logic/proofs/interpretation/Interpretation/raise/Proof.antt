@@ -6,9 +6,11 @@ use borrow.Author.Needs.{needs}
 use Prim.Native.Nat.{ℕ}
 use Rattle.logic.specs.declared.value.Value.{Value}
 use Rattle.logic.specs.declared.interpretation.Interpretation.{Interpretation}
-use Rattle.logic.specs.Interpretation.{valueAt, ofValues, assigned}
-use Rattle.logic.proofs.Values.{greater-false-r, greater-unknown-r, greater-true-r}
-use Rattle.logic.proofs.Interpretations.{Good, true-at, values-ext, of-values-at, assigned-kept}
+use Rattle.logic.specs.Formula.{valueOf}
+use Rattle.logic.specs.Interpretation.{valueAt, ofValues}
+use Rattle.logic.specs.Assigned.{assigned}
+use Rattle.logic.proofs.Values.{is-true, greater-false-r, greater-unknown-r, greater-true-r}
+use Rattle.logic.proofs.Interpretations.{Good, values-ext, of-values-at, assigned-kept}
 use Rattle.logic.proofs.interpretation.Interpretation.raise.Statement.{statement}
 use Rattle.logic.proofs.interpretation.Interpretation.raise.Tie as tie
 
@@ -27,16 +29,17 @@ decide-requires c κs = search needs
 enum-told-2 : tie.Need-enum-told-2
 enum-told-2 c = search needs
 
-test-requires : tie.Need-test-requires
-test-requires c κs = search needs
+holds-requires : tie.Need-holds-requires
+holds-requires c κs = search needs
 
 returns : tie.Need-returns
+unfolding valueOf
 returns c =
     let b = c .before .before .before .before in
     let g : Good (b .args .self) =
     record { trues-fit = omega arith; falses-fit = omega arith; disjoint = b .pre .1 } in
-    stays (b .args .self) g (b .args .atom) _
-    (rw (c .before .before .enum-told2 .given .1, sym (c .before .test .ensures) ∙ c .if1 .taken))
+    let e = is-true (valueAt (b .args .self) (b .args .atom)) (sym (c .before .holds .ensures) ∙ c .if1 .taken) in
+    stays (b .args .self) g (b .args .atom) _ (rw (c .before .before .enum-told2 .given .1, e))
 
 decide-requires-2 : tie.Need-decide-requires-2
 decide-requires-2 c κs = search needs
@@ -50,10 +53,11 @@ returns-2 c =
     rw (c .before .enum-told .given .1, greater-true-r (valueAt (b .args .self) (b .args .atom))) (c .decide .ensures)
 
 returns-3 : tie.Need-returns-3
+unfolding valueOf
 returns-3 c =
     let b = c .before .before .before .before .before in
     let v = valueAt (b .args .self) (b .args .atom) in
-    let h = true-at (b .args .self) (b .args .atom) ∙ sym (c .before .before .test .ensures) ∙ c .before .if1 .left in
+    let h = sym (c .before .before .holds .ensures) ∙ c .before .if1 .left in
     rw (c .before .before .before .enum-told2 .given .1, greater-unknown-r v h)
     (c .decide2 .ensures)
 
@@ -72,7 +76,7 @@ raise-spec =
     enum-told
     decide-requires
     enum-told-2
-    test-requires
+    holds-requires
     returns
     decide-requires-2
     enum-told-3
