@@ -149,7 +149,7 @@ static inline uint64_t bits(int place) {
     return past == 0 ? word[0] : word[0] >> past | word[1] << (LANES - past);
 }
 
-// The lanes whose setting, with one digit put to 0, has its bit in the row. No rule has a cause as its head, so that the
+// The lanes whose setting, with one digit put to 0, has its bit in the row. No rule has a cause as its head, so the
 // planes still have what each setting adds.
 static inline uint64_t dropped(const Program *p, int place) {
     uint64_t lanes = 0;
