@@ -4,7 +4,8 @@
 //! |---|---|
 //! | formula, case | values and formulas; what a case file says |
 //! | tree, form, file | a line as a tree, the form of a tree, the checks of a file |
-//! | model, question, answer | least models, minimal explanations and the verdict, the text of the answer |
+//! | model, completion | the step and its iterates; models of the weak completion |
+//! | question, answer | minimal explanations and the verdict, the text of the answer |
 //! | random, names, layout, families | drawn lawful files |
 //! | edges, lists, damage, sample | files at the limits, damaged files, the file of a seed |
 //! | run, compare, tally, bench, check | the driver |
@@ -14,6 +15,7 @@ pub mod bench;
 pub mod case;
 pub mod check;
 pub mod compare;
+pub mod completion;
 pub mod damage;
 pub mod edges;
 pub mod families;

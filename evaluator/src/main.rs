@@ -8,11 +8,8 @@ use std::time::Duration;
 
 /// How the program is called.
 const USAGE: &str = "evaluator answer < FILE
-evaluator check PROGRAM TESTS_DIR [SECONDS]
+evaluator check PROGRAM SECONDS FOLDER..
 evaluator sample SEED";
-
-/// The seconds that a run may take if none are given.
-const SECONDS: u64 = 60;
 
 /// Writes the answer to the file on standard input.
 fn answer_input() -> std::io::Result<()> {
@@ -21,15 +18,18 @@ fn answer_input() -> std::io::Result<()> {
     std::io::stdout().write_all(answer::answer(&bytes).text.as_bytes())
 }
 
+/// Checks `program`, each run of which may take `seconds`, on the files of `folders` and on generated ones.
+fn check(program: &str, seconds: u64, folders: &[&str]) -> bool {
+    let folders: Vec<&Path> = folders.iter().map(Path::new).collect();
+    check::check(Path::new(program), &folders, Duration::from_secs(seconds))
+}
+
 fn main() -> ExitCode {
     let arguments: Vec<String> = std::env::args().skip(1).collect();
     let words: Vec<&str> = arguments.iter().map(String::as_str).collect();
-    let check =
-        |program, folder, seconds| check::check(Path::new(program), Path::new(folder), Duration::from_secs(seconds));
     let done = match words.as_slice() {
         ["answer"] => answer_input().is_ok(),
-        ["check", program, folder] => check(program, folder, SECONDS),
-        ["check", program, folder, seconds] => seconds.parse().is_ok_and(|s| check(program, folder, s)),
+        ["check", program, seconds, folders @ ..] => seconds.parse().is_ok_and(|s| check(program, s, folders)),
         ["sample", seed] => seed.parse().is_ok_and(|s| std::io::stdout().write_all(&sample::sample(s).bytes).is_ok()),
         _ => {
             eprintln!("{USAGE}");
