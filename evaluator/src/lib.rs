@@ -9,6 +9,7 @@
 //! | random, names, layout, families | drawn lawful files |
 //! | edges, lists, damage, sample | files at the limits, damaged files, the file of a seed |
 //! | run, compare, tally, bench, check | the driver |
+//! | tables | tables of the manual |
 
 pub mod answer;
 pub mod bench;
@@ -30,5 +31,6 @@ pub mod question;
 pub mod random;
 pub mod run;
 pub mod sample;
+pub mod tables;
 pub mod tally;
 pub mod tree;

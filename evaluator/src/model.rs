@@ -7,6 +7,7 @@
 //! | `Program` | the bodies of each atom |
 //! | `step` | one application of the step |
 //! | `settle` | the settled interpretation and its round count |
+//! | `after` | the interpretation after some rounds, settled or not |
 //! | `equivalence` | the weak completion's equivalence for an atom |
 //! | `is_contained` | the order of interpretations |
 
@@ -69,6 +70,11 @@ impl Program {
             settled = next;
             rounds += 1;
         }
+    }
+
+    /// The interpretation after `rounds` rounds from nothing decided.
+    pub fn after(&self, rounds: u64) -> Vec<Value> {
+        (0..rounds).fold(vec![UNKNOWN; self.bodies.len()], |i, _| self.step(&i))
     }
 
     /// The weak completion's equivalence for the atom `a`, none if it has no clauses.

@@ -62,12 +62,13 @@ pub struct Findings {
 }
 
 /// A case taken apart: its program, its weak completion, its causes, what is asked of it, and in how many of the
-/// settled sets every model was gone through.
+/// settled sets every model was gone through. A cap on the rounds is for showing what goes wrong with one.
 pub struct Engine {
     program: Program,
     completion: Completion,
     order: SearchOrder,
     tries: usize,
+    cap: Option<u64>,
     pub searched: usize,
     pub causes: Vec<usize>,
     constraints: Vec<Vec<Literal<usize>>>,
@@ -109,7 +110,7 @@ impl Engine {
         let completion = Completion { equivalences };
         let tries = LEAST_TRIES.max(TRIES / 3usize.pow(causes.len() as u32));
         let Case { constraints, observations, query, .. } = case;
-        Engine { program, completion, order, tries, searched: 0, causes, constraints, observations, query }
+        Engine { program, completion, order, tries, cap: None, searched: 0, causes, constraints, observations, query }
     }
 
     /// The least model and the round count of the program with the choices `set` added.
@@ -120,6 +121,9 @@ impl Engine {
         for (cause, choice) in self.causes.iter().zip(set) {
             self.program.bodies[*cause] = choice.bodies();
             self.completion.equivalences[*cause] = self.program.equivalence(*cause);
+        }
+        if let Some(cap) = self.cap {
+            return (self.program.after(cap), cap);
         }
         let (settled, rounds) = self.program.settle();
         assert!(self.completion.is_model(&settled), "the settled interpretation is no model");
@@ -183,7 +187,16 @@ fn verdict(values: &[Value]) -> Verdict {
 ///
 /// Panics if nothing is found to explain where a set with both a fact and an assumption does.
 pub fn ask(case: Case) -> Findings {
-    let mut engine = Engine::new(case);
+    findings(Engine::new(case))
+}
+
+/// The wrong answer of a walk that ends each setting after `cap` rounds; its own count of rounds says nothing.
+pub fn ask_capped(case: Case, cap: u64) -> Findings {
+    findings(Engine { cap: Some(cap), ..Engine::new(case) })
+}
+
+/// What `engine` finds over all settings.
+fn findings(mut engine: Engine) -> Findings {
     let count = engine.causes.len();
     let judged = engine.judge_all(3);
     let searched = engine.searched;
