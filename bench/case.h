@@ -40,16 +40,6 @@ typedef struct {
 // The word with one atom.
 static inline uint64_t bit(int atom) { return (uint64_t)1 << atom; }
 
-// Whether a body is true in an interpretation: no plain atom that isn't true, no negated one that isn't false.
-static inline int body_true(Body b, Interpretation i) {
-    return ((b.plain & ~i.trues) | (b.negated & ~i.falses)) == 0;
-}
-
-// Whether a body is false in an interpretation: a plain atom is false or a negated one true.
-static inline int body_false(Body b, Interpretation i) {
-    return ((b.plain & i.falses) | (b.negated & i.trues)) != 0;
-}
-
 // Ends the program with status 2 and a word on standard error.
 void fail(const char *why);
 

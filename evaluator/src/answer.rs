@@ -8,10 +8,13 @@ use crate::question::{ask, digits, Findings, Verdict};
 /// The slots of the program's list.
 pub const LIST_SLOTS: usize = 1_024;
 
-/// What a file should get: the text, and for the summary of a run the refusal, or the verdict and the number m.
+/// What a file should get: the text, and for the summary of a run the refusal, or the verdict and the number m; how many
+/// settings were settled, and in how many of them every model was gone through.
 pub struct Answer {
     pub text: String,
     pub result: Result<(Verdict, usize), Refusal>,
+    pub settings: usize,
+    pub searched: usize,
 }
 
 /// What the file `bytes` should get.
@@ -19,12 +22,14 @@ pub fn answer(bytes: &[u8]) -> Answer {
     match read(bytes) {
         Err(refusal) => {
             let text = format!("(refused {} {})\n", refusal.number, refusal.line);
-            Answer { text, result: Err(refusal) }
+            Answer { text, result: Err(refusal), settings: 0, searched: 0 }
         }
         Ok(case) => {
             let names = case.names.clone();
             let findings = ask(case);
-            Answer { text: text(&findings, &names), result: Ok((findings.verdict, findings.minimal.len())) }
+            let result = Ok((findings.verdict, findings.minimal.len()));
+            let (settings, searched) = (findings.explains.len(), findings.searched);
+            Answer { text: text(&findings, &names), result, settings, searched }
         }
     }
 }

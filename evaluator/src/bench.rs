@@ -62,6 +62,7 @@ impl Bench {
         }
         let ran = run(&self.program, input, self.limit).map_err(|fault| match fault {
             Fault::NotStarted(why) => format!("cannot be started: {why}"),
+            Fault::NotRead(why) => format!("its output cannot be read: {why}"),
             Fault::TimedOut => {
                 self.timeouts.fetch_add(1, Ordering::Relaxed);
                 format!("no end within {} s", self.limit.as_secs())

@@ -3,6 +3,7 @@
 use crate::bench::{Bench, Outcome, Test};
 use crate::sample::SAMPLES;
 use crate::tally::Tally;
+use std::collections::BTreeMap;
 use std::path::{Path, PathBuf};
 use std::sync::atomic::{AtomicUsize, Ordering};
 use std::sync::Mutex;
@@ -46,35 +47,66 @@ fn outcomes(bench: &Bench, tests: &[Test]) -> Vec<Outcome> {
     done.into_iter().map(|(_, outcome)| outcome).collect()
 }
 
-/// Runs `program` on the case files under `folder` and on the generated files, each for at most `limit`; answers
-/// whether all passed.
-pub fn check(program: &Path, folder: &Path, limit: Duration) -> bool {
-    let mut failures = Vec::new();
-    let stored = case_files(folder).unwrap_or_else(|e| {
-        failures.push(format!("{}: {e}", folder.display()));
-        Vec::new()
-    });
-    if stored.is_empty() {
-        failures.push(format!("{}: no case files", folder.display()));
+/// The counts of a run: tests that passed, settings settled, settings in which every model was gone through.
+#[derive(Default)]
+struct Counts {
+    passed: usize,
+    settings: usize,
+    searched: usize,
+}
+
+/// The case files under `folders`; a folder without any is a failure.
+fn stored_files(folders: &[&Path], failures: &mut Vec<String>) -> Vec<PathBuf> {
+    let mut stored = Vec::new();
+    for folder in folders {
+        match case_files(folder) {
+            Ok(found) if found.is_empty() => failures.push(format!("{}: no case files", folder.display())),
+            Ok(found) => stored.extend(found),
+            Err(e) => failures.push(format!("{}: {e}", folder.display())),
+        }
     }
-    let kept = stored.len();
+    stored
+}
+
+/// The folders of `files`, each with the number of its files.
+fn by_folder(files: &[PathBuf]) -> BTreeMap<&Path, usize> {
+    let mut counts = BTreeMap::new();
+    for folder in files.iter().filter_map(|file| file.parent()) {
+        *counts.entry(folder).or_insert(0) += 1;
+    }
+    counts
+}
+
+/// Runs `program` on the case files under `folders` and on the generated files, each for at most `limit`; answers
+/// whether all passed.
+pub fn check(program: &Path, folders: &[&Path], limit: Duration) -> bool {
+    let mut failures = Vec::new();
+    let stored = stored_files(folders, &mut failures);
+    for (folder, count) in by_folder(&stored) {
+        println!("{}: {count} stored files", folder.display());
+    }
     let tests: Vec<Test> = stored.into_iter().map(Test::Stored).chain((0..SAMPLES).map(Test::Generated)).collect();
     let mut tally = Tally::default();
-    let mut passed = 0;
+    let mut counts = Counts::default();
     for (test, outcome) in tests.iter().zip(outcomes(&Bench::new(program, limit), &tests)) {
-        if let (Test::Generated(_), Some(own)) = (test, &outcome.own) {
-            tally.count(own);
+        if let Some(own) = &outcome.own {
+            counts.settings += own.settings;
+            counts.searched += own.searched;
+            if let Test::Generated(_) = test {
+                tally.count(own);
+            }
         }
         match outcome.complaint {
             Some(complaint) => failures.push(format!("{}: {complaint}", test.name())),
-            None => passed += 1,
+            None => counts.passed += 1,
         }
     }
     failures.extend(tally.missing().into_iter().map(|what| format!("never occurred: {what}")));
     for failure in &failures {
         println!("failed {failure}");
     }
-    println!("{kept} stored files, {SAMPLES} generated files; of the generated: {}", tally.summary());
-    println!("{passed} passed, {} failed", failures.len());
-    failures.is_empty() && passed > 0
+    println!("generated: {SAMPLES} files; {}", tally.summary());
+    println!("every model gone through: {} settings of {}", counts.searched, counts.settings);
+    println!("{} passed, {} failed", counts.passed, failures.len());
+    failures.is_empty() && counts.passed > 0
 }

@@ -4,16 +4,19 @@
 //! |---|---|
 //! | formula, case | values and formulas; what a case file says |
 //! | tree, form, file | a line as a tree, the form of a tree, the checks of a file |
-//! | model, question, answer | least models, minimal explanations and the verdict, the text of the answer |
+//! | model, completion | the step and its iterates; models of the weak completion |
+//! | question, answer | minimal explanations and the verdict, the text of the answer |
 //! | random, names, layout, families | drawn lawful files |
 //! | edges, lists, damage, sample | files at the limits, damaged files, the file of a seed |
 //! | run, compare, tally, bench, check | the driver |
+//! | tables | tables of the manual |
 
 pub mod answer;
 pub mod bench;
 pub mod case;
 pub mod check;
 pub mod compare;
+pub mod completion;
 pub mod damage;
 pub mod edges;
 pub mod families;
@@ -28,5 +31,6 @@ pub mod question;
 pub mod random;
 pub mod run;
 pub mod sample;
+pub mod tables;
 pub mod tally;
 pub mod tree;

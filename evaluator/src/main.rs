@@ -1,6 +1,7 @@
-//! The program `evaluator`: answers a file, checks a program, or writes a generated file.
+//! The program `evaluator`: answers a file, checks a program, writes a generated file or a table of the manual.
 
-use evaluator::{answer, check, sample};
+use evaluator::case::Case;
+use evaluator::{answer, check, file, sample, tables};
 use std::io::{Read, Write};
 use std::path::Path;
 use std::process::ExitCode;
@@ -8,11 +9,11 @@ use std::time::Duration;
 
 /// How the program is called.
 const USAGE: &str = "evaluator answer < FILE
-evaluator check PROGRAM TESTS_DIR [SECONDS]
-evaluator sample SEED";
-
-/// The seconds that a run may take if none are given.
-const SECONDS: u64 = 60;
+evaluator check PROGRAM SECONDS FOLDER..
+evaluator sample SEED
+evaluator settings NAME.. < FILE
+evaluator caps < FILE
+evaluator limits";
 
 /// Writes the answer to the file on standard input.
 fn answer_input() -> std::io::Result<()> {
@@ -21,16 +22,34 @@ fn answer_input() -> std::io::Result<()> {
     std::io::stdout().write_all(answer::answer(&bytes).text.as_bytes())
 }
 
+/// Writes the rows that `table` makes of the case on standard input, which is lawful.
+fn rows(table: impl Fn(Case) -> Vec<String>) -> bool {
+    let mut bytes = Vec::new();
+    let read = std::io::stdin().read_to_end(&mut bytes).is_ok();
+    file::read(&bytes).is_ok_and(|case| read && written(&table(case)))
+}
+
+/// Writes `lines`; whether that can be done.
+fn written(lines: &[String]) -> bool {
+    std::io::stdout().write_all((lines.join("\n") + "\n").as_bytes()).is_ok()
+}
+
+/// Checks `program`, each run of which may take `seconds`, on the files of `folders` and on generated ones.
+fn check(program: &str, seconds: u64, folders: &[&str]) -> bool {
+    let folders: Vec<&Path> = folders.iter().map(Path::new).collect();
+    check::check(Path::new(program), &folders, Duration::from_secs(seconds))
+}
+
 fn main() -> ExitCode {
     let arguments: Vec<String> = std::env::args().skip(1).collect();
     let words: Vec<&str> = arguments.iter().map(String::as_str).collect();
-    let check =
-        |program, folder, seconds| check::check(Path::new(program), Path::new(folder), Duration::from_secs(seconds));
     let done = match words.as_slice() {
         ["answer"] => answer_input().is_ok(),
-        ["check", program, folder] => check(program, folder, SECONDS),
-        ["check", program, folder, seconds] => seconds.parse().is_ok_and(|s| check(program, folder, s)),
+        ["check", program, seconds, folders @ ..] => seconds.parse().is_ok_and(|s| check(program, s, folders)),
         ["sample", seed] => seed.parse().is_ok_and(|s| std::io::stdout().write_all(&sample::sample(s).bytes).is_ok()),
+        ["settings", shown @ ..] => rows(|case| tables::settings(case, shown)),
+        ["caps"] => rows(tables::caps),
+        ["limits"] => written(&tables::limits()),
         _ => {
             eprintln!("{USAGE}");
             false

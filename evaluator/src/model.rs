@@ -1,5 +1,4 @@
-//! The least model of a program with a set added: by the step's iterates, and for few atoms from the definition, by
-//! trying every interpretation.
+//! A program's step, its iterates, and its weak completion.
 //!
 //! From: document 01, Interpretations and the step.
 //!
@@ -8,8 +7,9 @@
 //! | `Program` | the bodies of each atom |
 //! | `step` | one application of the step |
 //! | `settle` | the settled interpretation and its round count |
+//! | `after` | the interpretation after some rounds, settled or not |
 //! | `equivalence` | the weak completion's equivalence for an atom |
-//! | `least_model` | the model contained in every other, among all interpretations |
+//! | `is_contained` | the order of interpretations |
 
 use crate::case::{Body, Clause};
 use crate::formula::{Connective, Formula, Value, FALSE, TRUE, UNKNOWN};
@@ -72,6 +72,11 @@ impl Program {
         }
     }
 
+    /// The interpretation after `rounds` rounds from nothing decided.
+    pub fn after(&self, rounds: u64) -> Vec<Value> {
+        (0..rounds).fold(vec![UNKNOWN; self.bodies.len()], |i, _| self.step(&i))
+    }
+
     /// The weak completion's equivalence for the atom `a`, none if it has no clauses.
     pub fn equivalence(&self, a: usize) -> Option<Formula<usize>> {
         let bodies = self.bodies[a].iter().map(|b| b.formula());
@@ -80,31 +85,7 @@ impl Program {
     }
 }
 
-/// Whether each of `equivalences` is true in `i`.
-pub fn is_model(equivalences: &[&Formula<usize>], i: &[Value]) -> bool {
-    equivalences.iter().all(|e| e.value(i) == TRUE)
-}
-
 /// Whether what `i` decides is decided alike in `j`.
-fn is_contained(i: &[Value], j: &[Value]) -> bool {
+pub fn is_contained(i: &[Value], j: &[Value]) -> bool {
     i.iter().zip(j).all(|(v, w)| *v == UNKNOWN || v == w)
-}
-
-/// Every interpretation of `atoms` atoms.
-fn interpretations(atoms: usize) -> Vec<Vec<Value>> {
-    (0..atoms).fold(vec![Vec::new()], |shorter, _| {
-        let longer = |i: &Vec<Value>| [FALSE, UNKNOWN, TRUE].map(|v| [i.as_slice(), &[v]].concat());
-        shorter.iter().flat_map(longer).collect()
-    })
-}
-
-/// The one model of `equivalences` that is contained in every other model.
-///
-/// Panics if there is none or another one.
-pub fn least_model(equivalences: &[&Formula<usize>], atoms: usize) -> Vec<Value> {
-    let models: Vec<Vec<Value>> = interpretations(atoms).into_iter().filter(|i| is_model(equivalences, i)).collect();
-    let mut least = models.iter().filter(|i| models.iter().all(|j| is_contained(i, j)));
-    let found = least.next().expect("a least model");
-    assert!(least.next().is_none(), "two least models");
-    found.clone()
 }

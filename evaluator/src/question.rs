@@ -10,11 +10,14 @@
 //! | `Verdict`, `Findings` | the question's answer |
 
 use crate::case::{causes, Body, Case};
+use crate::completion::{search_order, Completion, SearchOrder};
 use crate::formula::{Formula, Literal, Value, FALSE, TRUE};
-use crate::model::{is_model, least_model, Program};
+use crate::model::Program;
 
-/// The most atoms for which every interpretation is tried.
-const TRIED_ATOMS: usize = 5;
+/// The values tried in the search for the models of a setting: so many over all settings of a case, and no fewer than
+/// `LEAST_TRIES` for each.
+const TRIES: usize = 100_000;
+const LEAST_TRIES: usize = 500;
 
 /// The most causes for which every set is judged where nothing explains.
 const TRIED_CAUSES: usize = 5;
@@ -48,19 +51,25 @@ pub enum Verdict {
 }
 
 /// The question's answer: whether each setting explains, every minimal one in rising order, the rounds over all
-/// settings, and the verdict.
+/// settings, and the verdict; and in how many of the settings every model was gone through.
 pub struct Findings {
     pub causes: Vec<usize>,
     pub explains: Vec<bool>,
     pub minimal: Vec<usize>,
     pub rounds: u64,
     pub verdict: Verdict,
+    pub searched: usize,
 }
 
-/// A case taken apart: its program, the equivalences of its defined atoms, its causes, and what is asked of it.
+/// A case taken apart: its program, its weak completion, its causes, what is asked of it, and in how many of the
+/// settled sets every model was gone through. A cap on the rounds is for showing what goes wrong with one.
 pub struct Engine {
     program: Program,
-    defined: Vec<Formula<usize>>,
+    completion: Completion,
+    order: SearchOrder,
+    tries: usize,
+    cap: Option<u64>,
+    pub searched: usize,
     pub causes: Vec<usize>,
     constraints: Vec<Vec<Literal<usize>>>,
     observations: Vec<Literal<usize>>,
@@ -96,25 +105,32 @@ impl Engine {
         let atoms = case.names.len();
         let causes = causes(atoms, &case.clauses);
         let program = Program::new(atoms, case.clauses);
-        let defined = (0..atoms).filter_map(|a| program.equivalence(a)).collect();
+        let equivalences: Vec<_> = (0..atoms).map(|a| program.equivalence(a)).collect();
+        let order = search_order(&equivalences);
+        let completion = Completion { equivalences };
+        let tries = LEAST_TRIES.max(TRIES / 3usize.pow(causes.len() as u32));
         let Case { constraints, observations, query, .. } = case;
-        Engine { program, defined, causes, constraints, observations, query }
+        Engine { program, completion, order, tries, cap: None, searched: 0, causes, constraints, observations, query }
     }
 
     /// The least model and the round count of the program with the choices `set` added.
     ///
-    /// Panics if the settled interpretation is no model of the weak completion, or not the one found by trial.
+    /// Panics if the settled interpretation is no model of the weak completion, or has a decided atom that can be made
+    /// unknown, or is not contained in another model that is found.
     fn settle(&mut self, set: &[Choice]) -> (Vec<Value>, u64) {
         for (cause, choice) in self.causes.iter().zip(set) {
             self.program.bodies[*cause] = choice.bodies();
+            self.completion.equivalences[*cause] = self.program.equivalence(*cause);
+        }
+        if let Some(cap) = self.cap {
+            return (self.program.after(cap), cap);
         }
         let (settled, rounds) = self.program.settle();
-        let added: Vec<_> = self.causes.iter().filter_map(|c| self.program.equivalence(*c)).collect();
-        let completion: Vec<_> = self.defined.iter().chain(&added).collect();
-        assert!(is_model(&completion, &settled), "the settled interpretation is no model");
-        if settled.len() <= TRIED_ATOMS {
-            assert!(settled == least_model(&completion, settled.len()), "the settled model is not the least");
-        }
+        assert!(self.completion.is_model(&settled), "the settled interpretation is no model");
+        assert!(self.completion.loosened(&settled).is_none(), "a decided atom can be made unknown");
+        let least = self.completion.contained_in_all(&settled, &self.order, self.tries);
+        assert!(least != Some(false), "the settled model is not the least");
+        self.searched += usize::from(least.is_some());
         (settled, rounds)
     }
 
@@ -171,9 +187,19 @@ fn verdict(values: &[Value]) -> Verdict {
 ///
 /// Panics if nothing is found to explain where a set with both a fact and an assumption does.
 pub fn ask(case: Case) -> Findings {
-    let mut engine = Engine::new(case);
+    findings(Engine::new(case))
+}
+
+/// The wrong answer of a walk that ends each setting after `cap` rounds; its own count of rounds says nothing.
+pub fn ask_capped(case: Case, cap: u64) -> Findings {
+    findings(Engine { cap: Some(cap), ..Engine::new(case) })
+}
+
+/// What `engine` finds over all settings.
+fn findings(mut engine: Engine) -> Findings {
     let count = engine.causes.len();
     let judged = engine.judge_all(3);
+    let searched = engine.searched;
     let minimal: Vec<usize> =
         (0..judged.len()).filter(|s| judged[*s].explains && !has_explaining_subset(*s, count, &judged)).collect();
     if minimal.is_empty() && count <= TRIED_CAUSES {
@@ -182,5 +208,5 @@ pub fn ask(case: Case) -> Findings {
     let values: Vec<Value> = minimal.iter().map(|s| judged[*s].query).collect();
     let rounds = judged.iter().map(|j| j.rounds).sum();
     let explains = judged.iter().map(|j| j.explains).collect();
-    Findings { causes: engine.causes, explains, minimal, rounds, verdict: verdict(&values) }
+    Findings { causes: engine.causes, explains, minimal, rounds, verdict: verdict(&values), searched }
 }

@@ -5,7 +5,7 @@ use std::io::{Read, Write};
 use std::os::unix::process::ExitStatusExt;
 use std::path::{Path, PathBuf};
 use std::process::{Child, Command, ExitStatus, Stdio};
-use std::sync::mpsc::{channel, Receiver};
+use std::sync::mpsc::{channel, Receiver, RecvTimeoutError};
 use std::thread;
 use std::time::{Duration, Instant};
 
@@ -26,22 +26,32 @@ pub struct Ran {
     pub status: ExitStatus,
 }
 
-/// Why a program did not end by itself.
+/// Why there is no end of a program to be judged.
 pub enum Fault {
     NotStarted(String),
+    NotRead(String),
     TimedOut,
 }
 
-/// Reads all of `source` in a thread of its own and sends it.
-fn collect(mut source: impl Read + Send + 'static) -> Receiver<Vec<u8>> {
+/// Reads all of `source` in a thread of its own and sends it, or why it cannot be read.
+fn collect(mut source: impl Read + Send + 'static) -> Receiver<std::io::Result<Vec<u8>>> {
     let (sender, receiver) = channel();
     thread::spawn(move || {
         let mut bytes = Vec::new();
-        if source.read_to_end(&mut bytes).is_ok() {
-            sender.send(bytes).ok();
-        }
+        let read = source.read_to_end(&mut bytes).map(|_| bytes);
+        sender.send(read).ok();
     });
     receiver
+}
+
+/// What `source` has sent before `left` is over.
+fn received(source: Receiver<std::io::Result<Vec<u8>>>, left: Duration) -> Result<Vec<u8>, Fault> {
+    match source.recv_timeout(left) {
+        Ok(Ok(bytes)) => Ok(bytes),
+        Ok(Err(e)) => Err(Fault::NotRead(e.to_string())),
+        Err(RecvTimeoutError::Disconnected) => Err(Fault::NotRead(String::from("the reading thread ended"))),
+        Err(RecvTimeoutError::Timeout) => Err(Fault::TimedOut),
+    }
 }
 
 /// Writes `parts` to the standard input of `child` in a thread of its own; a program may end before it has read all.
@@ -78,18 +88,18 @@ fn start(program: &Path, input: Input) -> std::io::Result<Child> {
 }
 
 /// The end of `child` before `deadline`, with its output.
-fn awaited(child: &mut Child, deadline: Instant) -> Option<Ran> {
+fn awaited(child: &mut Child, deadline: Instant) -> Result<Ran, Fault> {
     let left = || deadline.saturating_duration_since(Instant::now());
-    let stdout = collect(child.stdout.take()?);
-    let stderr = collect(child.stderr.take()?);
-    let stdout = stdout.recv_timeout(left()).ok()?;
-    let stderr = stderr.recv_timeout(left()).ok()?;
+    let stdout = collect(child.stdout.take().expect("a piped output"));
+    let stderr = collect(child.stderr.take().expect("a piped standard error"));
+    let stdout = received(stdout, left())?;
+    let stderr = received(stderr, left())?;
     loop {
-        if let Some(status) = child.try_wait().ok()? {
-            return Some(Ran { stdout, stderr, status });
+        if let Some(status) = child.try_wait().map_err(|e| Fault::NotRead(e.to_string()))? {
+            return Ok(Ran { stdout, stderr, status });
         }
         if left().is_zero() {
-            return None;
+            return Err(Fault::TimedOut);
         }
         thread::sleep(Duration::from_micros(200));
     }
@@ -99,11 +109,11 @@ fn awaited(child: &mut Child, deadline: Instant) -> Option<Ran> {
 pub fn run(program: &Path, input: Input, limit: Duration) -> Result<Ran, Fault> {
     let mut child = start(program, input).map_err(|e| Fault::NotStarted(e.to_string()))?;
     let ran = awaited(&mut child, Instant::now() + limit);
-    if ran.is_none() {
+    if ran.is_err() {
         child.kill().ok();
         child.wait().ok();
     }
-    ran.ok_or(Fault::TimedOut)
+    ran
 }
 
 /// How a program with the status `status` ended, none if it ended with status 0.

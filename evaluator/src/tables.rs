@@ -1,0 +1,105 @@
+//! The tables that the manual shows: the settings of a case, the answers under a cap on rounds, the limits.
+
+use crate::answer::{answer, LIST_SLOTS};
+use crate::case::Case;
+use crate::edges::EDGES;
+use crate::file::{ATOMS, CAUSES, CLAUSES, CONSTRAINTS, DEPTH, FILE_BYTES, LINE_BYTES, NAME_BYTES};
+use crate::formula::{Value, FALSE, TRUE};
+use crate::question::{ask, ask_capped, digits, Engine, Findings};
+use crate::random::Random;
+
+/// The limits in the manual's order: the words, the number, and the place among `EDGES`.
+const LIMITS: [(&str, usize, usize); 8] = [
+    ("names in a file", ATOMS, 0),
+    ("bytes of a name", NAME_BYTES, 1),
+    ("clauses, that is `true`, `false` and `if` lines", CLAUSES, 5),
+    ("constraints, that is `never` lines", CONSTRAINTS, 6),
+    ("bytes of a line without its LF", LINE_BYTES, 4),
+    ("bytes of a file", FILE_BYTES, 7),
+    ("depth of the query's formula", DEPTH, 3),
+    ("causes", CAUSES, 2),
+];
+
+/// `n` in decimal, with a comma before the last three digits of a number over 999.
+fn grouped(n: usize) -> String {
+    if n < 1_000 {
+        n.to_string()
+    } else {
+        format!("{},{:03}", n / 1_000, n % 1_000)
+    }
+}
+
+/// The word for `v`.
+fn word(v: Value) -> &'static str {
+    match v {
+        FALSE => "false",
+        TRUE => "true",
+        _ => "unknown",
+    }
+}
+
+/// Whether the setting `t` is a proper subset of `s`, for `count` causes.
+fn is_smaller(t: usize, s: usize, count: usize) -> bool {
+    t != s && digits(t, 3, count).iter().zip(digits(s, 3, count)).all(|(d, e)| *d == 0 || *d == e)
+}
+
+/// What the manual says of the setting `s`.
+fn remark(found: &Findings, s: usize) -> String {
+    let smaller: Vec<String> =
+        (0..s).filter(|t| found.explains[*t] && is_smaller(*t, s, found.causes.len())).map(|t| t.to_string()).collect();
+    match (found.explains[s], smaller.as_slice()) {
+        (false, _) => String::from("no"),
+        (true, []) => String::from("yes, minimal"),
+        (true, [one]) => format!("yes, but {one} is smaller"),
+        (true, more) => format!("yes, but {} are smaller", more.join(" and ")),
+    }
+}
+
+/// A row for each setting of `case`: its number, the values of the atoms `shown`, its rounds, whether it explains.
+pub fn settings(case: Case, shown: &[&str]) -> Vec<String> {
+    let atoms: Vec<usize> = shown.iter().filter_map(|n| case.names.iter().position(|m| m == n)).collect();
+    let found = ask(case.clone());
+    let mut engine = Engine::new(case);
+    let mut row = |s: usize| {
+        let (model, rounds) = engine.settle_setting(s);
+        let values: Vec<&str> = atoms.iter().map(|a| word(model[*a])).collect();
+        format!("| {s} | {} | {rounds} | {} |", values.join(" | "), remark(&found, s))
+    };
+    (0..found.explains.len()).map(&mut row).collect()
+}
+
+/// For each cap from 1 to the number of names and no cap: the cap, the verdict, and the settings found minimal, each as
+/// the names of its causes joined by `+`.
+pub fn caps(case: Case) -> Vec<String> {
+    let line = |cap: &str, found: Findings| {
+        let explanation = |s: &usize| {
+            let chosen = found.causes.iter().zip(digits(*s, 3, found.causes.len())).filter(|(_, d)| *d > 0);
+            chosen.map(|(c, _)| case.names[*c].as_str()).collect::<Vec<_>>().join("+")
+        };
+        let explanations: Vec<String> = found.minimal.iter().map(explanation).collect();
+        format!("{cap} {:?} {}", found.verdict, explanations.join(" ")).to_lowercase()
+    };
+    let capped = (1..=case.names.len() as u64).map(|cap| line(&cap.to_string(), ask_capped(case.clone(), cap)));
+    capped.chain([line("none", ask(case.clone()))]).collect()
+}
+
+/// The number of the refusal that `file` gets, 0 if it is read.
+fn refusal(file: &[u8]) -> u32 {
+    answer(file).result.err().map_or(0, |refusal| refusal.number)
+}
+
+/// A row for each limit: what, at most how many, and the refusal that a file one past it gets.
+pub fn limits() -> Vec<String> {
+    let row = |(what, most, at): &(&str, usize, usize)| {
+        let past = EDGES[*at](&mut Random::new(0), 1);
+        format!("| {what} | {} | {} |", grouped(*most), refusal(&past.bytes))
+    };
+    let queries = [refusal(b"(query a)\n(query a)\n"), refusal(b"")];
+    let mut rows: Vec<String> = LIMITS.iter().map(row).collect();
+    rows.insert(LIMITS.len() - 1, format!("| queries | 1, and no fewer | {}, {} |", queries[0], queries[1]));
+    let listed = grouped(LIST_SLOTS);
+    rows.push(format!(
+        "| `cause` lines in a report | {listed} | no refusal: m tells how many explanations there are |"
+    ));
+    rows
+}
