@@ -2,12 +2,14 @@
 //!
 //! | file | holds |
 //! |---|---|
-//! | tests, lent, calls | families and their counts, lent memory, one call compared whole |
+//! | tests, outside | families and their counts, a call that touches memory outside what is lent |
+//! | pages, lent, calls | memory between pages that can't be touched, lent memory, one call compared whole |
 //! | held, sound, due | tables of a case and back, phrases that a case breaks, what the evaluator finds due |
 //! | corpus, drawn | files, and cases that no file need give |
 //! | reading, read_sizes | reading |
 //! | settling, asking, case_sizes | settling and the question |
 //! | breaches, unsound | each phrase of soundness broken alone, and each limit met |
+//! | fences | calls with the fence in front |
 //! | reports, wrappers, threads | the report, the safe calls of the Rust module, calls from several threads |
 
 mod asking;
@@ -17,8 +19,11 @@ mod case_sizes;
 mod corpus;
 mod drawn;
 mod due;
+mod fences;
 mod held;
 mod lent;
+mod outside;
+mod pages;
 mod read_sizes;
 mod reading;
 mod reports;
@@ -46,6 +51,7 @@ fn main() -> ExitCode {
     case_sizes::run(&mut tests);
     unsound::run(&mut tests);
     reports::run(&mut tests, &folder);
+    fences::run(&mut tests, &folder);
     wrappers::run(&mut tests, &folder);
     threads::run(&mut tests);
     ExitCode::from(u8::from(!tests.close()))

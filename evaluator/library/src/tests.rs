@@ -1,5 +1,7 @@
 //! Families of calls: how many were made, which failed.
 
+use crate::outside;
+
 /// The most failures of a family that are shown one by one.
 const SHOWN: usize = 20;
 
@@ -25,6 +27,7 @@ pub struct Tests {
 impl Tests {
     /// Begins the family `name`.
     pub fn family(&mut self, name: &str) {
+        outside::watch(name);
         self.families.push(Family { name: String::from(name), calls: 0, failures: 0 });
     }
 
