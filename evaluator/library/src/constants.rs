@@ -7,7 +7,7 @@
 //! | `REFUSALS`, `refusal` | the names of the refusals by number, and the name of one number |
 //! | `run` | the families of the Rust module's constants |
 
-use crate::corpus::{EACH, M4};
+use crate::corpus::M4;
 use crate::due::{refused, unasked, Asking, Settling};
 use crate::held::{Held, FORMULA_BYTES};
 use crate::tests::{differing, Tests};
@@ -140,6 +140,4 @@ pub fn run(tests: &mut Tests, module: &Path) {
     }
     let source = std::fs::read_to_string(module.join("src/sizes.rs")).unwrap_or_default();
     tests.require("each constant of sizes.rs is compared", declared(&source) == SIZES.map(|(name, _)| name));
-    let each = held(&String::from_utf8_lossy(EACH));
-    tests.require("a file with something in each table", each.record[..4].iter().all(|count| *count > 0));
 }
