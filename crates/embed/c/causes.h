@@ -22,6 +22,9 @@
 extern "C" {
 #endif
 
+/* The version of this header and of the Rust module beside it. */
+#define CAUSES_VERSION "0.1.0"
+
 /* Sizes of the lent tables, in elements. A longer table is lawful; what is past its size keeps its contents. */
 enum {
     CAUSES_CLAUSE_WORDS = 768,    /* 3 a clause: head + 64 * kind, plain atoms, negated atoms */
@@ -41,6 +44,14 @@ enum {
     CAUSES_SETTINGS = 59049,     /* 3^10, the most settings: bytes of a work area */
     CAUSES_MINIMAL = 15360,      /* the most minimal explanations: slots of a list */
     CAUSES_REPORT_BYTES = 264252 /* the longest report */
+};
+
+/* Sizes of a thread's stack, in bytes, with which an operation ends; each has room to spare. */
+enum {
+    CAUSES_READ_STACK = 32768,
+    CAUSES_SETTLE_STACK = 32768,
+    CAUSES_QUESTION_STACK = 98304,
+    CAUSES_REPORT_STACK = 196608
 };
 
 /* Words of a case record: the counts of atoms, clauses, constraints and formula nodes, the plain and the negated
@@ -99,8 +110,8 @@ uint32_t causes_settle(const uint64_t *record, size_t record_words,
 
 /* Answers the question of a case. The minimal settings go to the list in rising order, as many as it has slots for, and
  * byte s of the work area becomes 0 (setting s doesn't explain), 1 (explains, not minimal) or 2 (minimal); slots and
- * bytes behind these keep their contents. Refuses with 1, 13, 15, in this order, and then touches neither. Takes about
- * 63 KB of stack. answer: CAUSES_QUESTION_WORDS. */
+ * bytes behind these keep their contents. Refuses with 1, 13, 15, in this order, and then touches neither.
+ * answer: CAUSES_QUESTION_WORDS. */
 uint32_t causes_question(const uint64_t *record, size_t record_words,
                          const uint64_t *clauses, size_t clause_words,
                          const uint64_t *constraints, size_t constraint_words,
@@ -111,10 +122,41 @@ uint32_t causes_question(const uint64_t *record, size_t record_words,
 
 /* Writes the report of a case file, as the program `causes` does: the answer to its question, or
  * `(refused number line)`. Bytes behind the text keep their contents. Refuses with 19 an output shorter than the text
- * and then doesn't touch it. Takes about 132 KB of stack. answer: CAUSES_REPORT_WORDS. */
+ * and then doesn't touch it. answer: CAUSES_REPORT_WORDS. */
 uint32_t causes_report(const uint8_t *file, size_t file_bytes,
                        uint8_t *out, size_t out_bytes,
                        uint64_t *answer, size_t answer_words);
+
+/* The version as a text. */
+static inline const char *causes_version(void)
+{
+    return CAUSES_VERSION;
+}
+
+/* What a refusal means, in the manual's words; a null pointer for a number that is none. */
+static inline const char *causes_refusal_text(uint32_t number)
+{
+    switch (number) {
+    case CAUSES_SHORT: return "a lent table is shorter than its size";
+    case CAUSES_LONG_FILE: return "the file is over 32,768 bytes";
+    case CAUSES_LONG_LINE: return "a line, comments included, is over 200 bytes";
+    case CAUSES_BAD_BYTE:
+        return "a line that is no comment has a byte other than a to z, 0 to 9, `-`, space, `(`, `)`";
+    case CAUSES_NOT_A_FORM: return "the line is not one of the forms";
+    case CAUSES_LONG_NAME: return "a name is over 16 bytes";
+    case CAUSES_DEEP_FORMULA: return "the query is deeper than 16";
+    case CAUSES_MANY_NAMES: return "the line brings a 65th name";
+    case CAUSES_MANY_CLAUSES: return "the line is the 257th clause, or the 33rd constraint";
+    case CAUSES_SECOND_QUERY: return "the line is a second query";
+    case CAUSES_NO_QUERY: return "the file has no query";
+    case CAUSES_MANY_CAUSES: return "the file has more than 10 causes";
+    case CAUSES_UNSOUND: return "the case handed in is not sound";
+    case CAUSES_NO_SETTING: return "the setting's number is not below the number of settings";
+    case CAUSES_SHORT_WORK: return "the work area is shorter than one byte for each setting";
+    case CAUSES_SHORT_OUTPUT: return "the lent output is too short for the report";
+    default: return NULL;
+    }
+}
 
 #ifdef __cplusplus
 }

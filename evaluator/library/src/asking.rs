@@ -6,6 +6,7 @@ use crate::drawn::{drawn, small, strewn};
 use crate::due::{unasked, Asking};
 use crate::held::Held;
 use crate::tests::Tests;
+use evaluator::answer::LIST_SLOTS;
 use evaluator::case::Case;
 use evaluator::file;
 use evaluator::random::Random;
@@ -55,6 +56,22 @@ fn files(tests: &mut Tests, name: &str, inputs: &[Input]) -> Met {
         }
     }
     met
+}
+
+/// Asks the questions of the load files, with the program's list.
+fn load(tests: &mut Tests, folder: &Path) {
+    tests.family("question: stored files, load");
+    let mut most = 0;
+    for input in stored(folder, "load") {
+        let case = file::read(&input.bytes).unwrap_or_else(|r| panic!("refused with {}", r.number));
+        let held = strewn(&mut Random::new(1), &Held::of(&case));
+        let asking = Asking::of(case);
+        let due = asking.due(LIST_SLOTS);
+        most = most.max(due.answer[3]);
+        let room = Room { list: LIST_SLOTS, work: asking.settings(), answer: 4 };
+        tests.call(|| format!("{}, {room:?}", input.name), question(&held, room, &due));
+    }
+    tests.require("rounds past 2^20", most > 1 << 20);
 }
 
 /// Drawn cases, with garbage past the counts.
@@ -110,6 +127,7 @@ pub fn run(tests: &mut Tests, folder: &Path) {
     for part in ["marked", "vectors", "sources", "edges"] {
         files(tests, &format!("question: stored files, {part}"), &stored(folder, part));
     }
+    load(tests, folder);
     let met = files(tests, "question: generated files", &generated(SEEDS, |s| s % 2 == 0 && s % 20 != 0));
     tests.require("each verdict and m > 1", met.verdicts.iter().all(|n| *n > 0) && met.several > 0);
     let met = drawn_cases(tests);

@@ -26,7 +26,7 @@ pub fn refused(number: u32, line: u64) -> ReadDue {
 }
 
 /// The atoms with the value `value` in `model`, bit i for atom i.
-fn mask(model: &[Value], value: Value) -> u64 {
+pub fn mask(model: &[Value], value: Value) -> u64 {
     model.iter().enumerate().filter(|(_, v)| **v == value).fold(0, |m, (i, _)| m | 1 << i)
 }
 
@@ -46,9 +46,14 @@ impl Settling {
         3u64.pow(self.engine.causes.len() as u32)
     }
 
+    /// The least model of the setting `s`, by atom, and its rounds.
+    pub fn model(&mut self, s: u64) -> (Vec<Value>, u64) {
+        self.engine.settle_setting(s as usize)
+    }
+
     /// The true atoms, the false atoms and the rounds of the setting `s`.
     pub fn words(&mut self, s: u64) -> [u64; 3] {
-        let (model, rounds) = self.engine.settle_setting(s as usize);
+        let (model, rounds) = self.model(s);
         [mask(&model, TRUE), mask(&model, FALSE), rounds]
     }
 }

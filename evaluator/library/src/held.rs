@@ -27,7 +27,7 @@ pub struct Held {
 }
 
 /// The plain and the negated atoms of `literals`, bit i for atom i.
-fn masks(literals: &[Literal<usize>]) -> [u64; 2] {
+pub fn masks(literals: &[Literal<usize>]) -> [u64; 2] {
     let mask = |negated| literals.iter().filter(|l| l.negated == negated).fold(0, |m, l| m | 1u64 << l.atom);
     [mask(false), mask(true)]
 }

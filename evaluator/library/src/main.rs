@@ -2,25 +2,38 @@
 //!
 //! | file | holds |
 //! |---|---|
-//! | tests, lent, calls | families and their counts, lent memory, one call compared whole |
+//! | tests, outside | families and their counts, a call that touches memory outside what is lent |
+//! | pages, lent, calls | memory between pages that can't be touched, lent memory, one call compared whole |
 //! | held, sound, due | tables of a case and back, phrases that a case breaks, what the evaluator finds due |
 //! | corpus, drawn | files, and cases that no file need give |
 //! | reading, read_sizes | reading |
 //! | settling, asking, case_sizes | settling and the question |
 //! | breaches, unsound | each phrase of soundness broken alone, and each limit met |
-//! | reports, wrappers, threads | the report, the safe calls of the Rust module, calls from several threads |
+//! | fences | calls with the fence in front |
+//! | reports, threads | the report, calls from several threads |
+//! | wrappers, owned | the safe calls of the Rust module, and its case |
+//! | from_c | the C headers, called from a program in C |
+//! | constants, meanings, refusals | constants, what refusals mean by the manual, the module's refusals and verdicts |
 
 mod asking;
 mod breaches;
 mod calls;
 mod case_sizes;
+mod constants;
 mod corpus;
 mod drawn;
 mod due;
+mod fences;
+mod from_c;
 mod held;
 mod lent;
+mod meanings;
+mod outside;
+mod owned;
+mod pages;
 mod read_sizes;
 mod reading;
+mod refusals;
 mod reports;
 mod settling;
 mod sound;
@@ -33,11 +46,14 @@ use std::path::PathBuf;
 use std::process::ExitCode;
 use tests::Tests;
 
-/// The folder of case files if none is given.
-const FOLDER: &str = concat!(env!("CARGO_MANIFEST_DIR"), "/../../tests");
+/// The repository if none is given; the program in C, c/caller.c, if none is given is built in its target/.
+const ROOT: &str = concat!(env!("CARGO_MANIFEST_DIR"), "/../..");
 
 fn main() -> ExitCode {
-    let folder = std::env::args_os().nth(1).map_or(PathBuf::from(FOLDER), PathBuf::from);
+    let mut words = std::env::args_os().skip(1).map(PathBuf::from);
+    let root = words.next().unwrap_or(PathBuf::from(ROOT));
+    let caller = words.next().unwrap_or(root.join("target/embed-check/caller"));
+    let folder = root.join("tests");
     let mut tests = Tests::default();
     reading::run(&mut tests, &folder);
     read_sizes::run(&mut tests);
@@ -46,7 +62,12 @@ fn main() -> ExitCode {
     case_sizes::run(&mut tests);
     unsound::run(&mut tests);
     reports::run(&mut tests, &folder);
+    fences::run(&mut tests, &folder);
     wrappers::run(&mut tests, &folder);
+    owned::run(&mut tests, &folder);
+    constants::run(&mut tests, &root.join("crates/embed/rust"));
+    refusals::run(&mut tests, &root);
+    from_c::run(&mut tests, &root, &caller);
     threads::run(&mut tests);
     ExitCode::from(u8::from(!tests.close()))
 }

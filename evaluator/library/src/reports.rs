@@ -29,7 +29,7 @@ fn report(file: &[u8], bytes: usize, words: usize, due: (u32, &[u64], &[u8])) ->
 }
 
 /// Reports `file`, whose text is `text`, to outputs of 0 and 1 bytes and of one byte less to seven more than the text.
-fn lengths(tests: &mut Tests, name: &str, file: &[u8], text: &[u8]) {
+pub fn lengths(tests: &mut Tests, name: &str, file: &[u8], text: &[u8]) {
     let length = text.len();
     let words = [length as u64];
     for bytes in [0, 1, length - 1] {

@@ -1,5 +1,8 @@
 //! Families of calls: how many were made, which failed.
 
+use crate::outside;
+use std::fmt::Debug;
+
 /// The most failures of a family that are shown one by one.
 const SHOWN: usize = 20;
 
@@ -8,6 +11,11 @@ const CALLS: usize = 100_000;
 
 /// What is wrong with a call, nothing if it is as expected.
 pub type Complaints = Vec<String>;
+
+/// The complaint that `got` is not `due`.
+pub fn differing<T: PartialEq + Debug>(due: T, got: T) -> Complaints {
+    (due != got).then(|| format!("expected {due:?}, got {got:?}")).into_iter().collect()
+}
 
 /// A family: its name, the calls made and the calls that failed.
 struct Family {
@@ -25,6 +33,7 @@ pub struct Tests {
 impl Tests {
     /// Begins the family `name`.
     pub fn family(&mut self, name: &str) {
+        outside::watch(name);
         self.families.push(Family { name: String::from(name), calls: 0, failures: 0 });
     }
 

@@ -1,28 +1,43 @@
-//! Families of the safe calls: the same answers as the exported functions give.
+//! Families of the safe calls over lent memory: what the evaluator finds, field by field.
 
 use crate::corpus::{generated, refused_files, stored, Input};
-use crate::due::{self, Asking, Settling};
-use crate::held::Held;
-use crate::tests::{Complaints, Tests};
-use causes::{Answer, Case, Refusal, Settled, Tables};
+use crate::due::{self, mask, Asking, Settling};
+use crate::held::{masks, Held};
+use crate::tests::{differing, Complaints, Tests};
+use causes::lent::{self, Record, Tables};
+use causes::Refusal;
+use evaluator::case::Case;
 use evaluator::file;
-use std::fmt::Debug;
+use evaluator::formula::{FALSE, TRUE};
 use std::path::Path;
 
-/// The complaint that `got` is not `due`.
-fn differing<T: PartialEq + Debug>(due: T, got: T) -> Complaints {
-    (due != got).then(|| format!("expected {due:?}, got {got:?}")).into_iter().collect()
-}
-
-/// The record and the tables of `held` as the safe calls have them.
-fn known(held: &Held) -> (Case, Tables) {
+/// The tables of `held` as the safe calls have them.
+fn tables(held: &Held) -> Tables {
     let mut tables = Tables::new();
     tables.clauses.copy_from_slice(&held.clauses);
     tables.constraints.copy_from_slice(&held.constraints);
     tables.formula.copy_from_slice(&held.formula);
     tables.names.copy_from_slice(&held.names);
-    let record: [u64; 6] = held.record.as_slice().try_into().expect("six words");
-    (Case::from_words(record), tables)
+    tables
+}
+
+/// The record of `case`, each field from what the evaluator read.
+pub fn record(case: &Case, held: &Held) -> Record {
+    let [plain, negated] = masks(&case.observations);
+    let mut record = Record::default();
+    record.atoms = case.names.len() as u64;
+    record.clauses = case.clauses.len() as u64;
+    record.constraints = case.constraints.len() as u64;
+    record.nodes = held.record[3];
+    record.plain = plain;
+    record.negated = negated;
+    record
+}
+
+/// The complaints on a record's words, and on the record in these words.
+fn words(record: &Record, held: &Held) -> Complaints {
+    let words: [u64; 6] = held.record.as_slice().try_into().expect("six words");
+    [differing(words, record.words()), differing(record, &Record::from_words(words))].concat()
 }
 
 /// Reads each file by the safe call.
@@ -32,43 +47,78 @@ fn reads(tests: &mut Tests, inputs: &[Input]) {
         let mut got = Tables::new();
         got.names.fill(7);
         let before = got.clone();
-        let read = causes::read(&input.bytes, &mut got);
+        let read = lent::read(&input.bytes, &mut got);
         let due = due::read(&input.bytes);
-        let (case, tables) = due.tables.as_ref().map_or((Case::default(), before), known);
-        let answer = match due.refusal {
-            0 => Ok(case),
-            number => Err(Refusal { number, line: due.answer[0] }),
+        let left = due.tables.as_ref().map_or(before, tables);
+        let answer = match file::read(&input.bytes) {
+            Ok(case) => Ok(record(&case, &Held::of(&case))),
+            Err(refusal) => Err((refusal.number, refusal.line as u64)),
         };
-        tests.call(|| input.name.clone(), differing((answer, tables), (read, got)));
+        let read = read.map_err(|refusal| (refusal.number(), refusal.line().unwrap_or(0)));
+        tests.call(|| input.name.clone(), differing((answer, left), (read, got)));
+    }
+}
+
+/// The names that a read table has, row by row, and no row past the last.
+fn names(tests: &mut Tests, inputs: &[Input]) {
+    tests.family("safe calls: names");
+    for input in inputs {
+        let Ok(case) = file::read(&input.bytes) else { continue };
+        let held = Held::of(&case);
+        let tables = tables(&held);
+        tests.call(|| format!("{}, words", input.name), words(&record(&case, &held), &held));
+        for atom in 0..=64 {
+            let name = case.names.get(atom).map_or(&[][..], |name| name.as_bytes());
+            let due = (atom < 64).then_some(name);
+            tests.call(|| format!("{}, atom {atom}", input.name), differing(due, tables.name(atom)));
+        }
     }
 }
 
 /// Settles and asks each file by the safe calls, refusals too.
 fn cases(tests: &mut Tests, inputs: &[Input]) {
     tests.family("safe calls: settle and question");
-    let refused = |number| Refusal { number, line: 0 };
     for input in inputs {
         let Ok(said) = file::read(&input.bytes) else { continue };
-        let (case, tables) = known(&Held::of(&said));
+        let held = Held::of(&said);
+        let (record, tables) = (record(&said, &held), tables(&held));
         let mut settling = Settling::of(said.clone());
         let end = settling.settings();
-        let [trues, falses, rounds] = settling.words(end - 1);
         let name = || input.name.clone();
-        let due = Ok(Settled { trues, falses, rounds });
-        tests.call(name, differing(due, causes::settle(&case, &tables, end - 1)));
-        tests.call(name, differing(Err(refused(14)), causes::settle(&case, &tables, end)));
-        let asking = Asking::of(said);
-        let due = asking.due(4);
+        tests.call(name, settled(&mut settling, end - 1, lent::settle(&record, &tables, end - 1)));
+        tests.call(name, differing(Err(Refusal::NoSetting), lent::settle(&record, &tables, end)));
+        let due = Asking::of(said).due(4);
         let (mut list, mut work) = (vec![0; 4], vec![0; end as usize]);
-        let got = causes::question(&case, &tables, &mut list, &mut work);
-        let shown = got.map(|a: Answer| (a.verdict as u64, a.minimal, a.listed as u64, a.rounds));
-        let expected = Ok((due.answer[0], due.answer[1], due.answer[2], due.answer[3]));
-        tests.call(name, differing((expected, &due.list[..], &due.work), (shown, &list[..due.list.len()], &work)));
-        let got = causes::question(&case, &tables, &mut list, &mut work[1..]);
-        tests.call(name, differing(Err(refused(15)), got));
-        let unsound = Case { atoms: 65, ..case };
-        tests.call(name, differing(Err(refused(13)), causes::settle(&unsound, &tables, 0)));
+        let got = lent::question(&record, &tables, &mut list, &mut work);
+        let shown = got.map(|a| vec![a.verdict as u64, a.minimal, a.listed as u64, a.rounds]);
+        let listed = due.list.len();
+        tests.call(
+            name,
+            differing((Ok(&due.answer), &due.list[..], &due.work), (shown.as_ref(), &list[..listed], &work)),
+        );
+        let got = lent::question(&record, &tables, &mut list, &mut work[1..]);
+        tests.call(name, differing(Err(Refusal::ShortWork), got));
+        let mut unsound = record;
+        unsound.atoms = 65;
+        tests.call(name, differing(Err(Refusal::Unsound), lent::settle(&unsound, &tables, 0)));
     }
+}
+
+/// The complaints on the setting `s` as `got` has it, atom by atom.
+fn settled(settling: &mut Settling, s: u64, got: Result<lent::Settled, Refusal>) -> Complaints {
+    let (model, rounds) = settling.model(s);
+    let due = Ok((mask(&model, TRUE), mask(&model, FALSE), rounds));
+    let mut complaints = differing(due, got.map(|a| (a.trues, a.falses, a.rounds)));
+    for (atom, value) in model.iter().enumerate() {
+        let value = match *value {
+            TRUE => Some(true),
+            FALSE => Some(false),
+            _ => None,
+        };
+        complaints.extend(differing(Ok(value), got.map(|a| a.value(atom))));
+    }
+    complaints.extend(differing(Ok(None), got.map(|a| a.value(64))));
+    complaints
 }
 
 /// Reports each file by the safe call.
@@ -77,22 +127,29 @@ fn reports(tests: &mut Tests, inputs: &[Input]) {
     for input in inputs {
         let text = evaluator::answer::answer(&input.bytes).text.into_bytes();
         let mut out = vec![9; text.len() + 3];
-        let got = causes::report(&input.bytes, &mut out);
+        let got = lent::report(&input.bytes, &mut out);
         let due = [text.as_slice(), &[9; 3]].concat();
         tests.call(|| input.name.clone(), differing((Ok(text.len()), due), (got, out.clone())));
-        let got = causes::report(&input.bytes, &mut out[..text.len() - 1]);
-        tests.call(|| input.name.clone(), differing(Err(Refusal { number: 19, line: 0 }), got));
+        let got = lent::report(&input.bytes, &mut out[..text.len() - 1]);
+        tests.call(|| input.name.clone(), differing(Err(Refusal::ShortOutput), got));
     }
 }
 
-/// All families of the safe calls.
-pub fn run(tests: &mut Tests, folder: &Path) {
+/// The files of the safe calls' families.
+pub fn inputs(folder: &Path) -> Vec<Input> {
     let mut inputs = stored(folder, "marked");
     inputs.extend(stored(folder, "vectors"));
     inputs.extend(generated(400, |s| s % 20 != 0));
     let refused = |(number, _, bytes)| Input { name: format!("refusal {number}"), bytes, report: None };
     inputs.extend(refused_files().into_iter().map(refused));
+    inputs
+}
+
+/// All families of the safe calls.
+pub fn run(tests: &mut Tests, folder: &Path) {
+    let inputs = inputs(folder);
     reads(tests, &inputs);
+    names(tests, &inputs);
     cases(tests, &inputs);
     reports(tests, &inputs);
 }

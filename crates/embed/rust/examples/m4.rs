@@ -1,7 +1,7 @@
-//! Answers M4 of document 01: reads the case, asks its question, prints list, rounds and verdict, then the report.
+//! Answers M4 of document 01: reads the case, asks its question, prints settings, rounds and verdict, then the report.
 //! The exit status is 1 where an answer is not document 01's.
 
-use causes::{Answer, Refusal, Tables, Verdict};
+use causes::{Case, Refusal, Verdict};
 use std::process::ExitCode;
 
 const FILE: &[u8] = b"(if low shut (not ab1))
@@ -21,23 +21,18 @@ const REPORT: &[u8] = b"(verdict open)
 
 /// Asks the file's question; whether the answer is list 1, 3; rounds 15; open.
 fn question_answered() -> Result<bool, Refusal> {
-    let mut tables = Tables::new();
-    let case = causes::read(FILE, &mut tables)?;
-    let mut list = [0; 4];
-    let mut work = vec![0; causes::SETTINGS];
-    let answer = causes::question(&case, &tables, &mut list, &mut work)?;
-    let listed = &list[..answer.listed];
-    println!("list: {listed:?}\nrounds: {}\nverdict: {:?}", answer.rounds, answer.verdict);
-    let due = Answer { verdict: Verdict::Open, minimal: 2, listed: 2, rounds: 15 };
-    Ok(answer == due && listed == [1, 3])
+    let case = Case::read(FILE)?;
+    let answer = case.question();
+    let list: Vec<u64> = answer.explanations.iter().map(|explanation| explanation.setting).collect();
+    println!("list: {list:?}\nrounds: {}\nverdict: {}", answer.rounds, answer.verdict);
+    Ok(answer.verdict == Verdict::Open && answer.rounds == 15 && list == [1, 3])
 }
 
 /// Prints the file's report; whether it is document 01's.
 fn report_written() -> Result<bool, Refusal> {
-    let mut out = vec![0; causes::REPORT_BYTES];
-    let length = causes::report(FILE, &mut out)?;
-    print!("{}", String::from_utf8_lossy(&out[..length]));
-    Ok(&out[..length] == REPORT)
+    let report = causes::report(FILE)?;
+    print!("{}", String::from_utf8_lossy(&report));
+    Ok(report == REPORT)
 }
 
 fn main() -> ExitCode {

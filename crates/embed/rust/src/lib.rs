@@ -2,31 +2,55 @@
 //!
 //! | name | meaning |
 //! |---|---|
-//! | `Tables`, `Case` | what reading fills: the four tables, and the record of what they hold |
-//! | `read` | a case file to tables and record |
-//! | `settle` | one setting to its least model and round count |
-//! | `question` | a case to its minimal explanations and its verdict |
-//! | `report` | a case file to the text that the program `causes` writes |
-//! | `Refusal`, `Verdict`, `Settled`, `Answer` | what they answer |
-//! | `raw` | the exported functions themselves |
+//! | [`Case`] | a case read from a file; it settles a setting and answers the question |
+//! | [`Answer`], [`Explanation`], [`Verdict`] | what the question answers, with names |
+//! | [`Settled`] | the least model of a setting |
+//! | [`report`], [`text`] | the text that the program `causes` writes |
+//! | [`Refusal`] | why an operation refuses |
+//! | [`sizes`], [`stack`] | how much memory and how much stack the operations take |
+//! | [`lent`], [`raw`] | the operations over lent memory, and as C has them |
+//!
+//! M4 of document 01:
+//!
+//! ```
+//! let file = b"(if low shut (not ab1))
+//! (if low stopped (not ab2))
+//! (false ab1)
+//! (false ab2)
+//! (seen low)
+//! (query shut)
+//! ";
+//! let case = causes::Case::read(file)?;
+//! let answer = case.question();
+//! assert_eq!(answer.verdict, causes::Verdict::Open);
+//! assert_eq!(answer.rounds, 15);
+//! let lines: Vec<String> = answer.explanations.iter().map(|e| e.to_string()).collect();
+//! assert_eq!(lines, ["(cause (true shut))", "(cause (true stopped))"]);
+//! # Ok::<(), causes::Refusal>(())
+//! ```
+//!
+//! A file that is not lawful is refused, with a number, the line and what the number means:
+//!
+//! ```
+//! let refusal = causes::Case::read(b"(seen low)\n(query Low)\n").unwrap_err();
+//! assert_eq!(refusal, causes::Refusal::BadByte { line: 2 });
+//! assert_eq!(refusal.number(), 4);
+//! ```
 
-mod answers;
-mod operations;
+mod answer;
+mod case;
+pub mod lent;
 pub mod raw;
-mod tables;
+mod refusal;
+pub mod sizes;
+pub mod stack;
+mod verdict;
 
-pub use answers::{Answer, Refusal, Settled, Verdict};
-pub use operations::{question, read, report, settle};
-pub use tables::{
-    Case, Clauses, Constraints, Formula, Names, Tables, CLAUSE_WORDS, CONSTRAINT_WORDS, FORMULA_BYTES, NAMES_BYTES,
-    NAME_BYTES,
-};
+pub use answer::{Answer, Cause, Explanation};
+pub use case::{report, text, Case};
+pub use lent::Settled;
+pub use refusal::Refusal;
+pub use verdict::Verdict;
 
-/// The most settings that a case has: a work area of so many bytes is long enough for each.
-pub const SETTINGS: usize = 59_049;
-
-/// The most minimal explanations that a case has: a list of so many slots holds them all.
-pub const MINIMAL: usize = 15_360;
-
-/// The longest report: an output of so many bytes is long enough for each.
-pub const REPORT_BYTES: usize = 264_252;
+/// The version of this module, that of the header causes.h beside it.
+pub const VERSION: &str = env!("CARGO_PKG_VERSION");

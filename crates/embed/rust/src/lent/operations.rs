@@ -3,20 +3,57 @@
 //! Rust's references are aligned, reach their elements and do not overlap where one of them is written; this is all
 //! that the exported functions ask.
 
-use crate::answers::{Answer, Refusal, Settled, Verdict};
-use crate::raw;
-use crate::tables::{Case, Tables};
+use super::tables::{Record, Tables};
+use crate::{raw, Refusal, Verdict};
+
+/// A settled setting: its least model and its round count.
+#[derive(Clone, Copy, Debug, PartialEq, Eq)]
+#[non_exhaustive]
+pub struct Settled {
+    /// The true atoms, bit i for atom i.
+    pub trues: u64,
+    /// The false atoms, bit i for atom i.
+    pub falses: u64,
+    /// The round count.
+    pub rounds: u64,
+}
+
+impl Settled {
+    /// The value of the atom `atom`, none if it is unknown.
+    pub fn value(&self, atom: usize) -> Option<bool> {
+        let has = |word: u64| atom < 64 && word >> atom & 1 == 1;
+        match (has(self.trues), has(self.falses)) {
+            (true, _) => Some(true),
+            (_, true) => Some(false),
+            _ => None,
+        }
+    }
+}
+
+/// The question's answer.
+#[derive(Clone, Copy, Debug, PartialEq, Eq)]
+#[non_exhaustive]
+pub struct Answer {
+    /// The verdict on the query.
+    pub verdict: Verdict,
+    /// The number of minimal explanations.
+    pub minimal: u64,
+    /// How many of them the list got.
+    pub listed: usize,
+    /// The rounds over all settings.
+    pub rounds: u64,
+}
 
 /// Nothing for the number 0, else the refusal in `line`.
 fn accepted(number: u32, line: u64) -> Result<(), Refusal> {
     match number {
         0 => Ok(()),
-        _ => Err(Refusal { number, line }),
+        _ => Err(Refusal::from_number(number, line)),
     }
 }
 
 /// Reads a case file into `tables`. Refuses with 2 to 12; 2 leaves the tables as they were, the others zero them.
-pub fn read(file: &[u8], tables: &mut Tables) -> Result<Case, Refusal> {
+pub fn read(file: &[u8], tables: &mut Tables) -> Result<Record, Refusal> {
     let mut words = [0; 7];
     // SAFETY: each pointer comes with the length of its slice, and the tables are borrowed for writing.
     let number = unsafe {
@@ -36,12 +73,12 @@ pub fn read(file: &[u8], tables: &mut Tables) -> Result<Case, Refusal> {
         )
     };
     let [line, record @ ..] = words;
-    accepted(number, line).map(|()| Case::from_words(record))
+    accepted(number, line).map(|()| Record::from_words(record))
 }
 
 /// Settles the setting `setting` of a case. Refuses with 13 and 14.
-pub fn settle(case: &Case, tables: &Tables, setting: u64) -> Result<Settled, Refusal> {
-    let record = case.words();
+pub fn settle(record: &Record, tables: &Tables, setting: u64) -> Result<Settled, Refusal> {
+    let record = record.words();
     let mut words = [0; 3];
     // SAFETY: each pointer comes with the length of its slice; the answer's words are local.
     let number = unsafe {
@@ -65,9 +102,9 @@ pub fn settle(case: &Case, tables: &Tables, setting: u64) -> Result<Settled, Ref
 
 /// Answers the question of a case. `list` gets the minimal settings in rising order, as many as it has slots for;
 /// byte s of `work` becomes 0 (setting s doesn't explain), 1 (explains, not minimal) or 2 (minimal). Refuses with 13
-/// and 15, and then touches neither. Takes about 63 KB of stack.
-pub fn question(case: &Case, tables: &Tables, list: &mut [u16], work: &mut [u8]) -> Result<Answer, Refusal> {
-    let record = case.words();
+/// and 15, and then touches neither.
+pub fn question(record: &Record, tables: &Tables, list: &mut [u16], work: &mut [u8]) -> Result<Answer, Refusal> {
+    let record = record.words();
     let mut words = [0; 4];
     // SAFETY: each pointer comes with the length of its slice; list and work area are borrowed for writing.
     let number = unsafe {
@@ -94,7 +131,7 @@ pub fn question(case: &Case, tables: &Tables, list: &mut [u16], work: &mut [u8])
 }
 
 /// Writes the report of a case file to the front of `out` and answers its length. Refuses with 19 an output that is
-/// shorter, and then doesn't touch it. Takes about 132 KB of stack.
+/// shorter, and then doesn't touch it.
 pub fn report(file: &[u8], out: &mut [u8]) -> Result<usize, Refusal> {
     let mut words = [0; 1];
     // SAFETY: each pointer comes with the length of its slice, and the output is borrowed for writing.

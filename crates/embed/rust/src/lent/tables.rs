@@ -2,11 +2,7 @@
 //!
 //! From: document 01, Case tables and sound cases.
 
-pub const CLAUSE_WORDS: usize = 768;
-pub const CONSTRAINT_WORDS: usize = 64;
-pub const FORMULA_BYTES: usize = 128;
-pub const NAMES_BYTES: usize = 1024;
-pub const NAME_BYTES: usize = 16;
+use crate::sizes::{CLAUSE_WORDS, CONSTRAINT_WORDS, FORMULA_BYTES, NAMES_BYTES, NAME_BYTES};
 
 /// Clauses: three words each, head + 64 × kind (0 fact, 1 assumption, 2 rule), plain atoms, negated atoms.
 pub type Clauses = [u64; CLAUSE_WORDS];
@@ -22,10 +18,15 @@ pub type Names = [u8; NAMES_BYTES];
 
 /// The four tables of a case.
 #[derive(Clone, Debug, PartialEq, Eq)]
+#[non_exhaustive]
 pub struct Tables {
+    /// The clauses.
     pub clauses: Clauses,
+    /// The constraints.
     pub constraints: Constraints,
+    /// The query.
     pub formula: Formula,
+    /// The names.
     pub names: Names,
 }
 
@@ -56,24 +57,31 @@ impl Default for Tables {
 
 /// A case record: how many entries of the tables are in use, and the observed atoms, bit i for atom i.
 #[derive(Clone, Copy, Debug, Default, PartialEq, Eq)]
-pub struct Case {
+#[non_exhaustive]
+pub struct Record {
+    /// The atoms.
     pub atoms: u64,
+    /// The clauses.
     pub clauses: u64,
+    /// The constraints.
     pub constraints: u64,
+    /// The nodes of the formula.
     pub nodes: u64,
+    /// The atoms observed as true.
     pub plain: u64,
+    /// The atoms observed as false.
     pub negated: u64,
 }
 
-impl Case {
-    /// The record's six words.
+impl Record {
+    /// The record's words.
     pub fn words(&self) -> [u64; 6] {
         [self.atoms, self.clauses, self.constraints, self.nodes, self.plain, self.negated]
     }
 
-    /// The record in six words.
-    pub fn from_words(words: [u64; 6]) -> Case {
+    /// The record in these words.
+    pub fn from_words(words: [u64; 6]) -> Record {
         let [atoms, clauses, constraints, nodes, plain, negated] = words;
-        Case { atoms, clauses, constraints, nodes, plain, negated }
+        Record { atoms, clauses, constraints, nodes, plain, negated }
     }
 }

@@ -1,0 +1,108 @@
+/* A case with its tables in one struct, over the calls of causes.h: the sizes go with it, and a name is a text.
+ *
+ * A struct is 7,856 bytes. Calls on different structs are independent; settling and the question only read theirs.
+ */
+#ifndef CAUSES_CASE_H
+#define CAUSES_CASE_H
+
+#include "causes.h"
+
+#include <string.h>
+
+#ifdef __cplusplus
+extern "C" {
+#endif
+
+/* The record and the tables that causes_case_read fills, or the caller. */
+struct causes_case {
+    uint64_t record[CAUSES_RECORD_WORDS];
+    uint64_t clauses[CAUSES_CLAUSE_WORDS];
+    uint64_t constraints[CAUSES_CONSTRAINT_WORDS];
+    uint8_t formula[CAUSES_FORMULA_BYTES];
+    uint8_t names[CAUSES_NAMES_BYTES];
+};
+
+/* A settled setting: the true and the false atoms, bit i for atom i, and the rounds. */
+struct causes_settled {
+    uint64_t trues, falses, rounds;
+};
+
+/* The question's answer: one of the verdicts, the number of minimal explanations, how many are listed, the rounds. */
+struct causes_answer {
+    uint64_t verdict, minimal, listed, rounds;
+};
+
+/* Reads a file into a case. Refuses with 2 to 12; then the line, 0 where no line is at fault, is put to *line unless
+ * line is a null pointer, and the record is zeros. */
+static inline uint32_t causes_case_read(struct causes_case *c, const uint8_t *file, size_t file_bytes, uint64_t *line)
+{
+    uint64_t words[CAUSES_READ_WORDS];
+    uint32_t refusal = causes_read(file, file_bytes, c->clauses, CAUSES_CLAUSE_WORDS,
+                                   c->constraints, CAUSES_CONSTRAINT_WORDS, c->formula, CAUSES_FORMULA_BYTES,
+                                   c->names, CAUSES_NAMES_BYTES, words, CAUSES_READ_WORDS);
+    memcpy(c->record, words + 1, sizeof c->record);
+    if (line != NULL)
+        *line = words[0];
+    return refusal;
+}
+
+/* Settles one setting. Refuses with 13 and 14, and then puts zeros. */
+static inline uint32_t causes_case_settle(const struct causes_case *c, uint64_t setting, struct causes_settled *settled)
+{
+    uint64_t words[CAUSES_SETTLE_WORDS];
+    uint32_t refusal = causes_settle(c->record, CAUSES_RECORD_WORDS, c->clauses, CAUSES_CLAUSE_WORDS,
+                                     c->constraints, CAUSES_CONSTRAINT_WORDS, c->formula, CAUSES_FORMULA_BYTES,
+                                     setting, words, CAUSES_SETTLE_WORDS);
+    settled->trues = words[0];
+    settled->falses = words[1];
+    settled->rounds = words[2];
+    return refusal;
+}
+
+/* Answers the question, with a list and a work area as causes_question has them. Refuses with 13 and 15, and then puts
+ * zeros. */
+static inline uint32_t causes_case_question(const struct causes_case *c, uint16_t *list, size_t list_slots,
+                                            uint8_t *work, size_t work_bytes, struct causes_answer *answer)
+{
+    uint64_t words[CAUSES_QUESTION_WORDS];
+    uint32_t refusal = causes_question(c->record, CAUSES_RECORD_WORDS, c->clauses, CAUSES_CLAUSE_WORDS,
+                                       c->constraints, CAUSES_CONSTRAINT_WORDS, c->formula, CAUSES_FORMULA_BYTES,
+                                       list, list_slots, work, work_bytes, words, CAUSES_QUESTION_WORDS);
+    answer->verdict = words[0];
+    answer->minimal = words[1];
+    answer->listed = words[2];
+    answer->rounds = words[3];
+    return refusal;
+}
+
+/* The most atoms of a case. */
+enum { CAUSES_ATOMS = CAUSES_NAMES_BYTES / CAUSES_NAME_BYTES };
+
+/* Copies the name of an atom to a text that ends in a zero byte; an empty one for a row that the table lacks. */
+static inline void causes_case_name(const struct causes_case *c, size_t atom, char name[CAUSES_NAME_BYTES + 1])
+{
+    memset(name, 0, CAUSES_NAME_BYTES + 1);
+    if (atom < CAUSES_ATOMS)
+        memcpy(name, c->names + atom * CAUSES_NAME_BYTES, CAUSES_NAME_BYTES);
+}
+
+/* Puts the causes, that is the atoms that head no clause, in atom order, and answers how many there are. With k causes
+ * there are 3^k settings; digit i of a setting to base three, lowest first, belongs to causes[i]: 0 adds nothing, 1 a
+ * fact, 2 an assumption. */
+static inline size_t causes_case_causes(const struct causes_case *c, uint8_t causes[CAUSES_ATOMS])
+{
+    uint64_t heads = 0;
+    size_t i, count = 0;
+    for (i = 0; i < c->record[1] && i < CAUSES_CLAUSE_WORDS / 3; i++)
+        heads |= (uint64_t)1 << (c->clauses[3 * i] % CAUSES_ATOMS);
+    for (i = 0; i < c->record[0] && i < CAUSES_ATOMS; i++)
+        if ((heads >> i & 1) == 0)
+            causes[count++] = (uint8_t)i;
+    return count;
+}
+
+#ifdef __cplusplus
+}
+#endif
+
+#endif

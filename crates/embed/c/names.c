@@ -1,0 +1,35 @@
+/* Prints the minimal explanations of a case file from standard input, by name. */
+#include "causes_case.h"
+
+#include <stdio.h>
+
+static struct causes_case c;
+static uint8_t file[CAUSES_FILE_BYTES + 1], work[CAUSES_SETTINGS];
+static uint16_t list[CAUSES_MINIMAL];
+
+int main(void)
+{
+    struct causes_answer answer;
+    uint8_t causes[CAUSES_ATOMS];
+    char name[CAUSES_NAME_BYTES + 1];
+    uint64_t line, rest;
+    size_t count, i, k;
+    uint32_t refusal = causes_case_read(&c, file, fread(file, 1, sizeof file, stdin), &line);
+    if (refusal == 0)
+        refusal = causes_case_question(&c, list, CAUSES_MINIMAL, work, CAUSES_SETTINGS, &answer);
+    if (refusal != 0) {
+        fprintf(stderr, "line %lu: %s\n", (unsigned long)line, causes_refusal_text(refusal));
+        return 1;
+    }
+    count = causes_case_causes(&c, causes);
+    for (i = 0; i < answer.listed; i++) {
+        printf("(cause");
+        for (k = 0, rest = list[i]; k < count; k++, rest /= 3) {
+            causes_case_name(&c, causes[k], name);
+            if (rest % 3 != 0)
+                printf(" (%s %s)", rest % 3 == 1 ? "true" : "false", name);
+        }
+        printf(")\n");
+    }
+    return 0;
+}

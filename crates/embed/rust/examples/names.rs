@@ -1,0 +1,13 @@
+//! Prints the minimal explanations of a case file from standard input, by name.
+
+use std::io::Read;
+
+fn main() -> Result<(), Box<dyn std::error::Error>> {
+    let mut file = Vec::new();
+    std::io::stdin().read_to_end(&mut file)?;
+    let case = causes::Case::read(&file)?;
+    for explanation in case.question().explanations {
+        println!("{explanation}");
+    }
+    Ok(())
+}

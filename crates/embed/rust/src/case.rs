@@ -1,0 +1,132 @@
+//! A case that owns what reading gives, and the report of a file.
+
+use crate::answer::{Answer, Cause, Explanation};
+use crate::lent::{self, Record, Settled, Tables};
+use crate::sizes::{MINIMAL, REPORT_BYTES};
+use crate::Refusal;
+
+/// A case: the record and the tables that were read from one file. It is sound.
+///
+/// ```
+/// let case = causes::Case::read(b"(if low shut (not ab))\n(false ab)\n(seen low)\n(query shut)\n")?;
+/// assert_eq!(case.names().collect::<Vec<&str>>(), ["low", "shut", "ab"]);
+/// assert_eq!(case.causes(), [1]);
+/// assert_eq!(case.settings(), 3);
+/// let shut = case.settle(1)?;
+/// assert_eq!((shut.value(0), shut.value(1), shut.value(2)), (Some(true), Some(true), Some(false)));
+/// assert_eq!(case.explanation(1)?.to_string(), "(cause (true shut))");
+/// # Ok::<(), causes::Refusal>(())
+/// ```
+#[derive(Clone, Debug, PartialEq, Eq)]
+pub struct Case {
+    record: Record,
+    tables: Box<Tables>,
+}
+
+impl Case {
+    /// Reads a case file. Refuses with 2 to 12.
+    pub fn read(file: &[u8]) -> Result<Case, Refusal> {
+        let mut tables = Box::new(Tables::new());
+        let record = lent::read(file, &mut tables)?;
+        Ok(Case { record, tables })
+    }
+
+    /// The record, for a call of [`lent`].
+    pub fn record(&self) -> &Record {
+        &self.record
+    }
+
+    /// The tables, for a call of [`lent`].
+    pub fn tables(&self) -> &Tables {
+        &self.tables
+    }
+
+    /// The name of the atom `atom`, none if the case has no such atom.
+    pub fn name(&self, atom: usize) -> Option<&str> {
+        let name = (atom < self.record.atoms as usize).then(|| self.tables.name(atom))??;
+        Some(std::str::from_utf8(name).expect("a name that was read has letters, digits and dashes"))
+    }
+
+    /// The names, in atom order.
+    pub fn names(&self) -> impl Iterator<Item = &str> {
+        (0..self.record.atoms as usize).map_while(|atom| self.name(atom))
+    }
+
+    /// The causes, that is the atoms that head no clause, in atom order.
+    pub fn causes(&self) -> Vec<usize> {
+        let clauses = self.tables.clauses.chunks_exact(3).take(self.record.clauses as usize);
+        let heads = clauses.fold(0u64, |heads, clause| heads | 1 << (clause[0] % 64));
+        (0..self.record.atoms as usize).filter(|atom| heads >> atom & 1 == 0).collect()
+    }
+
+    /// The number of settings, three to the power of the number of causes.
+    pub fn settings(&self) -> u64 {
+        3u64.pow(self.causes().len() as u32)
+    }
+
+    /// Settles the setting `setting`. Refuses with 14 one that the case doesn't have.
+    pub fn settle(&self, setting: u64) -> Result<Settled, Refusal> {
+        lent::settle(&self.record, &self.tables, setting)
+    }
+
+    /// Answers the question, with all minimal explanations.
+    pub fn question(&self) -> Answer<'_> {
+        let mut list = vec![0; MINIMAL];
+        let mut work = vec![0; self.settings() as usize];
+        let answer = lent::question(&self.record, &self.tables, &mut list, &mut work)
+            .expect("a case that was read is sound, and the work area has a byte for each setting");
+        let causes = self.causes();
+        let explanations =
+            list[..answer.listed].iter().map(|setting| self.named(&causes, u64::from(*setting))).collect();
+        Answer { verdict: answer.verdict, rounds: answer.rounds, explanations }
+    }
+
+    /// What the setting `setting` adds, by name. Refuses with 14 one that the case doesn't have.
+    pub fn explanation(&self, setting: u64) -> Result<Explanation<'_>, Refusal> {
+        let causes = self.causes();
+        if setting < 3u64.pow(causes.len() as u32) {
+            Ok(self.named(&causes, setting))
+        } else {
+            Err(Refusal::NoSetting)
+        }
+    }
+
+    /// What `setting` adds for `causes`: the digits to base three, lowest first.
+    fn named(&self, causes: &[usize], setting: u64) -> Explanation<'_> {
+        let mut rest = setting;
+        let mut added = Vec::new();
+        for atom in causes {
+            let digit = rest % 3;
+            rest /= 3;
+            if digit > 0 {
+                added
+                    .push(Cause { name: self.name(*atom).expect("a cause is an atom of the case"), value: digit == 1 });
+            }
+        }
+        Explanation { setting, causes: added }
+    }
+}
+
+/// The report of a case file: the answer that the program `causes` writes. Refuses with 2 to 12 as reading does.
+///
+/// ```
+/// let report = causes::report(b"(query a)\n")?;
+/// assert_eq!(report, b"(verdict open)\n(rounds 2)\n(minimal 1 1)\n(cause)\n");
+/// # Ok::<(), causes::Refusal>(())
+/// ```
+pub fn report(file: &[u8]) -> Result<Vec<u8>, Refusal> {
+    Case::read(file)?;
+    Ok(text(file))
+}
+
+/// The text that the program `causes` writes for a file: its report, or `(refused number line)`.
+///
+/// ```
+/// assert_eq!(causes::text(b""), b"(refused 11 0)\n");
+/// ```
+pub fn text(file: &[u8]) -> Vec<u8> {
+    let mut out = vec![0; REPORT_BYTES];
+    let length = lent::report(file, &mut out).expect("the output has room for every report");
+    out.truncate(length);
+    out
+}

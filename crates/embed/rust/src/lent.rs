@@ -1,0 +1,21 @@
+//! The operations over memory that the caller lends: tables, a list, a work area, an output.
+//!
+//! A record and tables may come from [`read`] or be filled by the caller; what is no sound case is refused.
+//!
+//! ```
+//! use causes::lent::{question, read, Tables};
+//!
+//! let mut tables = Tables::new();
+//! let record = read(b"(query (then a a))", &mut tables)?;
+//! let (mut list, mut work) = ([0; 16], vec![0; causes::sizes::SETTINGS]);
+//! let answer = question(&record, &tables, &mut list, &mut work)?;
+//! assert_eq!(answer.verdict, causes::Verdict::Follows);
+//! assert_eq!(list[..answer.listed], [0]);
+//! # Ok::<(), causes::Refusal>(())
+//! ```
+
+mod operations;
+mod tables;
+
+pub use operations::{question, read, report, settle, Answer, Settled};
+pub use tables::{Clauses, Constraints, Formula, Names, Record, Tables};

@@ -1,0 +1,30 @@
+//! The sizes of lent memory, in elements.
+//!
+//! From: document 01, Case tables and sound cases; What each operation refuses.
+
+/// Words of the clause table, three a clause.
+pub const CLAUSE_WORDS: usize = 768;
+
+/// Words of the constraint table, two a constraint.
+pub const CONSTRAINT_WORDS: usize = 64;
+
+/// Bytes of the formula table, one a node.
+pub const FORMULA_BYTES: usize = 128;
+
+/// Bytes of the table of names.
+pub const NAMES_BYTES: usize = 1_024;
+
+/// Bytes of a name's row.
+pub const NAME_BYTES: usize = 16;
+
+/// The longest file that is read.
+pub const FILE_BYTES: usize = 32_768;
+
+/// The most settings that a case has: a work area of so many bytes is long enough for each.
+pub const SETTINGS: usize = 59_049;
+
+/// The most minimal explanations that a case has: a list of so many slots holds them all.
+pub const MINIMAL: usize = 15_360;
+
+/// The longest report: an output of so many bytes is long enough for each.
+pub const REPORT_BYTES: usize = 264_252;

@@ -1,0 +1,143 @@
+//! The constants of the C header and of the Rust module, and what they are due: by the evaluator, or by document 01
+//! where it says so outright.
+//!
+//! | name | meaning |
+//! |---|---|
+//! | `due` | each constant's name, without the header's `CAUSES_`, and its value |
+//! | `REFUSALS`, `refusal` | the names of the refusals by number, and the name of one number |
+//! | `run` | the families of the Rust module's constants |
+
+use crate::corpus::M4;
+use crate::due::{refused, unasked, Asking, Settling};
+use crate::held::{Held, FORMULA_BYTES};
+use crate::tests::{differing, Tests};
+use causes::{sizes, stack};
+use evaluator::answer::LIST_SLOTS;
+use evaluator::file::{self, ATOMS, CAUSES, CLAUSES, CONSTRAINTS, FILE_BYTES, NAME_BYTES};
+use std::path::Path;
+
+/// Document 01's refusals.
+pub const REFUSALS: [(&str, u32); 16] = [
+    ("SHORT", 1),
+    ("LONG_FILE", 2),
+    ("LONG_LINE", 3),
+    ("BAD_BYTE", 4),
+    ("NOT_A_FORM", 5),
+    ("LONG_NAME", 6),
+    ("DEEP_FORMULA", 7),
+    ("MANY_NAMES", 8),
+    ("MANY_CLAUSES", 9),
+    ("SECOND_QUERY", 10),
+    ("NO_QUERY", 11),
+    ("MANY_CAUSES", 12),
+    ("UNSOUND", 13),
+    ("NO_SETTING", 14),
+    ("SHORT_WORK", 15),
+    ("SHORT_OUTPUT", 19),
+];
+
+/// The name of the refusal `number`; 0 is none.
+pub fn refusal(number: u32) -> &'static str {
+    REFUSALS.iter().find(|(_, n)| *n == number).map_or("none", |(name, _)| name)
+}
+
+/// The tables that hold the case of `file`.
+fn held(file: &str) -> Held {
+    Held::of(&file::read(file.as_bytes()).unwrap_or_else(|r| panic!("refused with {}", r.number)))
+}
+
+/// The verdict's number of `file`.
+fn verdict(file: &str) -> u64 {
+    Asking::of(file::read(file.as_bytes()).unwrap_or_else(|r| panic!("refused with {}", r.number))).verdict()
+}
+
+/// The most minimal explanations: settings with j causes decided, for the j that has the most of them.
+fn most_minimal() -> u64 {
+    let mut ways = 1;
+    let mut most = 0;
+    for decided in 0..=CAUSES as u64 {
+        most = most.max(ways * 2u64.pow(decided as u32));
+        ways = ways * (CAUSES as u64 - decided) / (decided + 1);
+    }
+    most
+}
+
+/// The bytes of a report that has the longest of each line.
+fn longest_report() -> u64 {
+    let rounds = 3u64.pow(CAUSES as u32) * ATOMS as u64;
+    let head = format!("(verdict unexplained)\n(rounds {rounds})\n(minimal {} {LIST_SLOTS})\n", most_minimal());
+    let cause = format!("(cause{})\n", format!(" (false {})", "n".repeat(NAME_BYTES)).repeat(CAUSES));
+    (head.len() + LIST_SLOTS * cause.len()) as u64
+}
+
+/// Each constant and its value.
+pub fn due() -> Vec<(&'static str, u64)> {
+    let kind = |line: &str| held(&format!("{line}\n(query a)")).clauses[0] / 64;
+    let node = |formula: &str| u64::from(held(&format!("(query {formula})")).formula[0]);
+    let words = |file: &[u8]| Settling::of(file::read(file).unwrap_or_else(|_| panic!("a lawful file"))).words(0);
+    let mut rows = vec![
+        ("CLAUSE_WORDS", 3 * CLAUSES as u64),
+        ("CONSTRAINT_WORDS", 2 * CONSTRAINTS as u64),
+        ("FORMULA_BYTES", FORMULA_BYTES as u64),
+        ("NAMES_BYTES", (ATOMS * NAME_BYTES) as u64),
+        ("NAME_BYTES", NAME_BYTES as u64),
+        ("ATOMS", ATOMS as u64),
+        ("FACT", kind("(true a)")),
+        ("ASSUMPTION", kind("(false a)")),
+        ("RULE", kind("(if a b)")),
+        ("NOT", node("(not a)")),
+        ("AND", node("(and a b)")),
+        ("OR", node("(or a b)")),
+        ("THEN", node("(then a b)")),
+        ("SAME", node("(same a b)")),
+        ("FILE_BYTES", FILE_BYTES as u64),
+        ("SETTINGS", 3u64.pow(CAUSES as u32)),
+        ("MINIMAL", most_minimal()),
+        ("REPORT_BYTES", longest_report()),
+        ("RECORD_WORDS", Held::zeros().record.len() as u64),
+        ("READ_WORDS", refused(5, 1).answer.len() as u64),
+        ("SETTLE_WORDS", words(M4).len() as u64),
+        ("QUESTION_WORDS", unasked(13).answer.len() as u64),
+        ("REPORT_WORDS", 1),
+        ("UNEXPLAINED", verdict("(if p q)\n(if q p)\n(seen p)\n(query q)")),
+        ("FOLLOWS", verdict("(query (then a a))")),
+        ("DENIED", verdict("(if b a (not a))\n(seen (not b))\n(query b)")),
+        ("OPEN", verdict("(query a)")),
+        ("READ_STACK", stack::READ as u64),
+        ("SETTLE_STACK", stack::SETTLE as u64),
+        ("QUESTION_STACK", stack::QUESTION as u64),
+        ("REPORT_STACK", stack::REPORT as u64),
+    ];
+    rows.extend(REFUSALS.map(|(name, number)| (name, u64::from(number))));
+    rows
+}
+
+/// The constants of the Rust module's sizes.
+const SIZES: [(&str, usize); 9] = [
+    ("CLAUSE_WORDS", sizes::CLAUSE_WORDS),
+    ("CONSTRAINT_WORDS", sizes::CONSTRAINT_WORDS),
+    ("FORMULA_BYTES", sizes::FORMULA_BYTES),
+    ("NAMES_BYTES", sizes::NAMES_BYTES),
+    ("NAME_BYTES", sizes::NAME_BYTES),
+    ("FILE_BYTES", sizes::FILE_BYTES),
+    ("SETTINGS", sizes::SETTINGS),
+    ("MINIMAL", sizes::MINIMAL),
+    ("REPORT_BYTES", sizes::REPORT_BYTES),
+];
+
+/// The names that `source` declares as constants for callers.
+fn declared(source: &str) -> Vec<&str> {
+    source.lines().filter_map(|line| line.strip_prefix("pub const ")?.split(':').next()).collect()
+}
+
+/// The Rust module's constants, whose sources stand in `module`; none is left out.
+pub fn run(tests: &mut Tests, module: &Path) {
+    tests.family("constants of the Rust module");
+    let due = due();
+    for (name, got) in SIZES {
+        let value = due.iter().find(|(other, _)| *other == name).map(|(_, value)| *value);
+        tests.call(|| String::from(name), differing(value, Some(got as u64)));
+    }
+    let source = std::fs::read_to_string(module.join("src/sizes.rs")).unwrap_or_default();
+    tests.require("each constant of sizes.rs is compared", declared(&source) == SIZES.map(|(name, _)| name));
+}

@@ -1,0 +1,122 @@
+//! Families of the Rust module's case, which owns its record and tables, and of its report.
+
+use crate::corpus::{stored, Input};
+use crate::due::{Asking, Settling};
+use crate::held::Held;
+use crate::tests::{differing, Complaints, Tests};
+use crate::wrappers::{inputs, record};
+use causes::{Case, Refusal};
+use evaluator::answer::{answer, LIST_SLOTS};
+use evaluator::case::causes;
+use evaluator::file;
+use evaluator::question::digits;
+use std::path::Path;
+
+/// What reading gives: record, tables, names and causes of an accepted file, the refusal of another.
+fn reads(tests: &mut Tests, inputs: &[Input]) {
+    tests.family("case: read");
+    for input in inputs {
+        let got = Case::read(&input.bytes);
+        let complaints = match (file::read(&input.bytes), &got) {
+            (Ok(said), Ok(case)) => read(&said, case),
+            (Err(due), Err(got)) => differing((due.number, due.line as u64), (got.number(), got.line().unwrap_or(0))),
+            (due, _) => vec![format!("accepted by the evaluator: {}, got {got:?}", due.is_ok())],
+        };
+        tests.call(|| input.name.clone(), complaints);
+    }
+}
+
+/// The complaints on `case`, which should say what `said` does.
+fn read(said: &evaluator::case::Case, case: &Case) -> Complaints {
+    let held = Held::of(said);
+    let tables = case.tables();
+    let names: Vec<&str> = said.names.iter().map(String::as_str).collect();
+    let found = causes(said.names.len(), &said.clauses);
+    let settings = 3u64.pow(found.len() as u32);
+    [
+        differing(&record(said, &held), case.record()),
+        differing(held.clauses.as_slice(), &tables.clauses),
+        differing(held.constraints.as_slice(), &tables.constraints),
+        differing(held.formula.as_slice(), &tables.formula),
+        differing(held.names.as_slice(), &tables.names),
+        differing(names.clone(), case.names().collect()),
+        differing(names.last().copied(), case.name(names.len() - 1)),
+        differing(None, case.name(names.len())),
+        differing(found, case.causes()),
+        differing(settings, case.settings()),
+    ]
+    .concat()
+}
+
+/// A setting's digits by name, as the report's line has them.
+fn line(said: &evaluator::case::Case, setting: usize) -> String {
+    let found = causes(said.names.len(), &said.clauses);
+    let values = digits(setting, 3, found.len());
+    let added = found.iter().zip(values).filter(|(_, digit)| *digit > 0);
+    let added = added.map(|(atom, digit)| format!(" ({} {})", digit == 1, said.names[*atom]));
+    format!("(cause{})", added.collect::<String>())
+}
+
+/// Settles settings, names them, and asks the question.
+fn questions(tests: &mut Tests, inputs: &[Input]) {
+    tests.family("case: settings and question");
+    for input in inputs {
+        let (Ok(said), Ok(case)) = (file::read(&input.bytes), Case::read(&input.bytes)) else { continue };
+        let name = || input.name.clone();
+        let mut settling = Settling::of(said.clone());
+        let end = settling.settings();
+        for s in [0, end / 2, end - 1] {
+            let got = case.settle(s).map(|a| [a.trues, a.falses, a.rounds]);
+            tests.call(name, differing(Ok(settling.words(s)), got));
+            let got = case.explanation(s).map(|e| (e.setting, e.to_string()));
+            tests.call(name, differing(Ok((s, line(&said, s as usize))), got));
+        }
+        tests.call(name, differing(Err(Refusal::NoSetting), case.settle(end)));
+        tests.call(name, differing(Err(Refusal::NoSetting), case.explanation(end)));
+        tests.call(name, asked(&said, &case));
+    }
+}
+
+/// The complaints on the answer of `case`, which should say what `said` does.
+fn asked(said: &evaluator::case::Case, case: &Case) -> Complaints {
+    let asking = Asking::of(said.clone());
+    let due = asking.due(asking.minimal());
+    let got = case.question();
+    let settings: Vec<u64> = got.explanations.iter().map(|e| e.setting).collect();
+    let lines: Vec<String> = got.explanations.iter().map(|e| e.to_string()).collect();
+    let due_lines: Vec<String> = due.list.iter().map(|s| line(said, usize::from(*s))).collect();
+    let named = got.explanations.iter().all(|e| e.causes.iter().all(|c| said.names.iter().any(|n| n == c.name)));
+    [
+        differing((due.answer[0], due.answer[3]), (got.verdict as u64, got.rounds)),
+        differing(due.list.iter().map(|s| u64::from(*s)).collect(), settings),
+        differing(due_lines, lines),
+        differing(true, named),
+    ]
+    .concat()
+}
+
+/// The report and the text of each file.
+fn reports(tests: &mut Tests, inputs: &[Input]) {
+    tests.family("case: report");
+    for input in inputs {
+        let due = answer(&input.bytes);
+        let text = due.text.as_bytes();
+        tests.call(|| input.name.clone(), differing(text, &causes::text(&input.bytes)));
+        let report = match due.result {
+            Ok(_) => Ok(text.to_vec()),
+            Err(refusal) => Err(Refusal::from_number(refusal.number, refusal.line as u64)),
+        };
+        tests.call(|| input.name.clone(), differing(report, causes::report(&input.bytes)));
+    }
+}
+
+/// All families of the case that owns its tables.
+pub fn run(tests: &mut Tests, folder: &Path) {
+    let mut inputs = inputs(folder);
+    inputs.extend(stored(folder, "edges"));
+    reads(tests, &inputs);
+    questions(tests, &inputs);
+    let longer = inputs.iter().any(|input| answer(&input.bytes).result.is_ok_and(|(_, found)| found > LIST_SLOTS));
+    tests.require("a case with more explanations than the program lists", longer);
+    reports(tests, &inputs);
+}

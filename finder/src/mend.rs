@@ -1,0 +1,23 @@
+//! How to mend a refused file.
+//!
+//! From: docs/MANUAL.md, The command `finder`.
+
+use causes::Refusal;
+
+/// How to mend a file that is refused with `refusal`.
+pub fn mend(refusal: Refusal) -> &'static str {
+    match refusal {
+        Refusal::LongFile => "Shorten comments, or ask about fewer floors.",
+        Refusal::LongLine { .. } => "Break a comment into two; shorten the names of a form, or name a part of it.",
+        Refusal::BadByte { .. } => "Write names in small letters, digits and `-`, and a comment on its own line.",
+        Refusal::NotAForm { .. } => "Write one whole form on the line: true, false, if, never, seen or query.",
+        Refusal::LongName { .. } => "Shorten the name, on every line that has it.",
+        Refusal::DeepFormula { .. } => "Name a part of the query by a rule, and ask for that name.",
+        Refusal::ManyNames { .. } => "Leave out the names that no reading and no query needs.",
+        Refusal::ManyClauses { .. } => "Name what several rules share, or leave out rules that no reading needs.",
+        Refusal::SecondQuery { .. } => "Join the queries by `and` or `or`, or write a file for each.",
+        Refusal::NoQuery => "Add a line such as `(query damper-shut)`.",
+        Refusal::ManyCauses => "Give some of the causes a line `(false N)` or `(true N)`, abnormality atoms first.",
+        _ => "See the manual's section on refusals.",
+    }
+}
