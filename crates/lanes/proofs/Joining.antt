@@ -22,7 +22,7 @@ use Rattle.logic.specs.Interpretation.{valueAt, Disjoint}
 use Rattle.logic.proofs.Values.{true-greater, false-greater}
 use Rattle.logic.proofs.Bodies.{missed, opposed, true-literals, false-literals}
 use Rattle.prepared.specs.Chains.{lastOf, ruleValue, rulesValue}
-use Rattle.prepared.proofs.Along.{Along, along-start, along-end, along-next}
+use Rattle.prepared.proofs.RuleChains.{Along, along-start, along-end, along-next}
 use Rattle.lanes.specs.declared.plane.Lanes.{Lanes}
 use Rattle.lanes.specs.Planes.{at, column, Planes, Is, Worth, someMissing, somePresent, Joined}
 use Rattle.lanes.proofs.Columns.{column-true, column-false}
@@ -152,8 +152,7 @@ module _ (cl : List ℕ) (a n : ℕ) (t f : List ℕ) where
           × Along (valueAt (column t f j)) cl a n x i
       next j l =
           let h = r .lanes j l in
-          let y = ruleValue (valueAt (column t f j)) cl m in
-          (
+          let y = ruleValue (valueAt (column t f j)) cl m in (
             greater y (h .0),
             record {
               is-true = has-or up (v .trues) j ∙ ap₂ _||_ (h .1 .is-true) (w j l .is-true)

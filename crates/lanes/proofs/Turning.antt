@@ -35,9 +35,8 @@ use Rattle.prepared.specs.declared.opening.Opening.{Opening}
 use Rattle.prepared.specs.Dependents.{touchedFrom}
 use Rattle.prepared.specs.Opening.{openingOf, opened}
 use Rattle.prepared.specs.Chains.{rulesValue}
-use Rattle.prepared.specs.Prepared.{redone}
+use Rattle.prepared.proofs.Redoing.{redone, openIn, has-open, redone-step}
 use Rattle.prepared.proofs.Openings.{opened-step}
-use Rattle.prepared.proofs.Redoing.{openIn, has-open, redone-step}
 use Rattle.lanes.specs.declared.redo.Changed.{Changed}
 use Rattle.lanes.specs.Planes.{at, column, Planes, Sizes}
 use Rattle.lanes.specs.Redo.{openAt, ruled, fresh, isDecided, Redone}
@@ -140,7 +139,6 @@ module _ (cl : List ℕ) (n heads : ℕ) (t f t₁ f₁ : List ℕ) (r : Changed
   pick-bit-f q false u false x y k = sym k
 
   pub redone-column : column t₁ f₁ j ≡ redone cl n i (openIn i heads)
-  unfolding redone
   redone-column =
       column-values t₁ f₁ j (λ a. pick (has (openIn i heads) a) (rulesValue v cl a n) (v a))
       (λ a m. e .trues-are j a l m
@@ -206,8 +204,11 @@ module _ (cl : List ℕ) (n : ℕ) (x : ℕ → Additions) (m : ℕ) (few : m �
         ⊎-elim
         (λ (z : any 64 (has (c .lanes)) ≡ true).
         let r = any-found 64 (has (c .lanes)) z in
-        omega (arith, ltb-true k (roundCount (p (r .0))) (sym (s .lanes-are (r .0) (r .1)) ∙ r .2),
-        count-few (p (r .0)) (steady (r .0))))
+        omega (
+          arith,
+          ltb-true k (roundCount (p (r .0))) (sym (s .lanes-are (r .0) (r .1)) ∙ r .2),
+          count-few (p (r .0)) (steady (r .0)),
+        ))
         (λ (z : any 64 (has (c .lanes)) ≡ false).
         absurd (ne (eqb-true (c .lanes) 0 (zero-any 64 (c .lanes) h ∙ ap not z))))
         (true-or-false (any 64 (has (c .lanes))))

@@ -21,7 +21,6 @@ use Rattle.logic.specs.declared.value.Value.{Value}
 use Rattle.logic.specs.Value.{isTrue, isFalse}
 use Rattle.logic.specs.Interpretation.{valueAt, sameIn}
 use Rattle.prepared.specs.Chains.{rulesValue}
-use Rattle.prepared.specs.Prepared.{redone}
 use Rattle.lanes.specs.declared.plane.Lanes.{Lanes}
 use Rattle.lanes.specs.declared.redo.Changed.{Changed}
 use Rattle.lanes.specs.Planes.{at, column, Sizes}

@@ -75,10 +75,7 @@ pub fn begin(
     ensures { λ r. ⌜ Opens (now (ot .entry)) (now (of .entry)) (now (oh .entry)) (now (x .entry)) (now (y .entry))
         (now (t .exit)) (now (f .exit)) r ⌝ }
 {
-    let mut c = Changed {
-        lanes: 0,
-        atoms: 0,
-    };
+    let mut c = Changed { lanes: 0, atoms: 0 };
     let mut i: u32 = 0;
     while i < 64 {
         let at = i as usize;

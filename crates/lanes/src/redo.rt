@@ -97,10 +97,7 @@ fn decide(
     ensures { λ r. ⌜ Decided (now (clauses .entry)) n heads (now (t .entry)) (now (f .entry)) (now (ut .exit))
         (now (uf .exit)) r ⌝ }
 {
-    let mut c = Changed {
-        lanes: 0,
-        atoms: 0,
-    };
+    let mut c = Changed { lanes: 0, atoms: 0 };
     let mut left = heads;
     while left != 0 {
         let a = words::lowest_bit(left);

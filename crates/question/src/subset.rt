@@ -19,4 +19,3 @@ pub fn weigh(causes: u64, weights: &mut [usize; 64])
         left = words::without_lowest(left);
     }
 }
-

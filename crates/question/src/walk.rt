@@ -10,14 +10,14 @@ ghost use Rattle.lanes.specs.Fill.{Even};
 use crate::cover::cover;
 use crate::explain::explaining;
 use crate::lane::visit;
+use crate::subset::weigh;
+use crate::verdict::Verdict;
 use lanes::fill::broadcast;
 use lanes::fill::fill;
 use lanes::rounds::run;
+use prepared::opening::Opening;
 use program::case::Case;
 use program::cause::Additions;
-use crate::subset::weigh;
-use crate::verdict::Verdict;
-use prepared::opening::Opening;
 
 // What a walk has counted: minimal explanations, those written to the list, rounds, and the verdict over them.
 pub struct Tally {

@@ -37,11 +37,11 @@ loop-less c = search needs
 
 loop-again : tie.Need-loop-again Inv-loop μ-loop
 loop-again c = (
-      omega arith,
-      record { first-size = c .before .before .before .spread .ensures .size-is; second-size = c .before .spread2 .ensures .size-is },
-      λ s e p q. filling-next _ s _ _ _ _ _ _ _ (c .before .before .before .before .before .before .loop .inv .2 s e p q) (c .before .before .before .spread .ensures)
+  omega arith,
+  record { first-size = c .before .before .before .spread .ensures .size-is; second-size = c .before .spread2 .ensures .size-is },
+  λ s e p q. filling-next _ s _ _ _ _ _ _ _ (c .before .before .before .before .before .before .loop .inv .2 s e p q) (c .before .before .before .spread .ensures)
       (c .before .spread2 .ensures) (c .next .ensures),
-    )
+)
 
 returns : tie.Need-returns Inv-loop μ-loop
 returns c = λ s e. filling-end _ s _ _ _ _ (c .before .loop .inv .2 s e (c .before .before .pre .1) (c .before .before .pre .2)) (omega arith)

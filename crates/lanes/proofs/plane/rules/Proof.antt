@@ -1,7 +1,7 @@
 -- meets its contract. Assumes nothing.
 use Prim.Native.Nat.{_-_}
 use Rattle.program.specs.Case.{headAt}
-use Rattle.prepared.proofs.Along.{last-le}
+use Rattle.prepared.proofs.RuleChains.{last-le}
 use Rattle.lanes.proofs.Joining.{Ruling, ruling-start, ruling-next, ruling-end}
 use native.Mathlib.Omega.{arith}
 use borrow.Author.Needs.{needs}
@@ -51,13 +51,13 @@ element-copy-out-k : tie.Need-element-copy-out-k Inv-loop μ-loop
 element-copy-out-k c = search needs
 
 loop-less : tie.Need-loop-less Inv-loop μ-loop
-loop-less c =     let k = c .before .before .before .before .before .before .before .loop .k - 1 in
+loop-less c = let k = c .before .before .before .before .before .before .before .loop .k - 1 in
     let b = c .before .before .before .before .before .before .before .before .before in
     let cl = b .args .clauses .now in
     omega (arith, last-le cl (headAt cl k) k, b .pre .3 k (omega arith))
 
 loop-again : tie.Need-loop-again Inv-loop μ-loop
-loop-again c =     let k = c .before .before .before .before .before .before .before .loop .k - 1 in
+loop-again c = let k = c .before .before .before .before .before .before .before .loop .k - 1 in
     ruling-next _ _ _ _ _ _ _ _ _ _ (c .before .before .before .before .before .before .before .loop .inv) k (omega arith) (c .before .before .before .body .ensures)
     (c .before .before .before .before .before .before .before .before .before .pre .3 k (omega arith))
 
