@@ -1,65 +1,68 @@
--- Laws of filling: what settings add, lane by lane, and the first round, atom by atom. Assumes nothing.
-use mathlib.Core.Path.{_≡_, refl, sym, ap, ap₂, _∙_}
-use mathlib.Core.Bool.{Bool, true, false, not, _&&_, _||_, or-false, and-false, and-true, true≢false}
+-- The planes filled lane by lane with what settings add, and atom by atom with the same in each lane. Assumes nothing.
+use mathlib.Core.Path.{_≡_, sym, ap, ap₂, _∙_}
+use mathlib.Core.Bool.{Bool, _&&_, _||_, or-false, and-false, and-true}
 use mathlib.Core.List.{List}
 use mathlib.Core.Logic.{_⊎_, ⊎-elim}
-use Prim.Native.Nat.{ℕ, suc, _+_, _-_, _^_, _≤_, _<_}
+use Prim.Native.Nat.{ℕ, _+_, _≤_, _<_}
 use native.Mathlib.Nat.{eq-or-lt-of-le, add-assoc}
-use native.Mathlib.Numerals.{add-one}
 use native.Mathlib.Omega.{arith}
-use lib.Bits.{bitAnd, bitOr, or-lt}
 use lib.Dec.{eqb, ltb}
 use lib.ListN.{length, getD, set, length-set}
-use lib.Pow.{pow-pos}
 use lib.Seq.{getD-set-same, getD-set-other}
-use borrow.Author.Tests.{eq-eqb, ne-eqb, lt-ltb, le-ltb, eqb-true, eqb-false}
-use Rattle.words.specs.Below.{any}
+use borrow.Author.Tests.{eq-eqb, ne-eqb, lt-ltb, le-ltb}
 use Rattle.words.specs.Bits.{has}
-use Rattle.words.specs.OneBit.{withBit}
 use Rattle.words.proofs.Tests.{lt-or-le}
-use Rattle.words.proofs.Below.{any-ext}
-use Rattle.words.proofs.Bits.{has-zero, has-and, has-or, has-not}
+use Rattle.words.proofs.Bits.{has-zero}
 use Rattle.words.proofs.BitWalks.{has-with}
 use Rattle.program.specs.declared.cause.Additions.{Additions}
 use Rattle.program.specs.Setting.{additionsOf}
 use Rattle.prepared.specs.Dependents.{Zeros, Spread}
-use Rattle.lanes.specs.declared.plane.Lanes.{Lanes}
-use Rattle.lanes.specs.declared.redo.Changed.{Changed}
-use Rattle.lanes.specs.Planes.{at, Sizes}
-use Rattle.lanes.specs.Redo.{notedWith}
-use Rattle.lanes.specs.Fill.{Filled, Even, OpensWord, decidedAt, Opens}
+use Rattle.lanes.specs.Planes.{at}
+use Rattle.lanes.specs.Fill.{Filled}
 
--- ---- one lane more of a plane: w i are the atoms of lane i
+-- ---- the numbers below k and k itself are those below k + 1
+module _ (p : ℕ → Bool) (j k : ℕ) where
+  one-before : j < k → (ltb j k && p j || p k && eqb j k) ≡ (ltb j (k + 1) && p j)
+  one-before l =
+      ap₂ (λ (s t : Bool). s && p j || p k && t) (lt-ltb j k l) (ne-eqb j k (omega arith))
+      ∙ ap (λ (t : Bool). p j || t) (and-false (p k)) ∙ or-false (p j)
+      ∙ sym (ap (λ (t : Bool). t && p j) (lt-ltb j (k + 1) (omega arith)))
+
+  one-here : j ≡ k → (ltb j k && p j || p k && eqb j k) ≡ (ltb j (k + 1) && p j)
+  one-here e =
+      ap₂ (λ (s t : Bool). s && p j || p k && t) (le-ltb j k (omega arith)) (eq-eqb j k e)
+      ∙ and-true (p k) ∙ ap p (sym e)
+      ∙ sym (ap (λ (t : Bool). t && p j) (lt-ltb j (k + 1) (omega arith)))
+
+  one-behind : k < j → (ltb j k && p j || p k && eqb j k) ≡ (ltb j (k + 1) && p j)
+  one-behind l =
+      ap₂ (λ (s t : Bool). s && p j || p k && t) (le-ltb j k (omega arith)) (ne-eqb j k (omega arith))
+      ∙ and-false (p k)
+      ∙ sym (ap (λ (t : Bool). t && p j) (le-ltb j (k + 1) (omega arith)))
+
+  one-more-below : (ltb j k && p j || p k && eqb j k) ≡ (ltb j (k + 1) && p j)
+  one-more-below =
+      ⊎-elim one-before (λ (l : k ≤ j). ⊎-elim (λ (e : k ≡ j). one-here (sym e)) one-behind (eq-or-lt-of-le l))
+      (lt-or-le j k)
+
+-- ---- the lanes below k of a plane are filled: w j has the atoms of lane j
 abbrev pub Below : (ℕ → ℕ) → ℕ → List ℕ → Type 0
 Below w k x = (j a : ℕ) → j < 64 → a < 64 → at x j a ≡ (ltb j k && has (w j) a)
 
-pub below-start : (w : ℕ → ℕ) (x : List ℕ) → Zeros x → Below w 0 x
+below-start : (w : ℕ → ℕ) (x : List ℕ) → Zeros x → Below w 0 x
 below-start w x z j a l m =
     ap (λ (e : ℕ). has e j) (z a m) ∙ has-zero j ∙ sym (ap (λ (t : Bool). t && has (w j) a) (le-ltb j 0 (omega arith)))
 
-pub below-next : (w : ℕ → ℕ) (k : ℕ) (x u : List ℕ) → Below w k x → Spread x (w k) k u → Below w (k + 1) u
+below-next : (w : ℕ → ℕ) (k : ℕ) (x u : List ℕ) → Below w k x → Spread x (w k) k u → Below w (k + 1) u
 below-next w k x u b s j a l m =
     ap (λ (e : ℕ). has e j) (s .entry-is a m) ∙ has-with (has (w k) a) (getD x a 0) k j
-    ∙ ap (λ (t : Bool). t || has (w k) a && eqb j k) (b j a l m) ∙ go (lt-or-le j k)
-  where
-    go : (j < k) ⊎ (k ≤ j) → (ltb j k && has (w j) a || has (w k) a && eqb j k) ≡ (ltb j (k + 1) && has (w j) a)
-    go d = ⊎-elim
-        (λ (q : j < k). ap₂ (λ (s t : Bool). s && has (w j) a || has (w k) a && t) (lt-ltb j k q) (ne-eqb j k (omega arith))
-        ∙ ap (λ (t : Bool). has (w j) a || t) (and-false (has (w k) a)) ∙ or-false (has (w j) a)
-        ∙ sym (ap (λ (t : Bool). t && has (w j) a) (lt-ltb j (k + 1) (omega arith))))
-        (λ (q : k ≤ j). ap (λ (s : Bool). s && has (w j) a || has (w k) a && eqb j k) (le-ltb j k q) ∙ ⊎-elim
-        (λ (e : k ≡ j). ap₂ (λ (i : ℕ) (t : Bool). has (w i) a && t) e (eq-eqb j k (sym e)) ∙ and-true (has (w j) a)
-        ∙ sym (ap (λ (t : Bool). t && has (w j) a) (lt-ltb j (k + 1) (omega arith))))
-        (λ (e : k < j). ap (λ (t : Bool). has (w k) a && t) (ne-eqb j k (omega arith)) ∙ and-false (has (w k) a)
-        ∙ sym (ap (λ (t : Bool). t && has (w j) a) (le-ltb j (k + 1) (omega arith))))
-        (eq-or-lt-of-le q))
-        d
+    ∙ ap (λ (t : Bool). t || has (w k) a && eqb j k) (b j a l m) ∙ one-more-below (λ i. has (w i) a) j k
 
-pub below-end : (w : ℕ → ℕ) (k : ℕ) (x : List ℕ) → Below w k x → 64 ≤ k → (j a : ℕ) → j < 64 → a < 64
+below-end : (w : ℕ → ℕ) (k : ℕ) (x : List ℕ) → Below w k x → 64 ≤ k → (j a : ℕ) → j < 64 → a < 64
     → at x j a ≡ has (w j) a
 below-end w k x b h j a l m = b j a l m ∙ ap (λ (t : Bool). t && has (w j) a) (lt-ltb j k (omega arith))
 
--- ---- the settings from s on, of which k are done; next adds what the setting behind them adds
+-- ---- the planes hold k of the settings from s on; next is what the setting behind them adds
 pub record Filling (causes s : ℕ) (next : Additions) (k : ℕ) (x y : List ℕ) : Type 0 where
   pub next-is : next ≡ additionsOf causes (s + k)
   pub facts-are : Below (λ j. additionsOf causes (s + j) .facts) k x
@@ -96,10 +99,7 @@ module _ (causes s : ℕ) where
     f .next-is ∙ ap (λ (i : ℕ). additionsOf causes (s + i)) e,
   )
 
--- ---- the plane that is the same in each lane
-pub all-lanes : (j : ℕ) → j < 64 → has (2 ^ 64 - 1 - 0) j ≡ true
-all-lanes j l = has-not 64 0 j (pow-pos 64) l ∙ ap not (has-zero j)
-
+-- ---- the atoms below k have the same in each lane
 pub record EvenBelow (w k : ℕ) (t : List ℕ) : Type 0 where
   pub low : k ≤ 64
   pub size : length t ≡ 64
@@ -119,119 +119,3 @@ even-next w k e t h l q = record {
       (λ (z : a < k). ap (λ (x : ℕ). has x j) (getD-set-other t k a e 0 (λ y. omega arith)) ∙ h .each a z j n)
       (eq-or-lt-of-le (omega arith));
 }
-
--- ---- the first round's words of an atom
-pub opens-word : (t f head fact assumed : ℕ) → head < 2 ^ 64 → fact < 2 ^ 64
-    → OpensWord t f head fact assumed
-    (record {
-      trues = bitOr t fact;
-      falses = bitAnd (bitOr f (bitAnd assumed (2 ^ 64 - 1 - head))) (2 ^ 64 - 1 - fact);
-    })
-opens-word t f head fact assumed h k = record {
-  trues-are = λ j l. has-or t fact j;
-  falses-are = λ j l.
-      let w = bitAnd assumed (2 ^ 64 - 1 - head) in
-      has-and (bitOr f w) (2 ^ 64 - 1 - fact) j
-      ∙ ap₂ _&&_
-      (has-or f w j ∙ ap (λ (x : Bool). has f j || x)
-      (has-and assumed (2 ^ 64 - 1 - head) j ∙ ap (λ (x : Bool). has assumed j && x) (has-not 64 head j h l)))
-      (has-not 64 fact j k l);
-}
-
--- ---- the first round of the atoms below k
-module _ (ot of oh x y : List ℕ) where
-  pub record Beginning (t f : List ℕ) (c : Changed) (k : ℕ) : Type 0 where
-    pub low : k ≤ 64
-    pub sizes : Sizes t f
-    pub trues-are : (a : ℕ) → a < k → (j : ℕ) → j < 64 → at t j a ≡ (at ot j a || at x j a)
-    pub falses-are : (a : ℕ) → a < k → (j : ℕ) → j < 64
-        → at f j a ≡ ((at of j a || at y j a && not (at oh j a)) && not (at x j a))
-    pub lanes-are : (j : ℕ) → j < 64 → has (c .lanes) j ≡ any k (decidedAt t f j)
-    pub atoms-are : (j a : ℕ) → j < 64 → a < k → decidedAt t f j a ≡ true → has (c .atoms) a ≡ true
-
-  pub beginning-start : (t f : List ℕ) → Sizes t f → Beginning t f (record { lanes = 0; atoms = 0 }) 0
-  beginning-start t f s = record {
-    low = omega arith;
-    sizes = s;
-    trues-are = λ a l. absurd (omega arith);
-    falses-are = λ a l. absurd (omega arith);
-    lanes-are = λ j l. has-zero j;
-    atoms-are = λ j a l m. absurd (omega arith);
-  }
-
-  module _ (t f : List ℕ) (c : Changed) (k : ℕ) (b : Beginning t f c k) (l : k < 64) (v : Lanes) (r : Changed)
-      (w : OpensWord (getD ot k 0) (getD of k 0) (getD oh k 0) (getD x k 0) (getD y k 0) v)
-      (e : r ≡ notedWith c k (bitOr (v .trues) (v .falses))) where
-    abbrev t₁ : List ℕ
-    t₁ = set t k (v .trues)
-
-    abbrev f₁ : List ℕ
-    f₁ = set f k (v .falses)
-
-    t-here : getD t₁ k 0 ≡ v .trues
-    t-here = getD-set-same t k (v .trues) 0 (omega (arith, b .sizes .first-size))
-
-    f-here : getD f₁ k 0 ≡ v .falses
-    f-here = getD-set-same f k (v .falses) 0 (omega (arith, b .sizes .second-size))
-
-    t-other : (a : ℕ) → a < k → getD t₁ a 0 ≡ getD t a 0
-    t-other a m = getD-set-other t k a (v .trues) 0 (λ z. omega arith)
-
-    f-other : (a : ℕ) → a < k → getD f₁ a 0 ≡ getD f a 0
-    f-other a m = getD-set-other f k a (v .falses) 0 (λ z. omega arith)
-
-    decided-other : (j a : ℕ) → a < k → decidedAt t₁ f₁ j a ≡ decidedAt t f j a
-    decided-other j a m = ap₂ (λ (p q : ℕ). has p j || has q j) (t-other a m) (f-other a m)
-
-    decided-here : (j : ℕ) → has (bitOr (v .trues) (v .falses)) j ≡ decidedAt t₁ f₁ j k
-    decided-here j =
-        has-or (v .trues) (v .falses) j ∙ sym (ap₂ (λ (p q : ℕ). has p j || has q j) t-here f-here)
-
-    pub beginning-next : Beginning t₁ f₁ r (k + 1)
-    beginning-next = record {
-      low = omega arith;
-      sizes = record {
-        first-size = length-set t k _ ∙ b .sizes .first-size;
-        second-size = length-set f k _ ∙ b .sizes .second-size;
-      };
-      trues-are = λ a m j n. ⊎-elim
-          (λ (z : a ≡ k). rw z (ap (λ (p : ℕ). has p j) t-here ∙ w .trues-are j n))
-          (λ (z : a < k). ap (λ (p : ℕ). has p j) (t-other a z) ∙ b .trues-are a z j n)
-          (eq-or-lt-of-le (omega arith));
-      falses-are = λ a m j n. ⊎-elim
-          (λ (z : a ≡ k). rw z (ap (λ (p : ℕ). has p j) f-here ∙ w .falses-are j n))
-          (λ (z : a < k). ap (λ (p : ℕ). has p j) (f-other a z) ∙ b .falses-are a z j n)
-          (eq-or-lt-of-le (omega arith));
-      lanes-are = λ j n. ap (λ (q : Changed). has (q .lanes) j) e ∙ has-or (c .lanes) _ j
-          ∙ ap₂ _||_
-          (b .lanes-are j n ∙ sym (any-ext k (decidedAt t₁ f₁ j) (decidedAt t f j) (λ a m. decided-other j a m)))
-          (decided-here j)
-          ∙ ap (λ (i : ℕ). any i (decidedAt t₁ f₁ j)) (sym (add-one k));
-      atoms-are = λ j a n m h. ap (λ (q : Changed). has (q .atoms) a) e
-          ∙ has-with (not (eqb (bitOr (v .trues) (v .falses)) 0)) (c .atoms) k a
-          ∙ ⊎-elim
-          (λ (z : a ≡ k).
-          let g : has (bitOr (v .trues) (v .falses)) j ≡ true =
-          decided-here j ∙ ap (λ (i : ℕ). decidedAt t₁ f₁ j i) (sym z) ∙ h in
-          ap₂ (λ (p q : Bool). has (c .atoms) a || not p && q) (ne-eqb _ 0 (some _ j g)) (eq-eqb a k z)
-          ∙ or-true (has (c .atoms) a))
-          (λ (z : a < k). ap (λ (p : Bool). p || not (eqb (bitOr (v .trues) (v .falses)) 0) && eqb a k)
-          (b .atoms-are j a n z (sym (decided-other j a z) ∙ h)))
-          (eq-or-lt-of-le (omega arith));
-    }
-      where
-        some : (q j : ℕ) → has q j ≡ true → q ≡ 0 → ⊥
-        some q j g z = true≢false (sym g ∙ ap (λ (i : ℕ). has i j) z ∙ has-zero j)
-
-        or-true : (p : Bool) → (p || true) ≡ true
-        or-true true = refl
-        or-true false = refl
-
-  pub beginning-end : (t f : List ℕ) (c : Changed) (k : ℕ) → Beginning t f c k → k ≡ 64 → Opens ot of oh x y t f c
-  beginning-end t f c k b e = record {
-    sizes = b .sizes;
-    trues-are = λ a l. b .trues-are a (omega arith);
-    falses-are = λ a l. b .falses-are a (omega arith);
-    lanes-are = λ j l. b .lanes-are j l ∙ ap (λ (i : ℕ). any i (decidedAt t f j)) e;
-    atoms-are = λ j a l m. b .atoms-are j a l (omega arith);
-  }

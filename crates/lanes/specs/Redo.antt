@@ -2,8 +2,11 @@
 --
 --   notedWith c a m    c with the atom a that changed in the lanes m, or in none
 --   openAt t f j a     the atom a is undecided in lane j
---   Turned ..          what noting one head leaves
---   Taken ..           what taking one head leaves
+--   Noted ..           where one head is decided among the open lanes is noted
+--   ruled ..           what the rules of an atom are worth in a lane
+--   fresh q ..         a head of a word is undecided in a lane, and what its rules are worth passes the test q
+--   isDecided x        the value x is true or false
+--   Taken ..           one head taken: where its rules decide it is noted, and what it changed
 --   Decided ..         where the heads of a word are decided by their rules
 --   Committed ..       the planes with these lanes taken in
 --   Redone ..          in each lane the open atoms of a word are decided anew, and which lanes and atoms changed
@@ -20,9 +23,8 @@ use Rattle.words.specs.Bits.{has}
 use Rattle.words.specs.OneBit.{withBit}
 use Rattle.logic.specs.declared.value.Value.{Value}
 use Rattle.logic.specs.Value.{isTrue, isFalse}
-use Rattle.logic.specs.Interpretation.{valueAt, sameIn}
+use Rattle.logic.specs.Interpretation.{valueAt}
 use Rattle.prepared.specs.Chains.{rulesValue}
-use Rattle.prepared.specs.Prepared.{redone}
 use Rattle.lanes.specs.declared.plane.Lanes.{Lanes}
 use Rattle.lanes.specs.declared.redo.Changed.{Changed}
 use Rattle.lanes.specs.Planes.{at, column, Sizes}
@@ -33,23 +35,20 @@ notedWith c a m = record { lanes = bitOr (c .lanes) m; atoms = withBit (not (eqb
 abbrev pub openAt : List ℕ → List ℕ → ℕ → ℕ → Bool
 openAt t f j a = not (at t j a || at f j a)
 
-pub record Turned (c : Changed) (a free : ℕ) (v : Lanes) (ut uf ut₁ uf₁ : List ℕ) (r : Changed) : Type 0 where
+pub record Noted (c : Changed) (a free : ℕ) (v : Lanes) (ut uf ut₁ uf₁ : List ℕ) (r : Changed) : Type 0 where
   pub up-is : ut₁ ≡ set ut a (bitAnd (v .trues) free)
   pub down-is : uf₁ ≡ set uf a (bitAnd (v .falses) free)
   pub noted : r ≡ notedWith c a (bitOr (bitAnd (v .trues) free) (bitAnd (v .falses) free))
 
--- what the rules of the atom a are worth in lane j
 abbrev pub ruled : List ℕ → ℕ → List ℕ → List ℕ → ℕ → ℕ → Value
 ruled cl n t f j a = rulesValue (valueAt (column t f j)) cl a n
 
--- a head of the word is undecided in lane j and passes the test q by its rules
 abbrev pub fresh : (Value → Bool) → List ℕ → ℕ → ℕ → List ℕ → List ℕ → ℕ → ℕ → Bool
 fresh q cl n heads t f j a = has heads a && (openAt t f j a && q (ruled cl n t f j a))
 
 abbrev pub isDecided : Value → Bool
 isDecided x = isTrue x || isFalse x
 
--- the head a is taken: where it is decided by its rules is noted
 pub record Taken (cl : List ℕ) (n : ℕ) (t f : List ℕ) (a : ℕ) (ut uf : List ℕ) (c : Changed) (ut₁ uf₁ : List ℕ)
     (r : Changed) : Type 0 where
   pub sizes : Sizes ut₁ uf₁

@@ -1,4 +1,4 @@
-// The planes of what 64 settings add, and of their first round.
+// The planes of what 64 settings add, and planes that are the same in each lane.
 ghost use mathlib.Core.Path.{_≡_};
 ghost use Prim.Native.Nat.{ℕ, _+_, _<_};
 ghost use lib.ListN.{length};
@@ -6,9 +6,7 @@ ghost use Rattle.words.specs.Bits.{has};
 ghost use Rattle.program.specs.Setting.{additionsOf};
 ghost use Rattle.prepared.specs.Dependents.{Zeros};
 ghost use Rattle.lanes.specs.Planes.{Sizes};
-ghost use Rattle.lanes.specs.Fill.{Filled, Even, Opens, OpensWord};
-use crate::plane::Lanes;
-use crate::redo::Changed;
+ghost use Rattle.lanes.specs.Fill.{Filled, Even};
 use program::cause::Additions;
 
 // Fills the planes of the facts and of the assumptions of 64 settings from one on, of which the first adds this;
@@ -49,44 +47,4 @@ pub fn broadcast(w: u64, to: &mut [u64; 64])
         to[i as usize] = even(words::test(w, i));
         i += 1;
     }
-}
-
-// The first round's words of an atom: true and false with nothing added, whether it is a head, and what is added.
-fn open_word(t: u64, f: u64, head: u64, fact: u64, assumed: u64) -> Lanes
-    ensures { λ r. ⌜ OpensWord t f head fact assumed r ⌝ }
-{
-    Lanes {
-        trues: t | fact,
-        falses: (f | (assumed & !head)) & !fact,
-    }
-}
-
-// The planes after the first round, from those with nothing added.
-pub fn begin(
-    ot: &[u64; 64],
-    of: &[u64; 64],
-    oh: &[u64; 64],
-    x: &[u64; 64],
-    y: &[u64; 64],
-    t: &mut [u64; 64],
-    f: &mut [u64; 64],
-) -> Changed
-    requires { ⌜ Sizes (now t) (now f) ⌝ }
-    ensures { λ r. ⌜ Opens (now (ot .entry)) (now (of .entry)) (now (oh .entry)) (now (x .entry)) (now (y .entry))
-        (now (t .exit)) (now (f .exit)) r ⌝ }
-{
-    let mut c = Changed {
-        lanes: 0,
-        atoms: 0,
-    };
-    let mut i: u32 = 0;
-    while i < 64 {
-        let at = i as usize;
-        let v = open_word(ot[at], of[at], oh[at], x[at], y[at]);
-        t[at] = v.trues;
-        f[at] = v.falses;
-        c = c.with(i, v.trues | v.falses);
-        i += 1;
-    }
-    c
 }

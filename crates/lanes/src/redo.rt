@@ -6,7 +6,7 @@ ghost use lib.ListN.{length};
 ghost use Rattle.words.specs.Bits.{has};
 ghost use Rattle.prepared.specs.Chains.{Lasts, Linked};
 ghost use Rattle.lanes.specs.Planes.{Planes, Sizes};
-ghost use Rattle.lanes.specs.Redo.{notedWith, Turned, Taken, Decided, Committed, Redone};
+ghost use Rattle.lanes.specs.Redo.{notedWith, Noted, Taken, Decided, Committed, Redone};
 use crate::plane::Lanes;
 use crate::plane::rules;
 
@@ -35,7 +35,7 @@ impl Changed {
 // Notes where an atom with the value v by its rules is decided among the open lanes.
 fn note(c: Changed, a: u32, free: u64, v: Lanes, ut: &mut [u64; 64], uf: &mut [u64; 64]) -> Changed
     requires { ⌜ (a < 64) × Sizes (now ut) (now uf) ⌝ }
-    ensures { λ r. ⌜ Turned c a free v (now (ut .entry)) (now (uf .entry)) (now (ut .exit)) (now (uf .exit)) r ⌝ }
+    ensures { λ r. ⌜ Noted c a free v (now (ut .entry)) (now (uf .entry)) (now (ut .exit)) (now (uf .exit)) r ⌝ }
 {
     let up = v.trues & free;
     let down = v.falses & free;
@@ -97,10 +97,7 @@ fn decide(
     ensures { λ r. ⌜ Decided (now (clauses .entry)) n heads (now (t .entry)) (now (f .entry)) (now (ut .exit))
         (now (uf .exit)) r ⌝ }
 {
-    let mut c = Changed {
-        lanes: 0,
-        atoms: 0,
-    };
+    let mut c = Changed { lanes: 0, atoms: 0 };
     let mut left = heads;
     while left != 0 {
         let a = words::lowest_bit(left);

@@ -1,19 +1,16 @@
-// Settling 64 settings: rounds until no lane changes.
-ghost use mathlib.Core.Path.{_≡_};
-ghost use Prim.Native.Nat.{_*_, _≤_};
-ghost use lib.ListN.{length};
-ghost use Rattle.prepared.specs.Opening.{openingOf};
+// Settling 64 settings at a time: rounds until no lane changes.
+ghost use Prim.Native.Nat.{_≤_};
 ghost use Rattle.prepared.specs.Prepared.{Prepared};
 ghost use Rattle.lanes.specs.Planes.{Sizes};
 ghost use Rattle.lanes.specs.Fill.{Even, Filled};
 ghost use Rattle.lanes.specs.Rounds.{addsAt, Settles};
-use crate::fill::begin;
+use crate::begin::begin;
 use crate::redo::redo;
 use prepared::dependent::touched;
 use prepared::opening::Opening;
 
 // Settles the 64 settings from first on, in lanes; answers the sum of the round counts of the first m of them.
-// first and causes say which settings x and y are filled with.
+// opening, causes and first say what the planes ot, of, oh, x and y are filled with.
 pub fn run(
     clauses: &[u64],
     n: usize,
@@ -41,13 +38,13 @@ pub fn run(
     let mut uf = [0u64; 64];
     let valid = words::lowest(m);
     let mut c = begin(ot, of, oh, x, y, t, f);
-    let mut total: u64 = 0;
+    let mut total: u32 = 0;
     let mut k: u32 = 0;
     loop {
         if c.lanes == 0 {
-            break total;
+            break total as u64;
         }
-        total = total + words::count(c.lanes & valid) as u64;
+        total = total + words::count(c.lanes & valid);
         let heads = touched(dependents, c.atoms);
         c = redo(heads, clauses, n, last, prev, t, f, &mut ut, &mut uf);
         k += 1;

@@ -145,7 +145,3 @@ module _ (v w : ℕ → Value) (p n : ℕ) (e : (a : ℕ) → a < 64 → (has p 
       ∙ sym (true-literals w p n 64))
       (false-literals v p n 64 ∙ any-ext 64 (opposed v p n) (opposed w p n) (tests-same isFalse isTrue)
       ∙ sym (false-literals w p n 64))
-
-pub body-ext : (v w : ℕ → Value) (p n : ℕ) → ((a : ℕ) → a < 64 → v a ≡ w a)
-    → valueOf v (body p n) ≡ valueOf w (body p n)
-body-ext v w p n e = body-same v w p n (λ a l h. e a l)

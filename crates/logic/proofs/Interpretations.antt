@@ -1,19 +1,22 @@
 -- Laws of interpretations: the values in one, the one of given values, and how the number of decided atoms grows.
 -- Assumes nothing.
 use mathlib.Core.Path.{_≡_, refl, sym, ap, ap₂, _∙_}
-use mathlib.Core.Bool.{Bool, true, false, not, _&&_, _||_, or-true, or-false, and-true, and-false, true≢false}
+use mathlib.Core.Bool.{Bool, true, false, not, _&&_, _||_, or-true, or-false, and-true, and-false}
+use mathlib.Core.Bool.{true≢false, Bool·not-not}
 use mathlib.Core.Logic.{_⊎_, inl, inr, ⊎-elim}
 use Prim.Native.Nat.{ℕ, _-_, _^_, _≤_, _<_}
 use native.Mathlib.Omega.{arith}
 use lib.Dec.{eqb, lit<}
 use lib.Bits.{bitAnd, bitOr, bitXor, and-lt, or-lt, xor-lt}
 use lib.Count.{ones}
-use borrow.Author.Tests.{eqb-true, eq-eqb, ne-eqb}
+use borrow.Author.Tests.{eqb-true, eq-eqb}
 use Rattle.words.specs.Choice.{pick}
+use Rattle.words.specs.Below.{any}
 use Rattle.words.specs.Bits.{has, word}
 use Rattle.words.proofs.Tests.{lt-or-le, and-true-l, and-true-r, or-false-l, or-false-r}
+use Rattle.words.proofs.Below.{any-ext}
 use Rattle.words.proofs.Bits.{has-zero, has-above, has-and, has-or, has-xor, differs, has-ext}
-use Rattle.words.proofs.Words.{word-lt, has-word, is-word, word-ext}
+use Rattle.words.proofs.Words.{word-lt, has-word, is-word, word-ext, zero-any}
 use Rattle.words.proofs.Words.{has-or-one, or-one-lt, has-without-one, without-one-lt}
 use Rattle.words.proofs.Counts.{ones-grow, ones-apart}
 use Rattle.logic.specs.declared.value.Value.{Value}
@@ -106,12 +109,6 @@ pub nothing-good : Good nothing
 nothing-good = record { trues-fit = lit< tt; falses-fit = lit< tt; disjoint = refl }
 
 -- ---- one atom assigned
-pub assigned-same : (v : ℕ → Value) (a : ℕ) (x : Value) → assigned v a x a ≡ x
-assigned-same v a x = ap (λ (t : Bool). pick t x (v a)) (eq-eqb a a refl)
-
-pub assigned-other : (v : ℕ → Value) (a : ℕ) (x : Value) (b : ℕ) → (b ≡ a → ⊥) → assigned v a x b ≡ v b
-assigned-other v a x b n = ap (λ (t : Bool). pick t x (v b)) (ne-eqb b a n)
-
 -- an atom that is assigned the value it has
 pub assigned-kept : (v : ℕ → Value) (a : ℕ) (x : Value) → x ≡ v a → (b : ℕ) → assigned v a x b ≡ v b
 assigned-kept v a x e b = go (eqb b a) refl
@@ -144,14 +141,6 @@ module _ (q : Value → Bool) (v : ℕ → Value) (w : ℕ) (a : ℕ) (x : Value
       (λ b m. has-without-one 64 w a b l m ∙ ap (λ (t : Bool). t && not (eqb b a)) (bits b)
       ∙ without-pick e (eqb b a) (v b))
 
-  -- where x passes as the value of atom a does, the same
-  pub assigned-alike : q x ≡ q (v a) → w ≡ word 64 (λ b. q (assigned v a x b))
-  assigned-alike e = is-word 64 w (λ b. q (assigned v a x b)) fits (λ b m. bits b ∙ alike b (eqb b a) refl)
-    where
-      alike : (b : ℕ) (t : Bool) → eqb b a ≡ t → q (v b) ≡ q (pick t x (v b))
-      alike b true p = ap (λ (y : ℕ). q (v y)) (eqb-true b a p) ∙ sym e
-      alike b false p = refl
-
 -- the words of i with the atom a assigned the value x
 module _ (i : Interpretation) (a : ℕ) (g : Good i) (l : a < 64) (x : Value) where
   pub trues-more : isTrue x ≡ true → bitOr (i .trues) (2 ^ a) ≡ word 64 (λ b. isTrue (assigned (valueAt i) a x b))
@@ -161,9 +150,6 @@ module _ (i : Interpretation) (a : ℕ) (g : Good i) (l : a < 64) (x : Value) wh
       → bitAnd (i .trues) (2 ^ 64 - 1 - 2 ^ a) ≡ word 64 (λ b. isTrue (assigned (valueAt i) a x b))
   trues-less = assigned-less isTrue (valueAt i) (i .trues) a x (g .trues-fit) l (λ b. sym (true-at i b))
 
-  pub trues-alike : isTrue x ≡ isTrue (valueAt i a) → i .trues ≡ word 64 (λ b. isTrue (assigned (valueAt i) a x b))
-  trues-alike = assigned-alike isTrue (valueAt i) (i .trues) a x (g .trues-fit) l (λ b. sym (true-at i b))
-
   pub falses-more : isFalse x ≡ true → bitOr (i .falses) (2 ^ a) ≡ word 64 (λ b. isFalse (assigned (valueAt i) a x b))
   falses-more =
       assigned-more isFalse (valueAt i) (i .falses) a x (g .falses-fit) l (λ b. sym (false-at i (g .disjoint) b))
@@ -172,10 +158,6 @@ module _ (i : Interpretation) (a : ℕ) (g : Good i) (l : a < 64) (x : Value) wh
       → bitAnd (i .falses) (2 ^ 64 - 1 - 2 ^ a) ≡ word 64 (λ b. isFalse (assigned (valueAt i) a x b))
   falses-less =
       assigned-less isFalse (valueAt i) (i .falses) a x (g .falses-fit) l (λ b. sym (false-at i (g .disjoint) b))
-
-  pub falses-alike : isFalse x ≡ isFalse (valueAt i a) → i .falses ≡ word 64 (λ b. isFalse (assigned (valueAt i) a x b))
-  falses-alike =
-      assigned-alike isFalse (valueAt i) (i .falses) a x (g .falses-fit) l (λ b. sym (false-at i (g .disjoint) b))
 
 -- ---- the decided atoms
 pub decided-at : (i : Interpretation) → Disjoint i → (a : ℕ)
@@ -187,7 +169,7 @@ abbrev pub changed : Interpretation → Interpretation → ℕ
 changed i j = bitOr (bitXor (i .trues) (j .trues)) (bitXor (i .falses) (j .falses))
 
 module _ (i j : Interpretation) where
-  has-changed : (a : ℕ) → has (changed i j) a
+  pub has-changed : (a : ℕ) → has (changed i j) a
       ≡ (differs (has (i .trues) a) (has (j .trues) a) || differs (has (i .falses) a) (has (j .falses) a))
   has-changed a =
       has-or (bitXor (i .trues) (j .trues)) (bitXor (i .falses) (j .falses)) a
@@ -226,6 +208,26 @@ changed-self i g =
     none : (t : Bool) → differs t t ≡ false
     none true = refl
     none false = refl
+
+-- two interpretations are the same exactly where no atom's value differs
+module _ (i j : Interpretation) (g : Good i) (h : Good j) where
+  same-changed : sameIn j i ≡ eqb (changed i j) 0
+  same-changed = go (sameIn j i) (eqb (changed i j) 0) refl refl
+    where
+      go : (b c : Bool) → sameIn j i ≡ b → eqb (changed i j) 0 ≡ c → b ≡ c
+      go true c p q =
+          let e = ap (λ (k : Interpretation). changed i k) (same-in-eq j i p) ∙ changed-self i g in
+          sym (eq-eqb (changed i j) 0 e) ∙ q
+      go false true p q = sym p ∙ same-in-refl j i (sym (changed-none i j g h (eqb-true (changed i j) 0 q)))
+      go false false p q = refl
+
+  -- moved a says whether the value of a differs
+  pub some-changed : (moved : ℕ → Bool) → ((a : ℕ) → a < 64 → has (changed i j) a ≡ moved a)
+      → any 64 moved ≡ not (sameIn j i)
+  some-changed moved e =
+      any-ext 64 moved (has (changed i j)) (λ a l. sym (e a l))
+      ∙ sym (Bool·not-not (any 64 (has (changed i j))))
+      ∙ ap not (sym (zero-any 64 (changed i j) (changed-lt i j g h)) ∙ sym same-changed)
 
 -- ---- the number of decided atoms
 pub decided-le : (m : ℕ) (i : Interpretation) → i .trues < 2 ^ m → i .falses < 2 ^ m → Disjoint i → decidedIn i ≤ m

@@ -62,11 +62,6 @@ not-both False = refl
 not-both Unknown = refl
 not-both True = refl
 
-pub true-open : (v : Value) → isTrue v ≡ true → not (isFalse v) ≡ true
-true-open False e = e
-true-open Unknown e = refl
-true-open True e = refl
-
 pub is-true : (v : Value) → isTrue v ≡ true → v ≡ True
 is-true False e = absurd (false≢true e)
 is-true Unknown e = absurd (false≢true e)

@@ -7,10 +7,8 @@ use native.Mathlib.Omega.{arith}
 use lib.Bits.{bitAnd, bitOr, and-lt, or-lt}
 use Rattle.words.specs.Choice.{pick}
 use Rattle.words.specs.Bits.{has, word}
-use Rattle.words.proofs.Tests.{Gives}
 use Rattle.words.proofs.Bits.{has-zero, has-and, has-or, has-not}
 use Rattle.words.proofs.Words.{word-lt, has-word, is-word}
-use Rattle.words.proofs.Counts.{Within}
 use Rattle.logic.specs.declared.value.Value.{Value}
 use Rattle.logic.specs.declared.value.Value.the-variants.{False, Unknown, True}
 use Rattle.logic.specs.declared.interpretation.Interpretation.{Interpretation}
@@ -26,7 +24,6 @@ use Rattle.settle.specs.Step.{bodiesOf, hasSome, nextValue, step}
 use Rattle.settle.proofs.Definitions.{bodiesValue, defines-append, defines-clauses, defines-added}
 use Rattle.settle.proofs.Definitions.{bodies-value-append, bodies-value-added}
 use Rattle.prepared.specs.declared.opening.Opening.{Opening}
-use Rattle.prepared.specs.Dependents.{touchedFrom}
 use Rattle.prepared.specs.Opening.{noAdditions, openingOf, opened}
 use Rattle.prepared.proofs.Bodies.{next-value}
 
@@ -128,38 +125,9 @@ module _ (cl : List ℕ) (n : ℕ) where
     pub opened-step : opened o x ≡ step (programWith cl n x) nothing
     opened-step = interpretation-eq opened-trues opened-falses
 
--- ---- the atoms that the first round decides are the opening's own or added ones
-some-own : (t f x y h g : Bool) → Gives ((t || x) || ((f || y && h) && g)) ((t || f) || (x || y))
-some-own true f x y h g e = refl
-some-own false true x y h g e = refl
-some-own false false true y h g e = refl
-some-own false false false true h g e = refl
-some-own false false false false h g e = e
-
-pub opened-within : (o : Opening) (x : Additions)
-    → Within 64 (bitOr (opened o x .trues) (opened o x .falses))
-    (bitOr (bitOr (o .trues) (o .falses)) (bitOr (x .facts) (x .assumptions)))
-opened-within o x a l e =
-    let h = 2 ^ 64 - 1 - o .heads in
-    let g = 2 ^ 64 - 1 - x .facts in
-    let w = bitAnd (x .assumptions) h in
-    has-or (bitOr (o .trues) (o .falses)) (bitOr (x .facts) (x .assumptions)) a
-    ∙ ap₂ _||_ (has-or (o .trues) (o .falses) a) (has-or (x .facts) (x .assumptions) a)
-    ∙ some-own (has (o .trues) a) (has (o .falses) a) (has (x .facts) a) (has (x .assumptions) a) (has h a) (has g a)
-    (sym
-    (has-or (opened o x .trues) (opened o x .falses) a
-    ∙ ap₂ _||_ (has-or (o .trues) (x .facts) a)
-    (has-and (bitOr (o .falses) w) g a
-    ∙ ap (λ (b : Bool). b && has g a)
-    (has-or (o .falses) w a ∙ ap (λ (b : Bool). has (o .falses) a || b) (has-and (x .assumptions) h a))))
-    ∙ e)
-
 -- ---- the opening from the step with nothing added
-pub opening-is : (cl : List ℕ) (n : ℕ) (i : Interpretation) (heads touched : ℕ)
+pub opening-is : (cl : List ℕ) (n : ℕ) (i : Interpretation) (heads : ℕ)
     → i ≡ step (programWith cl n noAdditions) nothing → heads ≡ headsOf cl n
-    → touched ≡ touchedFrom cl n (bitOr (i .trues) (i .falses))
-    → record { trues = i .trues; falses = i .falses; heads = heads; touched = touched } ≡ openingOf cl n
+    → record { trues = i .trues; falses = i .falses; heads = heads } ≡ openingOf cl n
 unfolding openingOf
-opening-is cl n i heads touched e f g =
-    let h = g ∙ ap (λ (j : Interpretation). touchedFrom cl n (bitOr (j .trues) (j .falses))) e in
-    λ k. record { trues = e k .trues; falses = e k .falses; heads = f k; touched = h k }
+opening-is cl n i heads e f = λ k. record { trues = e k .trues; falses = e k .falses; heads = f k }

@@ -6,16 +6,15 @@ use mathlib.Core.List.{List}
 use Prim.Native.Nat.{ℕ, _-_, _^_, _<_}
 use lib.Bits.{bitAnd, bitOr, or-lt}
 use lib.Dec.{eqb}
-use borrow.Author.Tests.{not-true}
 use Rattle.words.specs.Choice.{pick}
 use Rattle.words.specs.Bits.{has}
-use Rattle.words.proofs.Tests.{and-true-l, and-true-r, or-false-l, or-false-r, gives-false}
+use Rattle.words.proofs.Tests.{and-true-l, and-true-r, or-false-l, gives-false}
 use Rattle.words.proofs.Below.{any-gives, any-found, any-true, any-false}
-use Rattle.words.proofs.Bits.{has-and, has-or, has-not}
+use Rattle.words.proofs.Bits.{has-and, has-not}
 use Rattle.words.proofs.Counts.{Within}
 use Rattle.logic.specs.declared.interpretation.Interpretation.{Interpretation}
 use Rattle.logic.specs.Value.{isTrue, isFalse}
-use Rattle.logic.specs.Interpretation.{among, valueAt}
+use Rattle.logic.specs.Interpretation.{valueAt, ofValues}
 use Rattle.logic.specs.Order.{Contained}
 use Rattle.logic.proofs.Order.{leq-decided}
 use Rattle.logic.proofs.Interpretations.{Good, values-at, values-ext, decided-at, changed, unchanged-at}
@@ -28,10 +27,13 @@ use Rattle.settle.proofs.Reached.{step-good}
 use Rattle.settle.proofs.Definitions.{defines, defines-append, defines-clauses}
 use Rattle.prepared.specs.Dependents.{names, dependentsOf, touchedFrom}
 use Rattle.prepared.specs.Chains.{rulesValue}
-use Rattle.prepared.specs.Prepared.{redone}
 use Rattle.prepared.proofs.Filling.{dependents-has}
 use Rattle.prepared.proofs.Bodies.{next-defined, next-same, bodies-same, bodies-rules}
 use Rattle.prepared.proofs.Touching.{touches, has-touched}
+
+-- the interpretation i with the atoms of the word d alone brought to what their rules are worth under i
+abbrev pub redone : List ℕ → ℕ → Interpretation → ℕ → Interpretation
+redone cl n i d = ofValues (λ a. pick (has d a) (rulesValue (valueAt i) cl a n) (valueAt i a))
 
 -- ---- the atoms of a word that an interpretation leaves undecided
 abbrev pub openIn : Interpretation → ℕ → ℕ
@@ -119,7 +121,7 @@ module _ (cl : List ℕ) (n : ℕ) (x : Additions) (s t : Interpretation) (e : t
     redone-at a l false c q d = untouched a l q
 
     pub redone-step : redone cl n t (openIn t (touchedFrom cl n u)) ≡ step p t
-    unfolding redone step
+    unfolding step
     redone-step =
         values-ext _ _
         (λ a l. ap (λ (b : Bool). pick b (rulesValue (valueAt t) cl a n) (valueAt t a))

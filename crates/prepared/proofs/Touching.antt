@@ -1,31 +1,22 @@
--- The heads that the atoms of a word touch, and two walks over a word's bits: over fresh atoms, gathering the heads
--- they touch, and over atoms that are decided anew. What is done and what is left is always all. Assumes nothing.
-use mathlib.Core.Path.{_≡_, refl, sym, ap, ap₂, _∙_}
-use mathlib.Core.Bool.{Bool, true, false, _&&_, _||_, or-false, true≢false}
+-- The heads that the atoms of a word touch, and the walk over the word's bits that gathers them: what is gathered and
+-- what the atoms left touch is always all. Assumes nothing.
+use mathlib.Core.Path.{_≡_, refl, sym, ap, _∙_}
+use mathlib.Core.Bool.{Bool, true, false, _&&_, _||_, or-false}
 use mathlib.Core.List.{List}
 use Prim.Native.Nat.{ℕ, _^_, _<_}
 use lib.Bits.{bitOr, or-lt}
-use lib.Dec.{eqb, lit<}
+use lib.Dec.{lit<}
 use lib.ListN.{getD}
-use borrow.Author.Tests.{eqb-true, eqb-false}
-use Rattle.words.specs.Choice.{pick}
 use Rattle.words.specs.Bits.{has, word}
 use Rattle.words.specs.OneBit.{withoutBit, BitOf}
 use Rattle.words.specs.Below.{any}
-use Rattle.words.proofs.Below.{any-ext, any-or, all-false}
+use Rattle.words.proofs.Below.{any-ext, all-false}
 use Rattle.words.proofs.Bits.{has-zero, has-or}
-use Rattle.words.proofs.Words.{word-lt, has-word, is-word, word-ext}
-use Rattle.words.proofs.BitWalks.{without-here, without-other, any-without}
-use Rattle.logic.specs.declared.value.Value.{Value}
-use Rattle.logic.specs.declared.interpretation.Interpretation.{Interpretation}
-use Rattle.logic.specs.Interpretation.{valueAt, ofValues}
-use Rattle.logic.specs.Assigned.{assigned}
-use Rattle.logic.proofs.Interpretations.{Good, values-at, values-ext, values-good, of-values-at}
-use Rattle.logic.proofs.Interpretations.{assigned-same, assigned-other}
+use Rattle.words.proofs.Words.{has-word, is-word, word-ext}
+use Rattle.words.proofs.BitWalks.{any-without}
 use Rattle.prepared.specs.Dependents.{dependentsOf, touchedFrom, Dependents, touchedBy}
-use Rattle.prepared.specs.Chains.{rulesValue}
 
--- ---- the heads that the atoms of a word touch
+-- ---- touched heads
 module _ (cl : List ℕ) (n : ℕ) where
   -- the atom i is in w and has the dependent a
   abbrev pub touches : ℕ → ℕ → ℕ → Bool
@@ -43,24 +34,7 @@ module _ (cl : List ℕ) (n : ℕ) where
       (λ a l. any-ext 64 (λ i. has w i && has (getD t i 0) a) (touches w a)
       (λ i m. ap (λ (e : ℕ). has w i && has e a) (d i m)))
 
-  pub touched-or : (u w : ℕ) → bitOr (touchedFrom cl n u) (touchedFrom cl n w) ≡ touchedFrom cl n (bitOr u w)
-  unfolding touchedFrom
-  touched-or u w =
-      is-word 64 _ (λ a. any 64 (touches (bitOr u w) a)) (or-lt 64 _ _ (word-lt 64 _) (word-lt 64 _))
-      (λ a l. has-or (touchedFrom cl n u) (touchedFrom cl n w) a
-      ∙ ap₂ _||_ (has-touched u a l) (has-touched w a l)
-      ∙ sym (any-or 64 (touches u a) (touches w a))
-      ∙ any-ext 64 (λ i. touches u a i || touches w a i) (touches (bitOr u w) a)
-      (λ i m. join (has u i) (has w i) (has (dependentsOf cl n i) a)
-      ∙ ap (λ (b : Bool). b && has (dependentsOf cl n i) a) (sym (has-or u w i))))
-    where
-      join : (x y z : Bool) → (x && z || y && z) ≡ ((x || y) && z)
-      join true true true = refl
-      join true true false = refl
-      join true false z = or-false z
-      join false y z = refl
-
--- ---- the heads that fresh atoms touch
+-- ---- touched heads gathered
 module _ (t : List ℕ) (fresh : ℕ) where
   pub record Gathered (heads left : ℕ) : Type 0 where
     pub fits : heads < 2 ^ 64

@@ -1,25 +1,15 @@
--- What settling by touched heads goes by.
+-- What settling in lanes prepares once a case.
 --
---   redone cl n i d   i with the atoms of the word d alone brought to what their rules are worth under i
 --   Blank ..          tables of full size, of which those that need it are all 0
---   Prepared ..       what is prepared once a case: the opening, the dependents, and the chains of rules
+--   Prepared ..       the opening, the dependents, and the chains of rules
 use mathlib.Core.Path.{_≡_}
 use mathlib.Core.List.{List}
 use Prim.Native.Nat.{ℕ, _*_, _≤_}
 use lib.ListN.{length}
-use Rattle.words.specs.Choice.{pick}
-use Rattle.words.specs.Bits.{has}
-use Rattle.words.specs.OneBit.{BitOf}
-use Rattle.logic.specs.declared.value.Value.the-variants.{Unknown}
-use Rattle.logic.specs.declared.interpretation.Interpretation.{Interpretation}
-use Rattle.logic.specs.Interpretation.{valueAt, ofValues}
 use Rattle.prepared.specs.declared.opening.Opening.{Opening}
 use Rattle.prepared.specs.Opening.{openingOf}
 use Rattle.prepared.specs.Dependents.{Dependents, Zeros}
-use Rattle.prepared.specs.Chains.{rulesValue, Lasts, Linked}
-
-unfoldable pub redone : List ℕ → ℕ → Interpretation → ℕ → Interpretation
-redone cl n i d = ofValues (λ a. pick (has d a) (rulesValue (valueAt i) cl a n) (valueAt i a))
+use Rattle.prepared.specs.Chains.{Lasts, Linked}
 
 pub record Blank (dependents last prev : List ℕ) : Type 0 where
   pub dependents-size : length dependents ≡ 64

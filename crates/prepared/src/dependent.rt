@@ -5,7 +5,7 @@ ghost use lib.ListN.{length};
 ghost use Rattle.words.specs.Bits.{word};
 ghost use Rattle.prepared.specs.Dependents.{Dependents, Spread, Words, Zeros, touchedBy};
 
-// Adds a head to the dependents of the atoms of w.
+// Adds a bit to the entries of the atoms of w: here a head to their dependents.
 pub fn spread(dependents: &mut [u64; 64], w: u64, head: u32)
     requires { ⌜ (head < 64) × (length (now dependents) ≡ 64) ⌝ }
     ensures { λ r. ⌜ Spread (now (dependents .entry)) w head (now (dependents .exit)) ⌝ }
@@ -38,7 +38,7 @@ pub fn fill(clauses: &[u64], n: usize, dependents: &mut [u64; 64])
     }
 }
 
-// The heads that depend on a fresh atom.
+// The heads that the atoms of a word touch: those that depend on one of them.
 pub fn touched(dependents: &[u64; 64], fresh: u64) -> u64
     requires { ⌜ Words (now dependents) ⌝ }
     ensures { λ r. ⌜ r ≡ word 64 (touchedBy (now (dependents .entry)) fresh) ⌝ }

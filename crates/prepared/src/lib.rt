@@ -1,4 +1,5 @@
-// Settling by touched heads: a round decides anew only heads of rules that name an atom changed by the round before.
+// What settling in lanes prepares once a case: the first round with nothing added, for each atom the heads that it
+// touches, and the rules of each head as a chain.
 pub mod chain;
 pub mod dependent;
 pub mod opening;

@@ -1,4 +1,4 @@
-// The tables that are prepared once a case.
+// The opening and the tables, prepared once a case.
 ghost use mathlib.Core.Path.{_≡_};
 ghost use Prim.Native.Nat.{_*_, _≤_};
 ghost use lib.ListN.{length};
@@ -22,5 +22,5 @@ pub fn prepare(
 {
     crate::dependent::fill(clauses, n, dependents);
     crate::chain::fill(clauses, n, last, prev);
-    crate::opening::first_round(clauses, n, heads, dependents)
+    crate::opening::first_round(clauses, n, heads)
 }

@@ -3,7 +3,7 @@
 -- Steady: programs whose step keeps the order of information.
 -- Heads: programs whose heads are all below a number of atoms.
 -- Reached: the rounds rise, and the state of the loop that counts them.
--- Settling: the rounds end.
+-- Settling: the rounds end, and stay where they have ended.
 -- Models: the settled interpretation is the least model.
 -- Theorems: a proof of each claim of specs/Claims.antt.
 -- Definitions: the bodies of an atom in a table's clauses and in those that a set adds.

@@ -1,12 +1,15 @@
--- Settling a steady program ends: the step keeps the settled interpretation, and each round before it changed
--- something. Assumes nothing.
+-- Settling a steady program ends: the step keeps the settled interpretation, each round before it changed something,
+-- and each round after it changes nothing. Assumes nothing.
 use mathlib.Core.Path.{_≡_, refl, sym, ap, _∙_, subst}
-use mathlib.Core.Bool.{false, true≢false}
+use mathlib.Core.Bool.{false, not, true≢false}
 use mathlib.Core.List.{List}
 use mathlib.Core.Logic.{_⊎_, inl, inr, ⊎-elim}
-use Prim.Native.Nat.{ℕ, zero, suc, _+_, _<_}
+use Prim.Native.Nat.{ℕ, zero, suc, _+_, _-_, _≤_, _<_}
 use native.Mathlib.Numerals.{add-one}
 use native.Mathlib.Omega.{arith}
+use lib.Dec.{ltb}
+use borrow.Author.Tests.{lt-ltb, le-ltb}
+use Rattle.words.proofs.Tests.{lt-or-le}
 use Rattle.logic.specs.Interpretation.{decidedIn}
 use Rattle.logic.proofs.Interpretations.{grow, same-in-refl}
 use Rattle.program.specs.Program.{Clause}
@@ -52,3 +55,31 @@ module _ (p : List Clause) (s : Steady p) where
   changed-more k h =
       ⊎-elim (λ (e : rounds p k ≡ rounds p (suc k)). absurd (true≢false (sym (same-in-refl _ _ e) ∙ h))) (λ q. q)
       (grow (rounds p k) (rounds p (suc k)) (rounds-good p k) (rounds-good p (suc k)) (rounds-rise p s k))
+
+  -- from the round count on the rounds stay what they are
+  pub rounds-stay : (d : ℕ) → rounds p (roundCount p + d) ≡ rounds p (roundCount p)
+  unfolding rounds
+  rounds-stay zero = let e : roundCount p + 0 ≡ roundCount p = omega arith in ap (rounds p) e
+  rounds-stay (suc d) =
+      let e : roundCount p + suc d ≡ suc (roundCount p + d) = omega arith in
+      ap (rounds p) e ∙ ap (step p) (rounds-stay d) ∙ sym (settled-ended .fixed)
+
+  pub rounds-settled : (k : ℕ) → roundCount p ≤ k → rounds p k ≡ rounds p (roundCount p)
+  rounds-settled k l =
+      let e : k ≡ roundCount p + (k - roundCount p) = omega arith in
+      ap (rounds p) e ∙ rounds-stay (k - roundCount p)
+
+  -- a round changes something exactly before the round count
+  pub changes-before : (k : ℕ) → not (unchanged p k) ≡ ltb k (roundCount p)
+  changes-before k =
+      ⊎-elim
+      (λ (l : k < roundCount p). ap not (settled-ended .reached .fresh k l) ∙ sym (lt-ltb k (roundCount p) l))
+      (λ (l : roundCount p ≤ k).
+      ap not (same-in-refl _ _ (rounds-settled k l ∙ sym (rounds-settled (suc k) (omega arith))))
+      ∙ sym (le-ltb k (roundCount p) l))
+      (lt-or-le k (roundCount p))
+
+  pub round-count-le : roundCount p ≤ 64
+  round-count-le =
+      let r = settled-ended .reached in
+      omega (arith, r .few, good-decided (rounds p (roundCount p)) (rounds-good p (roundCount p)))

@@ -1,12 +1,13 @@
--- meets its contract. Assumes nothing.
+-- `fill` meets its contract: the lanes passed hold what their settings add, and `next` is what the setting behind them
+-- adds (`Filling`). The measure is the number of lanes left. Assumes nothing.
 use mathlib.Core.Path.{_≡_}
 use Prim.Native.Nat.{ℕ, _-_, _≤_}
-use Rattle.program.specs.Setting.{additionsOf}
-use Rattle.lanes.specs.Planes.{Sizes}
-use Rattle.lanes.proofs.Filling.{Filling, filling-start, filling-next, filling-end}
-use Rattle.prepared.specs.Dependents.{Zeros}
 use native.Mathlib.Omega.{arith}
 use borrow.Author.Needs.{needs}
+use Rattle.program.specs.Setting.{additionsOf}
+use Rattle.prepared.specs.Dependents.{Zeros}
+use Rattle.lanes.specs.Planes.{Sizes}
+use Rattle.lanes.proofs.Filling.{Filling, filling-start, filling-next, filling-end}
 use Rattle.lanes.proofs.fill.fill.Statement.{statement}
 use Rattle.lanes.proofs.fill.fill.Tie as tie
 
@@ -16,6 +17,10 @@ Inv-loop causes x₀ y₀ next₀ j₀ x y next j = (j ≤ 64) × Sizes x y
 
 abbrev μ-loop : tie.MeasureT-loop
 μ-loop causes x₀ y₀ next₀ j₀ x y next j = 64 - j
+
+-- the place before: the loop
+abbrev looped : tie.After-spread Inv-loop μ-loop → tie.At-loop Inv-loop μ-loop
+looped c = c .before .before .before
 
 loop-holds : tie.Need-loop-holds Inv-loop μ-loop
 loop-holds c = (omega arith, c .pre .0, λ s e p q. filling-start _ s _ _ _ e p q)
@@ -36,15 +41,19 @@ loop-less : tie.Need-loop-less Inv-loop μ-loop
 loop-less c = search needs
 
 loop-again : tie.Need-loop-again Inv-loop μ-loop
-loop-again c = (
+loop-again c =
+    let facts = c .before .before .before in
+    let x = facts .spread .ensures in
+    let y = c .before .spread2 .ensures in (
       omega arith,
-      record { first-size = c .before .before .before .spread .ensures .size-is; second-size = c .before .spread2 .ensures .size-is },
-      λ s e p q. filling-next _ s _ _ _ _ _ _ _ (c .before .before .before .before .before .before .loop .inv .2 s e p q) (c .before .before .before .spread .ensures)
-      (c .before .spread2 .ensures) (c .next .ensures),
+      record { first-size = x .size-is; second-size = y .size-is },
+      λ s e p q. filling-next _ s _ _ _ _ _ _ _ (looped facts .loop .inv .2 s e p q) x y (c .next .ensures),
     )
 
 returns : tie.Need-returns Inv-loop μ-loop
-returns c = λ s e. filling-end _ s _ _ _ _ (c .before .loop .inv .2 s e (c .before .before .pre .1) (c .before .before .pre .2)) (omega arith)
+returns c =
+    let l = c .before in
+    λ s e. filling-end _ s _ _ _ _ (l .loop .inv .2 s e (l .before .pre .1) (l .before .pre .2)) (omega arith)
 
 pub fill-spec : {M : Type 1} → statement M
 fill-spec =

@@ -1,10 +1,14 @@
--- meets its contract. Assumes nothing.
+-- `rules` meets its contract: in each lane the best value so far and the rules left are all (`Ruling`). The measure is
+-- the number of the rule that is next. Assumes nothing.
+use mathlib.Core.Path.{_≡_}
 use Prim.Native.Nat.{_-_}
-use Rattle.program.specs.Case.{headAt}
-use Rattle.prepared.proofs.Along.{last-le}
-use Rattle.lanes.proofs.Joining.{Ruling, ruling-start, ruling-next, ruling-end}
 use native.Mathlib.Omega.{arith}
+use lib.ListN.{getD}
 use borrow.Author.Needs.{needs}
+use Rattle.program.specs.Case.{headAt}
+use Rattle.prepared.specs.Chains.{lastOf}
+use Rattle.prepared.proofs.RuleChains.{last-le}
+use Rattle.lanes.proofs.Ruling.{Ruling, ruling-start, ruling-next, ruling-end}
 use Rattle.lanes.proofs.plane.rules.Statement.{statement}
 use Rattle.lanes.proofs.plane.rules.Tie as tie
 
@@ -13,6 +17,22 @@ Inv-loop clauses n prev head from t f up₀ down₀ k₀ up down k = Ruling clau
 
 abbrev μ-loop : tie.MeasureT-loop
 μ-loop clauses n prev head from t f up₀ down₀ k₀ up down k = k
+
+-- the places before: the loop, and the entry
+abbrev looped : tie.After-body Inv-loop μ-loop → tie.At-loop Inv-loop μ-loop
+looped c = c .before .before .before .before
+
+abbrev entry : tie.At-loop Inv-loop μ-loop → tie.Start Inv-loop μ-loop
+entry c = c .before .before
+
+-- the chain's next number
+link : (c : tie.After-k Inv-loop μ-loop) → let l = looped (c .before .before .before) in
+    let cl = entry l .args .clauses .now in
+    let k = l .loop .k - 1 in
+    getD (entry l .args .prev .now) k 0 ≡ lastOf cl (headAt cl k) k
+link c =
+    let l = looped (c .before .before .before) in
+    entry l .pre .3 (l .loop .k - 1) (omega arith)
 
 loop-holds : tie.Need-loop-holds Inv-loop μ-loop
 loop-holds c = ruling-start _ _ _ _ _ _ (c .before .pre .2)
@@ -42,7 +62,7 @@ shared-slice-read-body-2 : tie.Need-shared-slice-read-body-2 Inv-loop μ-loop
 shared-slice-read-body-2 c = search needs
 
 body-requires : tie.Need-body-requires Inv-loop μ-loop
-body-requires c κs = c .before .before .before .before .before .pre .4
+body-requires c κs = entry (c .before .before .before) .pre .4
 
 mul-k : tie.Need-mul-k Inv-loop μ-loop
 mul-k c = search needs
@@ -51,15 +71,16 @@ element-copy-out-k : tie.Need-element-copy-out-k Inv-loop μ-loop
 element-copy-out-k c = search needs
 
 loop-less : tie.Need-loop-less Inv-loop μ-loop
-loop-less c =     let k = c .before .before .before .before .before .before .before .loop .k - 1 in
-    let b = c .before .before .before .before .before .before .before .before .before in
-    let cl = b .args .clauses .now in
-    omega (arith, last-le cl (headAt cl k) k, b .pre .3 k (omega arith))
+loop-less c =
+    let l = looped (c .before .before .before) in
+    let cl = entry l .args .clauses .now in
+    omega (arith, last-le cl (headAt cl (l .loop .k - 1)) (l .loop .k - 1), link c)
 
 loop-again : tie.Need-loop-again Inv-loop μ-loop
-loop-again c =     let k = c .before .before .before .before .before .before .before .loop .k - 1 in
-    ruling-next _ _ _ _ _ _ _ _ _ _ (c .before .before .before .before .before .before .before .loop .inv) k (omega arith) (c .before .before .before .body .ensures)
-    (c .before .before .before .before .before .before .before .before .before .pre .3 k (omega arith))
+loop-again c =
+    let v = c .before .before .before in
+    let l = looped v in
+    ruling-next _ _ _ _ _ _ _ _ _ _ (l .loop .inv) (l .loop .k - 1) (omega arith) (v .body .ensures) (link c)
 
 returns : tie.Need-returns Inv-loop μ-loop
 returns c = ruling-end _ _ _ _ _ _ _ _ (c .before .loop .inv) (c .loop-test .left)

@@ -1,25 +1,66 @@
--- meets its contract. Assumes nothing.
-use mathlib.Core.Path.{_∙_, refl, ap}
-use Prim.Native.Nat.{_+_, _-_, _≤_}
-use lib.Count.{ones-le}
-use Rattle.program.proofs.Settings.{additions-facts-lt, additions-assumptions-lt}
+-- `run` meets its contract: after each round the lanes stand as `Settling` says, and where no lane changes all have
+-- settled. The measure is 64 less the number of rounds. Assumes nothing.
+use mathlib.Core.Path.{_≡_, refl, _∙_}
+use Prim.Native.Nat.{_-_, _≤_, _<_}
+use native.Mathlib.Omega.{arith}
+use lib.Bits.{bitAnd}
+use lib.Count.{ones}
+use borrow.Author.Needs.{needs}
+use Rattle.prepared.specs.Dependents.{touchedFrom}
 use Rattle.prepared.proofs.Filling.{dependents-words}
 use Rattle.prepared.proofs.Touching.{touched-from}
 use Rattle.lanes.specs.Planes.{Sizes}
 use Rattle.lanes.specs.Rounds.{addsAt}
-use Rattle.lanes.proofs.Turning.{Turning, turning-planes, turning-few, turning-total, turning-next, turning-end, turning-start}
-use native.Mathlib.Omega.{arith}
-use borrow.Author.Needs.{needs}
+use Rattle.lanes.proofs.FirstRound.{settling-start}
+use Rattle.lanes.proofs.LaneRounds.{Settling, settling-planes, settling-few, settling-small, settling-total}
+use Rattle.lanes.proofs.LaneRounds.{settling-next, settling-end}
 use Rattle.lanes.proofs.rounds.run.Statement.{statement}
 use Rattle.lanes.proofs.rounds.run.Tie as tie
 
 abbrev Inv-loop : tie.InvT-loop
-Inv-loop clauses n dependents last prev ot of oh causes first m x y t₀ f₀ ut₀ uf₀ valid c₀ total₀ k₀ t f ut uf c total k =
-    Turning clauses n (addsAt causes first) m t f c k total × Sizes ut uf
+Inv-loop cl n deps last prev ot of oh causes first m x y t₀ f₀ ut₀ uf₀ valid c₀ total₀ k₀ t f ut uf c total k =
+    Settling cl n (addsAt causes first) m t f c k total × Sizes ut uf
 
 abbrev μ-loop : tie.MeasureT-loop
-μ-loop clauses n dependents last prev ot of oh causes first m x y t₀ f₀ ut₀ uf₀ valid c₀ total₀ k₀ t f ut uf c total k =
+μ-loop cl n deps last prev ot of oh causes first m x y t₀ f₀ ut₀ uf₀ valid c₀ total₀ k₀ t f ut uf c total k =
     64 - k
+
+-- the places before: the first round's, the loop's, and those in the loop
+abbrev opened : tie.After-begin Inv-loop μ-loop → tie.After-lowest Inv-loop μ-loop
+opened c = c .before .before .before
+
+abbrev entry : tie.After-begin Inv-loop μ-loop → tie.Start Inv-loop μ-loop
+entry c = opened c .before .before
+
+abbrev looped : tie.Else1 Inv-loop μ-loop → tie.At-loop Inv-loop μ-loop
+looped c = c .before .before
+
+abbrev counted : tie.After-count Inv-loop μ-loop → tie.Else1 Inv-loop μ-loop
+counted c = c .before .before
+
+abbrev gathered : tie.After-uf Inv-loop μ-loop → tie.After-touched Inv-loop μ-loop
+gathered c = c .before .before .before .before
+
+-- where the loop ends no lane has changed
+none-changed : (c : tie.Then1 Inv-loop μ-loop) → c .before .before .loop .c .lanes ≡ 0
+none-changed c = c .if1 .taken
+
+-- the round's lanes that count
+changed-counted : (c : tie.After-count Inv-loop μ-loop) → let l = looped (counted c) in
+    c .count .result ≡ ones (bitAnd (l .loop .c .lanes) (opened (l .before) .lowest .result))
+changed-counted c = c .count .ensures
+
+few-rounds : (c : tie.Else1 Inv-loop μ-loop) → looped c .loop .k < 64
+few-rounds c =
+    let l = looped c in
+    settling-few _ _ _ _ (entry (l .before) .pre .6) _ _ _ _ _ (l .loop .inv .0) (omega arith) (c .if1 .left)
+
+heads-are : (c : tie.After-touched Inv-loop μ-loop) → let l = looped (counted (c .before)) in
+    let a = entry (l .before) .args in
+    c .touched .result ≡ touchedFrom (a .clauses .now) (a .n) (l .loop .c .atoms)
+heads-are c =
+    let b = entry (looped (counted (c .before)) .before) in
+    c .touched .ensures ∙ touched-from _ _ (b .args .dependents .now) (b .pre .0 .dependents-are) _
 
 lowest-requires : tie.Need-lowest-requires Inv-loop μ-loop
 lowest-requires c κs = (c .before .pre .5, c .before .pre .6)
@@ -28,49 +69,65 @@ begin-requires : tie.Need-begin-requires Inv-loop μ-loop
 begin-requires c κs = c .before .before .before .before .pre .7
 
 loop-holds : tie.Need-loop-holds Inv-loop μ-loop
-loop-holds c =     let a = c .before .before .before .before .before .args in
-    let p = c .before .before .before .before .before .pre in
-    (turning-start _ _ _ _ (p .6) _ (p .0 .opening-is) _ _ _ _ _ _ _ _ (p .1) (p .2) (p .3)
-    (p .4 .facts-are) (p .4 .assumptions-are)
-    (λ j. additions-facts-lt (a .causes) (a .first + j) 64 (omega arith) (omega arith))
-    (λ j. additions-assumptions-lt (a .causes) (a .first + j) 64 (omega arith) (omega arith)) (c .begin .ensures),
-    record { first-size = refl; second-size = refl })
+loop-holds c =
+    let p = entry c .pre in (
+      settling-start _ _ _ (p .0 .opening-is) _ _ (omega arith) _ _ _ _ _ _ _ (p .1) (p .2) (p .3) (p .4) _
+          (c .begin .ensures) _,
+      record { first-size = refl; second-size = refl },
+    )
+
+cast-result : tie.Need-cast-result Inv-loop μ-loop
+cast-result c =
+    let l = c .before .before in
+    let small : l .loop .total ≤ 4096 =
+    settling-small _ _ _ _ (entry (l .before) .pre .6) _ _ _ _ _ (l .loop .inv .0) in
+    search needs
 
 count-requires : tie.Need-count-requires Inv-loop μ-loop
 count-requires c κs = search needs
 
-cast-total : tie.Need-cast-total Inv-loop μ-loop
-cast-total c = search needs
-
 add-total : tie.Need-add-total Inv-loop μ-loop
-add-total c =     let i = c .before .before .before .before .loop .inv .0 in
-    omega (arith, turning-total _ _ _ _ (c .before .before .before .before .before .before .before .before .before .before .pre .6) _ _ _ _ _ i)
+add-total c =
+    let l = looped (counted c) in
+    let valid = opened (l .before) .lowest .result in
+    let total = settling-total _ _ _ _ (entry (l .before) .pre .6) _ _ _ _ _ (l .loop .inv .0) valid (omega arith)
+    (omega arith) in
+    omega (arith, changed-counted c, total)
 
 touched-requires : tie.Need-touched-requires Inv-loop μ-loop
-touched-requires c κs = dependents-words _ _ (c .before .before .before .before .before .before .before .before .before .before .args .dependents .now) (c .before .before .before .before .before .before .before .before .before .before .pre .0 .dependents-are)
+touched-requires c κs =
+    let b = entry (looped (counted c) .before) in
+    dependents-words _ _ (b .args .dependents .now) (b .pre .0 .dependents-are)
 
 redo-requires : tie.Need-redo-requires Inv-loop μ-loop
-redo-requires c κs =     let i = c .before .before .before .before .before .before .before .before .before .loop .inv in
-    let p = c .before .before .before .before .before .before .before .before .before .before .before .before .before .before .before .pre in
-    (p .0 .clauses-few, p .0 .clauses-held, p .0 .lasts-are, p .0 .linked,
-    turning-planes _ _ _ _ (p .6) _ _ _ _ _ (i .0), i .0 .sizes, i .1)
+redo-requires c κs =
+    let l = looped (counted (gathered c .before)) in
+    let p = entry (l .before) .pre in
+    let planes = settling-planes _ _ _ _ (p .6) _ _ _ _ _ (l .loop .inv .0) in
+    let q = p .0 in
+    let i = l .loop .inv in
+    (q .clauses-few, q .clauses-held, q .lasts-are, q .linked, planes, i .0 .sizes, i .1)
 
 add-k : tie.Need-add-k Inv-loop μ-loop
-add-k c =     omega (arith, turning-few _ _ _ _ (c .before .before .before .before .before .before .before .before .before .before .before .before .before .before .before .before .pre .6) _ _ _ _ _ (c .before .before .before .before .before .before .before .before .before .before .loop .inv .0) (omega arith) (c .before .before .before .before .before .before .before .before .if1 .left))
+add-k c = omega (arith, few-rounds (counted (gathered (c .before) .before)))
 
 loop-less : tie.Need-loop-less Inv-loop μ-loop
-loop-less c =     omega (arith, turning-few _ _ _ _ (c .before .before .before .before .before .before .before .before .before .before .before .before .before .before .before .before .pre .6) _ _ _ _ _ (c .before .before .before .before .before .before .before .before .before .before .loop .inv .0) (omega arith) (c .before .before .before .before .before .before .before .before .if1 .left))
+loop-less c = omega (arith, few-rounds (counted (gathered (c .before) .before)))
 
 loop-again : tie.Need-loop-again Inv-loop μ-loop
-loop-again c =     let p = c .before .before .before .before .before .before .before .before .before .before .before .before .before .before .before .before .pre in
+loop-again c =
+    let g = gathered (c .before) in
+    let l = looped (counted (g .before)) in
+    let valid = opened (l .before) .lowest .ensures in
     let e = c .redo .ensures in
-    (turning-next _ _ _ _ (p .6) _ _ _ _ _ (c .before .before .before .before .before .before .before .before .before .before .loop .inv .0) _ _ _ _ _ _ (omega arith) (omega arith)
-    (c .before .before .before .before .before .before .before .before .before .before .before .before .before .before .lowest .ensures) (ap (λ (z : Prim.Native.Nat.ℕ). c .before .before .before .before .before .before .before .before .before .before .loop .total + z) (c .before .before .before .before .before .before .count .ensures))
-    (c .before .before .before .before .before .touched .ensures ∙ touched-from _ _ (c .before .before .before .before .before .before .before .before .before .before .before .before .before .before .before .before .args .dependents .now) (p .0 .dependents-are) _) (e .1 .0) (e .0),
-    e .1 .1)
+    let next = settling-next _ _ _ _ (entry (l .before) .pre .6) _ _ _ _ _ (l .loop .inv .0) _ _ _ _ _ (omega arith)
+    (omega arith) valid (heads-are g) (e .1 .0) (e .0) in
+    (rw (changed-counted (g .before)) next, e .1 .1)
 
 returns : tie.Need-returns Inv-loop μ-loop
-returns c = turning-end _ _ _ _ (c .before .before .before .before .before .before .before .before .pre .6) _ _ _ _ _ (c .before .before .loop .inv .0) (c .if1 .taken)
+returns c =
+    let l = c .before .before in
+    settling-end _ _ _ _ (entry (l .before) .pre .6) _ _ _ _ _ (l .loop .inv .0) (none-changed c)
 
 pub run-spec : {M : Type 1} → statement M
 run-spec =
@@ -81,8 +138,8 @@ run-spec =
     lowest-requires
     begin-requires
     loop-holds
+    cast-result
     count-requires
-    cast-total
     add-total
     touched-requires
     redo-requires

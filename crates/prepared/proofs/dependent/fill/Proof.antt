@@ -16,6 +16,13 @@ Inv-loop clauses n dependents₀ k₀ dependents k = (k ≤ n) × (length depend
 abbrev μ-loop : tie.MeasureT-loop
 μ-loop clauses n dependents₀ k₀ dependents k = n - k
 
+-- the places before: the loop, and the entry
+abbrev looped : tie.After-spread Inv-loop μ-loop → tie.At-loop Inv-loop μ-loop
+looped c = c .before .before .before .before .before .before
+
+abbrev entry : tie.At-loop Inv-loop μ-loop → tie.Start Inv-loop μ-loop
+entry c = c .before .before
+
 loop-holds : tie.Need-loop-holds Inv-loop μ-loop
 loop-holds c =
     (search needs, c .before .pre .2, λ i l. c .before .pre .3 i l ∙ dependents-none (c .before .args .clauses .now) i)
@@ -61,15 +68,15 @@ loop-less c = search needs
 
 loop-again : tie.Need-loop-again Inv-loop μ-loop
 loop-again c =
-    let l = c .before .before .before .before .before .before .loop in
-    let a = c .before .before .before .before .before .before .before .before .args in
+    let l = looped c .loop in
+    let a = entry (looped c) .args in
     let s = c .spread .ensures in
     (search needs, s .size-is, dependents-next (a .clauses .now) (l .dependents) _ (l .k) (l .inv .2) s)
 
 returns : tie.Need-returns Inv-loop μ-loop
 returns c =
     let l = c .before .loop in
-    let a = c .before .before .before .args in
+    let a = entry (c .before) .args in
     λ i h. l .inv .2 i h
     ∙ ap (λ (m : ℕ). dependentsOf (a .clauses .now) m i) (le-antisymm (l .inv .0) (c .loop-test .left))
 

@@ -1,4 +1,5 @@
--- The walk along a head's rules, from the last to the first. Assumes nothing.
+-- Chains of rules: the last rule of a head, and the walk along its rules from the last to the first.
+-- Assumes nothing.
 use mathlib.Core.Path.{_≡_, refl, sym, ap, _∙_}
 use mathlib.Core.Bool.{Bool, true, false}
 use mathlib.Core.List.{List}
@@ -9,9 +10,9 @@ use borrow.Author.Tests.{eqb-true}
 use Rattle.words.specs.Choice.{pick}
 use Rattle.words.proofs.Tests.{and-true-l}
 use Rattle.logic.specs.declared.value.Value.{Value}
-use Rattle.logic.specs.declared.value.Value.the-variants.{False, True}
-use Rattle.logic.specs.Value.{isTrue, greater}
-use Rattle.logic.proofs.Values.{is-true, greater-comm, greater-assoc, greater-false-r, greater-true-r}
+use Rattle.logic.specs.declared.value.Value.the-variants.{False}
+use Rattle.logic.specs.Value.{greater}
+use Rattle.logic.proofs.Values.{greater-comm, greater-assoc, greater-false-r}
 use Rattle.program.specs.Case.{headAt, kindAt}
 use Rattle.prepared.specs.Chains.{ruleFor, lastOf, ruleValue, rulesValue}
 
@@ -76,12 +77,6 @@ module _ (v : ℕ → Value) (cl : List ℕ) (a n : ℕ) where
           ap (λ (t : Bool). greater best (greater (rulesValue v cl a j) (pick t (ruleValue v cl j) False)))
           (sym (w .rule j e))
           ∙ ap (λ (i : ℕ). greater best (rulesValue v cl a i)) (sym e) ∙ w .worth
-
-      pub along-true : (b : Value) → b ≡ ruleValue v cl j → isTrue b ≡ true → True ≡ rulesValue v cl a n
-      along-true b p q =
-          let r = rulesValue v cl a j in
-          sym (ap (greater best) (greater-true-r r) ∙ greater-true-r best)
-          ∙ ap (λ (x : Value). greater best (greater r x)) (sym (is-true b q) ∙ p) ∙ worth-at
 
       along-link : (i : ℕ) → i ≡ lastOf cl (headAt cl j) j → i ≡ lastOf cl a j
       along-link i q =
