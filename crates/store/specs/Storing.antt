@@ -5,12 +5,12 @@
 --   Pushed ..            one node more
 --   NodesStored ..       the nodes of the formula at a place of a line
 use mathlib.Core.Path.{_≡_}
-use mathlib.Core.Bool.{Bool, not, _&&_}
+use mathlib.Core.Bool.{Bool}
 use mathlib.Core.List.{List, [], _∷_, _++_}
 use mathlib.Core.Option.{Option}
 use Prim.Native.Nat.{ℕ, _+_, _^_, _≤_, _<_}
 use lib.Bits.{bitOr}
-use lib.Dec.{eqb, ltb}
+use lib.Dec.{ltb}
 use lib.ListN.{length, drop}
 use Rattle.words.specs.Choice.{pick}
 use Rattle.logic.specs.Nodes.{nodes}
@@ -23,10 +23,6 @@ use Rattle.grammar.specs.Parsing.{bodyIn}
 use Rattle.names.specs.Names.{atomOf}
 use Rattle.names.specs.Held.{Named, Holds}
 use Rattle.store.specs.Saying.{plainAtoms, negatedAtoms, encoded}
-
--- the literal is on atom a, with or without negation as b says
-abbrev pub isOn : List (List ℕ) → Bool → ℕ → Literal → Bool
-isOn ns b a (Literal.literal n w) = pick b n (not n) && eqb (atomOf ns w) a
 
 abbrev pub withAtom : ℕ → ℕ → ℕ
 withAtom w a = pick (ltb a 64) (bitOr w (2 ^ a)) w
