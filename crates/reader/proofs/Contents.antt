@@ -135,8 +135,10 @@ module _ (ns : List (List ℕ)) where
     adds-line (Line.seen x) h = record {
       clauses-are = none .clauses-are;
       constraints-are = none .constraints-are;
-      plain-are = λ a k. has-word 64 _ a k ∙ rw (has-word 64 (someOn ms false (x ∷ [])) a k) (seen-bits false x a _ k h);
-      negated-are = λ a k. has-word 64 _ a k ∙ rw (has-word 64 (someOn ms true (x ∷ [])) a k) (seen-bits true x a _ k h);
+      plain-are = λ a k.
+          has-word 64 _ a k ∙ rw (has-word 64 (someOn ms false (x ∷ [])) a k) (seen-bits false x a _ k h);
+      negated-are = λ a k.
+          has-word 64 _ a k ∙ rw (has-word 64 (someOn ms true (x ∷ [])) a k) (seen-bits true x a _ k h);
       queries-are = none .queries-are;
     }
     adds-line (Line.query f) h = record {

@@ -1,5 +1,5 @@
--- Laws of reading lines one after the other, both ways: where all pass the end decides, where one is bad it does, and one
--- of the two is so. Assumes nothing.
+-- Laws of reading lines one after the other, both ways: where all pass the end decides, where one is bad it does, and
+-- one of the two is so. Assumes nothing.
 use mathlib.Core.Path.{_≡_, refl, sym, ap, _∙_}
 use mathlib.Core.Bool.{true}
 use mathlib.Core.List.{List, [], _∷_}

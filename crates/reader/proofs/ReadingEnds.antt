@@ -78,7 +78,8 @@ lines-read-lengths {f} {t} {u} {r} h =
     let s = saidIn (readFile f) in
     record {
       clauses-same = ap length (h .clauses-are) ∙ filled-length 768 (clauseWords (s .clauses)) (t .clauses);
-      constraints-same = ap length (h .constraints-are) ∙ filled-length 64 (constraintWords (s .constraints)) (t .constraints);
+      constraints-same =
+          ap length (h .constraints-are) ∙ filled-length 64 (constraintWords (s .constraints)) (t .constraints);
       formula-same = ap length (h .formula-is) ∙ filled-length 128 (formulaNodes (s .queries)) (t .formula);
       names-same = ap length (h .names-are) ∙ filled-length 1024 (rowsOf (s .names)) (t .names);
     }
@@ -179,7 +180,8 @@ module _ (f : List ℕ) (old t : Lent) (c : Case) (at line : ℕ) (i : LinesTake
 
     pub read-ended : (u : Lent) (r : Answer) → (n ≡ 0 → ⊥) → Zeroed t u → r ≡ refusedAt n 0 → LinesRead f t₀ u r
     read-ended u r p w a =
-        refused-read f n 0 t₀ old t u r (end-by ∙ or-else-refused n 0 _ p) z (held-spoilt (i .said) c old t (i .held)) w a
+        refused-read f n 0 t₀ old t u r (end-by ∙ or-else-refused n 0 _ p) z
+        (held-spoilt (i .said) c old t (i .held)) w a
 
     pub read-case : n ≡ 0 → LinesRead f t₀ t (record { refusal = 0; line = 0; found = c })
     read-case p =

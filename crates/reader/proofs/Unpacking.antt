@@ -1,5 +1,5 @@
--- What is taken back from tables that were filled with rows and nodes: the clauses and the bodies that the rows are, and
--- the formula that the nodes are.
+-- What is taken back from tables that were filled with rows and nodes: the clauses and the bodies that the rows are,
+-- and the formula that the nodes are.
 --
 --   rowClause r     the clause that a row is
 --   rowBody r       the body that a constraint's row is

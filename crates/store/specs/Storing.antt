@@ -35,7 +35,8 @@ pub record Known (ns : List (List ℕ)) (w : List ℕ) : Type 0 where
 -- each literal's name is known
 pub data LiteralsKnown (ns : List (List ℕ)) : List Literal → Type 0 where
   none : LiteralsKnown ns []
-  more : {b : Bool} {w : List ℕ} {l : List Literal} → Known ns w → LiteralsKnown ns l → LiteralsKnown ns (Literal.literal b w ∷ l)
+  more : {b : Bool} {w : List ℕ} {l : List Literal} → Known ns w → LiteralsKnown ns l
+      → LiteralsKnown ns (Literal.literal b w ∷ l)
 
 -- each name of a formula is known
 pub data SentenceKnown (ns : List (List ℕ)) : Sentence → Type 0 where
@@ -68,7 +69,8 @@ pub record NodesPut (l : List ℕ) (next : ℕ) (m : List Item) (xs ys old u : L
   pub len-is : length (xs ++ ys) ≡ len
   pub table-is : u ≡ filled 128 (xs ++ ys) old
 
-pub record NodesStored (l : List ℕ) (at : ℕ) (t : List ℕ) (count : ℕ) (u : List ℕ) (len next r : ℕ) (v : List ℕ) : Type 0 where
+pub record NodesStored (l : List ℕ) (at : ℕ) (t : List ℕ) (count : ℕ) (u : List ℕ) (len next r : ℕ) (v : List ℕ)
+    : Type 0 where
   pub onward : at ≤ next
   pub len-kept : length v ≡ length u
   pub put : (ns : List (List ℕ)) (namesOld : List ℕ) (f : Sentence) (m : List Item) (xs old : List ℕ)

@@ -1,5 +1,5 @@
--- `read::read` meets its contract on every input: the early refusals keep the tables; where there is none, the lines are
--- read. Assumes nothing.
+-- `read::read` meets its contract on every input: the early refusals keep the tables; where there is none, the lines
+-- are read. Assumes nothing.
 use mathlib.Core.Path.{sym, _∙_}
 use mathlib.Core.List.{List}
 use Prim.Native.Nat.{ℕ}
