@@ -11,7 +11,7 @@ use Rattle.text.specs.Tokens.{tokens}
 use Rattle.formulas.specs.Sentence.{Sentence}
 use Rattle.formulas.proofs.Sentences.{EachName}
 use Rattle.grammar.specs.declared.line.Form.{Form}
-use Rattle.grammar.specs.Line.{Line, Literal}
+use Rattle.grammar.specs.Line.{Line, Literal, isDeep}
 use Rattle.grammar.specs.LineOf.{lineOf, isNoForm}
 use Rattle.grammar.specs.Parsing.{FormFound}
 use Rattle.grammar.proofs.Names.{EachLiteral, EachOfLine}
@@ -22,11 +22,11 @@ use Rattle.names.proofs.Adding.{each-found}
 use Rattle.names.proofs.LineNames.{no-zero}
 use Rattle.store.specs.Lent.{Lent, lent}
 use Rattle.store.specs.Saying.{Said, renamed}
-use Rattle.store.specs.Checking.{isDeep, isOneTooMany, isSecondQuery}
+use Rattle.store.specs.Checking.{isOneTooMany, isSecondQuery}
 use Rattle.store.specs.Held.{Held}
 use Rattle.store.specs.Storing.{Known, LiteralsKnown, SentenceKnown}
-use Rattle.store.specs.Taking.{withAtomCount, LineKnown, StoredAs}
-use Rattle.store.proofs.TakingHeld.{named-held}
+use Rattle.store.specs.Taking.{LineKnown, StoredAs}
+use Rattle.store.proofs.TakingHeld.{withAtomCount, named-held}
 use Rattle.checks.specs.Checks.{saidWith, formRefusal}
 use Rattle.checks.specs.Naming.{IsName}
 use Rattle.checks.specs.Took.{Passed}

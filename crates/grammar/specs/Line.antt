@@ -6,6 +6,7 @@
 --   Line            what a line is: skipped, one of the six forms, or no form
 --   lineTokens x    the tokens of the line x; a skipped one has none
 --   isLine x        x is a skipped line or one of the forms, with names where names stand and literals where they must
+--   isDeep x        the formula of the query x is deeper than 16
 use mathlib.Core.Bool.{Bool, true, false, _&&_}
 use mathlib.Core.List.{List, [], _∷_, _++_}
 use Prim.Native.Nat.{ℕ}
@@ -14,6 +15,7 @@ use lib.ListN.{length, getD}
 use Rattle.words.specs.Choice.{pick}
 use Rattle.text.specs.Tokens.{Token}
 use Rattle.formulas.specs.Sentence.{isName, Sentence, formTokens, tokensOf, isSentence}
+use Rattle.formulas.specs.Parsing.{depthOf}
 
 -- the literal of the name w, negated where the test holds
 pub data Literal : Type 0 where
@@ -65,3 +67,12 @@ isLine (Line.clause k w l) =
 isLine (Line.never l) = areNamed l && ltb 0 (length l)
 isLine (Line.seen x) = isSentence (ofLiteral x)
 isLine (Line.query f) = isSentence f
+
+-- the formula of a query is deeper than 16
+abbrev pub isDeep : Line → Bool
+isDeep Line.skipped = false
+isDeep Line.noForm = false
+isDeep (Line.clause k w l) = false
+isDeep (Line.never l) = false
+isDeep (Line.seen x) = false
+isDeep (Line.query f) = ltb 16 (depthOf f)

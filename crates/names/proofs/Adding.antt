@@ -10,7 +10,7 @@ use lib.ListN.{length, getD, length-append, List·getD-append}
 use lib.Seq.{getD-append-seam}
 use borrow.Author.Tests.{lt-ltb, le-ltb, ltb-true, ltb-false}
 use Rattle.names.specs.Names.{atomOf, withName, withNames}
-use Rattle.names.specs.Distinct.{Distinct}
+use Rattle.names.proofs.Distinct.{Distinct}
 use Rattle.names.proofs.Each.{Each, each-member, each-append}
 use Rattle.names.proofs.Atoms.{by-test, atom-name, atom-first, atom-append}
 
@@ -93,6 +93,11 @@ pub with-names-length : (ns ws : List (List ℕ)) → length ns ≤ length (with
 unfolding withNames
 with-names-length ns [] = le-refl (length ns)
 with-names-length ns (w ∷ ws) = le-trans (with-name-length ns w) (with-names-length (withName ns w) ws)
+
+pub with-names-append : (ns vs ws : List (List ℕ)) → withNames ns (vs ++ ws) ≡ withNames (withNames ns vs) ws
+unfolding withNames
+with-names-append ns [] ws = refl
+with-names-append ns (v ∷ vs) ws = with-names-append (withName ns v) vs ws
 
 pub with-names-distinct : (ns ws : List (List ℕ)) → Distinct ns → Distinct (withNames ns ws)
 unfolding withNames

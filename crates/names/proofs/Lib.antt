@@ -1,5 +1,6 @@
 -- Each: what holds of each entry of a list.
 -- Atoms: the number of a name among names.
+-- Distinct: names that differ from each other.
 -- Adding: names added to names: which are found, and that they differ.
 -- Rows: the rows of a table that holds names.
 -- Search: the search for a name in such a table.
@@ -7,6 +8,7 @@
 -- LineNames: the names of a line from a place on.
 pub mod Each
 pub mod Atoms
+pub mod Distinct
 pub mod Adding
 pub mod Rows
 pub mod Search

@@ -108,18 +108,20 @@ filled-front n k l old h m p =
     ∙ ap (take k) (filled-take n l old h ∙ padded-split n l m)
     ∙ take-append-le k l (padded (n - length l) []) p
 
+-- row i of a table filled with the names ns is name i and zeros
+pub filled-row : (ns : List (List ℕ)) (old : List ℕ) (i : ℕ) → 1024 ≤ length old → length ns ≤ 64 → i < length ns
+    → slice (i * 16) (i * 16 + 16) (filled 1024 (rowsOf ns) old) ≡ padded 16 (getD ns i [])
+filled-row ns old i k m l =
+    let n = rows-length ns in
+    rw (filled-front 1024 (i * 16 + 16) (rowsOf ns) old k (omega arith) (omega arith)) (rows-at ns i l)
+
 module _ (ns : List (List ℕ)) (old t : List ℕ) (h : Holds ns old t) where
   pub held-length : length t ≡ length old
   held-length = ap length (h .table-is) ∙ filled-length 1024 (rowsOf ns) old
 
   module _ (k : 1024 ≤ length t) where
     pub held-row : (i : ℕ) → i < length ns → slice (i * 16) (i * 16 + 16) t ≡ padded 16 (getD ns i [])
-    held-row i l =
-        let e = held-length in
-        let n = rows-length ns in
-        let m = h .few in
-        let f = filled-front 1024 (i * 16 + 16) (rowsOf ns) old (omega arith) (omega arith) (omega arith) in
-        rw (h .table-is, f) (rows-at ns i l)
+    held-row i l = let e = held-length in rw (h .table-is) (filled-row ns old i (omega arith) (h .few) l)
 
     pub held-same : (i : ℕ) (w : List ℕ) → i < length ns → Named w
         → sameBytes (slice (i * 16) (i * 16 + 16) t) (padded 16 w) ≡ sameBytes (getD ns i []) w

@@ -3,11 +3,12 @@
 use mathlib.Core.Path.{_≡_, refl, sym, ap, subst, _∙_}
 use mathlib.Core.Bool.{Bool, true, false, not}
 use mathlib.Core.List.{List, [], _∷_}
+use mathlib.Core.Logic.{inl, inr}
 use Prim.Native.Nat.{ℕ, zero, suc, _*_, _≤_, _<_}
 use native.Mathlib.Omega.{arith}
 use lib.Dec.{leb}
 use lib.ListN.{length}
-use borrow.Author.Tests.{leb-false, ltb-false, not-false}
+use borrow.Author.Tests.{leb-true, leb-false, ltb-false, not-true}
 use Rattle.words.specs.Choice.{pick}
 use Rattle.logic.specs.Formula.{Formula}
 use Rattle.program.specs.Sound.{bare, shaped, fewCauses}
@@ -17,7 +18,7 @@ use Rattle.formulas.specs.Sentence.{Sentence}
 use Rattle.formulas.specs.Parsing.{depthOf, sizeOf}
 use Rattle.formulas.proofs.Sentences.{EachName}
 use Rattle.formulas.proofs.Sizes.{tokens-le-bytes}
-use Rattle.grammar.specs.Line.{Line, Literal}
+use Rattle.grammar.specs.Line.{Line, Literal, isDeep}
 use Rattle.grammar.specs.LineOf.{lineOf}
 use Rattle.grammar.proofs.Names.{EachLiteral, EachOfLine}
 use Rattle.grammar.proofs.Shapes.{Bodied, ClauseShaped, Shaped, line-shaped}
@@ -26,18 +27,20 @@ use Rattle.names.proofs.Adding.{each-found}
 use Rattle.store.specs.Saying.{ClauseRow, ConstraintRow, Said, nothingSaid, plainAtoms, negatedAtoms, encoded}
 use Rattle.store.specs.Saying.{clauseRow, constraintRow, renamed, withClause, withConstraint, withObserved, withQuery}
 use Rattle.store.specs.Saying.{saidBy}
-use Rattle.store.specs.Checking.{isDeep, isOneTooMany, isSecondQuery}
+use Rattle.store.specs.Checking.{isOneTooMany, isSecondQuery}
 use Rattle.store.specs.Tables.{clauseWords}
 use Rattle.store.proofs.Encoded.{Known, encoded-length, encoded-depth, encoded-over}
 use Rattle.store.proofs.Literals.{or-atoms-lt, plain-lt, negated-lt, none-bare, body-not-bare}
 use Rattle.checks.specs.Checks.{saidWith, lineRefusal, saidAfter}
 use Rattle.checks.proofs.LineNames.{names-line, names-named}
-use Rattle.checks.proofs.SaidWith.{many-said, second-said}
+use Rattle.checks.proofs.FirstFailed.{none-failed}
+use Rattle.checks.proofs.SaidWith.{rows-said, queries-said}
 use Rattle.checks.proofs.Passing.{FormPasses, line-passes}
-use Rattle.reader.specs.Reading.{Outcome, ending, readLines, readFile}
+use Rattle.reader.specs.Reading.{Outcome, endChecks, ending, readFile}
+use Rattle.reader.specs.Claims.{saidThrough, allPass}
 use Rattle.reader.proofs.Right.{rows-push, Below, ClauseRight, ConstraintRight, QueryRight, Right, nothing-right}
 use Rattle.reader.proofs.Right.{renamed-right}
-use Rattle.reader.proofs.FirstBad.{or-else-cases}
+use Rattle.reader.proofs.FirstBad.{first-passes, all-read, bad-read, AllOrBad, all-or-bad, ending-said}
 
 -- An entry more
 
@@ -145,10 +148,11 @@ form-right st l r h p =
     let ns : List (List ℕ) = withNames (st .names) ws in
     let named = renamed-right st ws r (names-named l (p .is-form) (p .names-short)) (p .names-few) in
     let known = names-line (Known ns) (tokens l) (each-found (st .names) ws) in
-    said-right ns st (lineOf (tokens l)) (length (tokens l)) named known (line-shaped (tokens l))
+    let y = lineOf (tokens l) in
+    said-right ns st y (length (tokens l)) named known (line-shaped (tokens l))
     (omega (arith, tokens-le-bytes l)) (p .not-deep)
-    (sym (many-said st ns (r .clauses-right .few) (r .constraints-right .few) (lineOf (tokens l))) ∙ p .rows-few)
-    (sym (second-said st ns (r .queries-right .few) (lineOf (tokens l))) ∙ p .only-query)
+    (not-true _ (sym (rows-said st ns (r .clauses-right .few) (r .constraints-right .few) y) ∙ p .rows-few))
+    (not-true _ (sym (queries-said st ns (r .queries-right .few) y) ∙ p .only-query))
 
 picked-right : (t : Bool) (x y : Said) → Right x → (t ≡ false → Right y) → Right (pick t x y)
 picked-right true x y h k = h
@@ -167,29 +171,34 @@ pub record Ended (st : Said) : Type 0 where
   pub query-there : 0 < length (st .queries)
   pub causes-few : fewCauses (length (st .names)) (clauseWords (st .clauses)) (length (st .clauses)) ≡ true
 
-not-refused-end : (t : Bool) (n : ℕ) (o : Outcome) (st : Said) → pick t (Outcome.refused n 0) o ≡ Outcome.case st
-    → (t ≡ false) × (o ≡ Outcome.case st)
-not-refused-end true n o st e = let z : _≡_ {A = ℕ} 0 1 = cc in absurd (omega arith)
-not-refused-end false n o st e = (refl, e)
-
 ending-right : (st s : Said) → Right st → ending st ≡ Outcome.case s → Ended s
-unfolding ending
 ending-right st s r e =
-    let eleven = not-refused-end (leb (length (st .queries)) 0) 11 _ s e in
-    let few = fewCauses (length (st .names)) (clauseWords (st .clauses)) (length (st .clauses)) in
-    let twelve = not-refused-end (not few) 12 _ s (eleven .1) in
-    let same : st ≡ s = cc in
-    subst Ended same
-    record { right = r; query-there = leb-false _ 0 (eleven .0); causes-few = not-false few (twelve .0) }
+    let n = ending-said st s e in
+    let p = none-failed (endChecks st) refl (n .0) in
+    subst Ended (n .1) record { right = r; query-there = leb-true 1 _ (p .0); causes-few = p .1 .0 }
 
-lines-right : (ls : List (List ℕ)) (st s : Said) (k : ℕ) → Right st → readLines ls st k ≡ Outcome.case s → Ended s
-unfolding readLines
-lines-right [] st s k r e = ending-right st s r e
-lines-right (l ∷ ls) st s k r e =
-    or-else-cases (lineRefusal st l) k _ _ e
-    (λ q d. lines-right ls (saidAfter st l) s (suc k) (line-right st l r q) d)
-    (λ n q d. let z : _≡_ {A = ℕ} 0 1 = cc in absurd (omega arith))
+through-right : (ls : List (List ℕ)) (st : Said) → Right st → allPass ls st ≡ true → Right (saidThrough ls st)
+unfolding saidThrough
+through-right [] st r h = r
+through-right (l ∷ ls) st r h =
+    let p = first-passes l ls st h in
+    through-right ls (saidAfter st l) (line-right st l r (p .0)) (p .1)
+
+-- all lines of an accepted file pass, and the end accepts what they say
+pub accepted-through : (f : List ℕ) (st : Said) → readFile f ≡ Outcome.case st
+    → (allPass (lines f) nothingSaid ≡ true) × (ending (saidThrough (lines f) nothingSaid) ≡ Outcome.case st)
+unfolding readFile
+accepted-through f st e = go (all-or-bad (lines f) nothingSaid)
+  where
+    go : AllOrBad (lines f) nothingSaid
+        → (allPass (lines f) nothingSaid ≡ true) × (ending (saidThrough (lines f) nothingSaid) ≡ Outcome.case st)
+    go (inl h) = (h, sym (all-read (lines f) nothingSaid 1 h) ∙ e)
+    go (inr b) =
+        let q = sym (bad-read (lines f) nothingSaid (b .0) (b .1) 1 (b .2)) ∙ e in
+        let z : _≡_ {A = ℕ} 0 1 = cc in
+        absurd (omega arith)
 
 pub accepted-right : (f : List ℕ) (st : Said) → readFile f ≡ Outcome.case st → Ended st
-unfolding readFile
-accepted-right f st e = lines-right (lines f) nothingSaid st 1 nothing-right e
+accepted-right f st e =
+    let a = accepted-through f st e in
+    ending-right _ st (through-right (lines f) nothingSaid nothing-right (a .0)) (a .1)

@@ -1,37 +1,42 @@
--- Laws of reading lines one after the other: where one is refused it is the first bad one, and otherwise all pass.
--- Assumes nothing.
-use mathlib.Core.Path.{_≡_, refl}
-use mathlib.Core.Bool.{Bool, true, false, not}
+-- Laws of reading lines one after the other, both ways: where all pass the end decides, where one is bad it does, and
+-- one of the two is so. Assumes nothing.
+use mathlib.Core.Path.{_≡_, refl, sym, ap, _∙_}
+use mathlib.Core.Bool.{true}
 use mathlib.Core.List.{List, [], _∷_}
-use Prim.Native.Nat.{ℕ, zero, suc, _+_, _<_}
+use mathlib.Core.Logic.{_⊎_, inl, inr}
+use Prim.Native.Nat.{ℕ, zero, suc, _+_}
+use native.Mathlib.Nat.{not-suc-le-zero, le-of-suc-le-suc}
 use native.Mathlib.Omega.{arith}
-use lib.Dec.{leb}
-use lib.ListN.{length, getD, take}
-use borrow.Author.Tests.{eq-eqb}
-use Rattle.words.specs.Choice.{pick}
-use Rattle.program.specs.Sound.{fewCauses}
+use lib.Dec.{eqb}
+use lib.ListN.{length, take}
+use borrow.Author.Tests.{eqb-true, eq-eqb}
+use Rattle.words.proofs.Tests.{and-true-l, and-true-r}
 use Rattle.store.specs.Saying.{Said}
-use Rattle.store.specs.Tables.{clauseWords}
 use Rattle.checks.specs.Checks.{lineRefusal, saidAfter}
-use Rattle.reader.specs.Reading.{Outcome, ending, orElse, readLines}
-use Rattle.reader.specs.Claims.{saidThrough, allPass}
+use Rattle.reader.specs.Reading.{Outcome, orElse, endRefusal, ending, readLines}
+use Rattle.reader.specs.Claims.{saidThrough, allPass, BadAt}
+use Rattle.reader.proofs.ReadingLines.{lines-go, lines-stop}
 
--- the first k of the lines ls pass behind st, and the next is refused with n
-pub record BadAt (ls : List (List ℕ)) (st : Said) (n k : ℕ) : Type 0 where
-  pub there : k < length ls
-  pub before-pass : allPass (take k ls) st ≡ true
-  pub refused-with : lineRefusal (saidThrough (take k ls) st) (getD ls k []) ≡ n
-  pub not-zero : n ≡ 0 → ⊥
-
--- a line that passes, and one that is refused, in front of others
+-- a line in front of others: it passes, or it is the bad one
 module _ (l : List ℕ) (ls : List (List ℕ)) (st : Said) where
   all-more : lineRefusal st l ≡ 0 → allPass ls (saidAfter st l) ≡ true → allPass (l ∷ ls) st ≡ true
   unfolding allPass
   all-more e h = rw (eq-eqb (lineRefusal st l) 0 e, h)
 
+  pub first-passes : allPass (l ∷ ls) st ≡ true → (lineRefusal st l ≡ 0) × (allPass ls (saidAfter st l) ≡ true)
+  unfolding allPass
+  first-passes h =
+      let a = eqb (lineRefusal st l) 0 in
+      let b = allPass ls (saidAfter st l) in
+      (eqb-true _ 0 (and-true-l a b h), and-true-r a b h)
+
   bad-here : (n : ℕ) → lineRefusal st l ≡ suc n → BadAt (l ∷ ls) st (suc n) 0
   unfolding allPass saidThrough
   bad-here n e = record { there = omega arith; before-pass = refl; refused-with = e; not-zero = λ z. omega arith }
+
+  bad-first : (n : ℕ) → BadAt (l ∷ ls) st n 0 → lineRefusal st l ≡ n
+  unfolding saidThrough
+  bad-first n b = b .refused-with
 
   bad-later : (n k : ℕ) → lineRefusal st l ≡ 0 → BadAt ls (saidAfter st l) n k → BadAt (l ∷ ls) st n (suc k)
   unfolding allPass saidThrough
@@ -42,18 +47,56 @@ module _ (l : List ℕ) (ls : List (List ℕ)) (st : Said) where
     not-zero = b .not-zero;
   }
 
-refused-end : (t : Bool) (n : ℕ) (o : Outcome) (m k : ℕ) → pick t (Outcome.refused n 0) o ≡ Outcome.refused m k
-    → (o ≡ Outcome.refused m k → k ≡ 0) → k ≡ 0
-refused-end true n o m k e f = cc
-refused-end false n o m k e f = f e
+bad-behind : (l : List ℕ) (ls : List (List ℕ)) (st : Said) (n k : ℕ) → BadAt (l ∷ ls) st n (suc k)
+    → (lineRefusal st l ≡ 0) × BadAt ls (saidAfter st l) n k
+unfolding saidThrough
+bad-behind l ls st n k b =
+    let p = first-passes l (take k ls) st (b .before-pass) in
+    let rest : BadAt ls (saidAfter st l) n k = record {
+      there = le-of-suc-le-suc (b .there);
+      before-pass = p .1;
+      refused-with = b .refused-with;
+      not-zero = b .not-zero;
+    } in
+    (p .0, rest)
 
--- a refusal after the last line has line 0
-ending-line : (st : Said) (n k : ℕ) → ending st ≡ Outcome.refused n k → k ≡ 0
-unfolding ending
-ending-line st n k e =
-    let few = fewCauses (length (st .names)) (clauseWords (st .clauses)) (length (st .clauses)) in
-    refused-end (leb (length (st .queries)) 0) 11 _ n k e
-    (λ d. refused-end (not few) 12 _ n k d (λ c. let z : _≡_ {A = ℕ} 0 1 = cc in absurd (omega arith)))
+-- Both ways
+
+pub all-read : (ls : List (List ℕ)) (st : Said) (k : ℕ) → allPass ls st ≡ true
+    → readLines ls st k ≡ ending (saidThrough ls st)
+unfolding readLines saidThrough
+all-read [] st k h = refl
+all-read (l ∷ ls) st k h =
+    let p = first-passes l ls st h in
+    lines-go l ls st k (p .0) ∙ all-read ls (saidAfter st l) (k + 1) (p .1)
+
+pub bad-read : (ls : List (List ℕ)) (st : Said) (n j k : ℕ) → BadAt ls st n j
+    → readLines ls st k ≡ Outcome.refused n (j + k)
+bad-read [] st n j k b = absurd (not-suc-le-zero (b .there))
+bad-read (l ∷ ls) st n zero k b =
+    let e = bad-first l ls st n b in
+    let s : k ≡ 0 + k = omega arith in
+    lines-stop l ls st k (λ z. b .not-zero (sym e ∙ z)) ∙ cc
+bad-read (l ∷ ls) st n (suc j) k b =
+    let p = bad-behind l ls st n j b in
+    let s : j + (k + 1) ≡ suc j + k = omega arith in
+    lines-go l ls st k (p .0) ∙ bad-read ls (saidAfter st l) n j (k + 1) (p .1) ∙ ap (Outcome.refused n) s
+
+-- all of the lines pass, or one is the first bad one
+abbrev pub AllOrBad : List (List ℕ) → Said → Type 0
+AllOrBad ls st = (allPass ls st ≡ true) ⊎ ((n : ℕ) × (k : ℕ) × BadAt ls st n k)
+
+pub all-or-bad : (ls : List (List ℕ)) (st : Said) → AllOrBad ls st
+unfolding allPass
+all-or-bad [] st = inl refl
+all-or-bad (l ∷ ls) st = go (lineRefusal st l) refl (all-or-bad ls (saidAfter st l))
+  where
+    go : (r : ℕ) → lineRefusal st l ≡ r → AllOrBad ls (saidAfter st l) → AllOrBad (l ∷ ls) st
+    go zero e (inl h) = inl (all-more l ls st e h)
+    go zero e (inr b) = inr (b .0, suc (b .1), bad-later l ls st (b .0) (b .1) e (b .2))
+    go (suc n) e h = inr (suc n, 0, bad-here l ls st n e)
+
+-- The end
 
 -- a line is refused, or passes and the rest decides
 pub or-else-cases : {P : Type 0} (r k : ℕ) (rest o : Outcome) → orElse r k rest ≡ o → (r ≡ 0 → rest ≡ o → P)
@@ -61,26 +104,18 @@ pub or-else-cases : {P : Type 0} (r k : ℕ) (rest o : Outcome) → orElse r k r
 or-else-cases zero k rest o e f g = f refl e
 or-else-cases (suc n) k rest o e f g = g n refl e
 
--- the lines from line 1 + k on
-pub bad-line : (ls : List (List ℕ)) (st : Said) (k n m : ℕ) → readLines ls st (suc k) ≡ Outcome.refused n (suc m)
-    → (j : ℕ) × (m ≡ k + j) × BadAt ls st n j
-unfolding readLines
-bad-line [] st k n m e = absurd (omega (arith, ending-line st n (suc m) e))
-bad-line (l ∷ ls) st k n m e =
-    or-else-cases (lineRefusal st l) (suc k) _ _ e
-    (λ q d.
-    let b = bad-line ls (saidAfter st l) (suc k) n m d in
-    (suc (b .0), omega (arith, b .1), bad-later l ls st n (b .0) q (b .2)))
-    (λ r q d.
-    let a : n ≡ suc r = cc in
-    let b : suc m ≡ suc k = cc in
-    (0, omega arith, rw a (bad-here l ls st r q)))
+-- an accepted end says what was read, and none of its checks fails
+pub ending-said : (st s : Said) → ending st ≡ Outcome.case s → (endRefusal st ≡ 0) × (st ≡ s)
+unfolding ending
+ending-said st s e =
+    or-else-cases (endRefusal st) 0 _ _ e
+    (λ q d. (q, cc))
+    (λ n q d. let z : _≡_ {A = ℕ} 0 1 = cc in absurd (omega arith))
 
-pub no-bad : (ls : List (List ℕ)) (st : Said) (k n : ℕ) → readLines ls st (suc k) ≡ Outcome.refused n 0
-    → allPass ls st ≡ true
-unfolding readLines allPass
-no-bad [] st k n e = refl
-no-bad (l ∷ ls) st k n e =
-    or-else-cases (lineRefusal st l) (suc k) _ _ e
-    (λ q d. all-more l ls st q (no-bad ls (saidAfter st l) (suc k) n d))
-    (λ r q d. let z : suc k ≡ 0 = cc in absurd (omega arith))
+-- a refusal after the last line has line 0
+pub ending-line : (st : Said) (n k : ℕ) → ending st ≡ Outcome.refused n k → k ≡ 0
+unfolding ending
+ending-line st n k e =
+    or-else-cases (endRefusal st) 0 _ _ e
+    (λ q d. let z : _≡_ {A = ℕ} 0 1 = cc in absurd (omega arith))
+    (λ m q d. cc)

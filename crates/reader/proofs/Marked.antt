@@ -5,7 +5,6 @@ use mathlib.Core.List.{List, [], _∷_, map}
 use Prim.Native.Nat.{ℕ}
 use lib.Count.{ones, onesIn}
 use Rattle.words.specs.Bits.{has, word}
-use Rattle.logic.specs.Formula.{depth}
 use Rattle.logic.specs.Nodes.{nodes}
 use Rattle.program.specs.declared.case.Case.{Case}
 use Rattle.program.specs.Program.{headsOf}
@@ -15,6 +14,7 @@ use Rattle.text.specs.Bytes.{isWordByte, isAllowed, allOf, sameBytes}
 use Rattle.text.specs.Lines.{linesFrom, isComment}
 use Rattle.text.specs.Tokens.{tokensFrom}
 use Rattle.table.specs.Filled.{padded}
+use Rattle.formulas.specs.Parsing.{depthOf}
 use Rattle.formulas.specs.Keyword.{nodeOf, kindOf}
 use Rattle.formulas.specs.Sentence.{isName, isSentence}
 use Rattle.formulas.specs.Items.{withForm, itemsOf}
@@ -97,7 +97,7 @@ rows = m1 ∷ m4 ∷ []
 -- each row is what reading its file gives
 pub marked-read : map (λ (r : Row). rowOf (r .file)) rows ≡ rows
 unfolding ones onesIn has word nodes headsOf causesAmong fewCauses isWordByte isAllowed allOf sameBytes linesFrom
-    isComment tokensFrom padded namesFrom someLong atomOf withName withNames rowsOf nodeOf kindOf isName depth
+    isComment tokensFrom padded namesFrom someLong atomOf withName withNames rowsOf nodeOf kindOf isName depthOf
     withForm itemsOf literalsOf lineOf someOn plainAtoms negatedAtoms encoded saidBy formRefusal lineRefusal saidAfter
     clauseWords ending readLines readFile constraintWords formulaNodes isSentence areNamed isLine
 marked-read = refl

@@ -1,26 +1,16 @@
 -- The number of a refusal of reading is never 0. Assumes nothing.
 use mathlib.Core.Path.{_≡_}
-use mathlib.Core.Bool.{Bool, true, false, not}
 use mathlib.Core.List.{List, [], _∷_}
 use Prim.Native.Nat.{ℕ, zero, suc}
 use native.Mathlib.Omega.{arith}
-use lib.Dec.{leb}
-use lib.ListN.{length}
-use Rattle.words.specs.Choice.{pick}
 use Rattle.text.specs.Lines.{lines}
-use Rattle.program.specs.Sound.{fewCauses}
 use Rattle.store.specs.Saying.{Said, nothingSaid}
-use Rattle.store.specs.Tables.{clauseWords}
 use Rattle.checks.specs.Checks.{lineRefusal, saidAfter}
-use Rattle.reader.specs.Reading.{Outcome, ending, orElse, readLines, readFile}
+use Rattle.reader.specs.Reading.{Outcome, orElse, endRefusal, ending, readLines, readFile}
 
 abbrev pub Numbered : Outcome → Type 0
 Numbered (Outcome.case st) = Unit {0}
 Numbered (Outcome.refused n k) = n ≡ 0 → ⊥
-
-end-numbered : (t : Bool) (n : ℕ) (o : Outcome) → Numbered o → Numbered (pick t (Outcome.refused (suc n) 0) o)
-end-numbered true n o h = λ e. omega arith
-end-numbered false n o h = h
 
 line-numbered : (r k : ℕ) (o : Outcome) → Numbered o → Numbered (orElse r k o)
 line-numbered zero k o h = h
@@ -28,10 +18,7 @@ line-numbered (suc n) k o h = λ e. omega arith
 
 ending-numbered : (st : Said) → Numbered (ending st)
 unfolding ending
-ending-numbered st =
-    let few = fewCauses (length (st .names)) (clauseWords (st .clauses)) (length (st .clauses)) in
-    end-numbered (leb (length (st .queries)) 0) 10 (pick (not few) (Outcome.refused 12 0) (Outcome.case st))
-    (end-numbered (not few) 11 (Outcome.case st) tt)
+ending-numbered st = line-numbered (endRefusal st) 0 (Outcome.case st) tt
 
 lines-numbered : (ls : List (List ℕ)) (st : Said) (k : ℕ) → Numbered (readLines ls st k)
 unfolding readLines

@@ -1,17 +1,19 @@
 -- Laws of the early refusals 1 and 2, which touch nothing, and of reading where there is none. Assumes nothing.
-use mathlib.Core.Path.{_≡_}
+use mathlib.Core.Path.{_≡_, refl, sym}
 use mathlib.Core.Bool.{Bool, true, false}
-use mathlib.Core.List.{List}
-use Prim.Native.Nat.{ℕ, suc, _≤_, _<_}
+use mathlib.Core.List.{List, [], _∷_}
+use Prim.Native.Nat.{ℕ, zero, suc, _≤_, _<_}
 use lib.Dec.{leb}
 use lib.ListN.{length}
-use borrow.Author.Tests.{leb-true, le-leb, lt-leb, lt-ltb, le-ltb}
+use borrow.Author.Tests.{leb-true, le-leb, lt-leb}
+use Rattle.words.specs.Choice.{check}
 use Rattle.words.proofs.Tests.{and-true-l, and-true-r}
 use Rattle.program.specs.Case.{tablesFull}
 use Rattle.program.proofs.Soundness.{full-clauses, full-constraints, full-formula}
 use Rattle.store.specs.Lent.{Lent}
 use Rattle.store.specs.Tables.{formulaNodes}
 use Rattle.store.specs.Held.{Long}
+use Rattle.checks.proofs.FirstFailed.{none-failed}
 use Rattle.reader.specs.declared.read.Answer.{Answer}
 use Rattle.reader.specs.Operation.{tablesFit, earlyRefusal, ReadAs}
 use Rattle.reader.specs.Steps.{refusedAt, LinesRead}
@@ -46,13 +48,13 @@ module _ (f : List ℕ) (t : Lent) where
 
   pub early-file-long : Full true → 1024 ≤ length (t .names) → 32768 < length f → earlyRefusal f t ≡ 2
   unfolding earlyRefusal tablesFit
-  early-file-long h k l = rw (h, le-leb 1024 (length (t .names)) k, lt-ltb 32768 (length f) l)
+  early-file-long h k l = rw (h, le-leb 1024 (length (t .names)) k, lt-leb (length f) 32768 l)
 
   pub early-none : Full true → 1024 ≤ length (t .names) → length f ≤ 32768 → earlyRefusal f t ≡ 0
   unfolding earlyRefusal tablesFit
-  early-none h k l = rw (h, le-leb 1024 (length (t .names)) k, le-ltb 32768 (length f) l)
+  early-none h k l = rw (h, le-leb 1024 (length (t .names)) k, le-leb (length f) 32768 l)
 
-  pub read-early : (n : ℕ) (r : Answer) → earlyRefusal f t ≡ suc n → r ≡ refusedAt (suc n) 0 → ReadAs f t t r
+  read-early : (n : ℕ) (r : Answer) → earlyRefusal f t ≡ suc n → r ≡ refusedAt (suc n) 0 → ReadAs f t t r
   unfolding formulaNodes
   read-early n r e a = record {
     refusal-is = rw (a, e);
@@ -63,6 +65,18 @@ module _ (f : List ℕ) (t : Lent) where
     formula-is = rw e;
     names-are = rw e;
   }
+
+  -- a refusal with a number that is not 0
+  pub read-refused : (n : ℕ) (r : Answer) → n ≡ earlyRefusal f t → (n ≡ 0 → ⊥) → r ≡ refusedAt n 0 → ReadAs f t t r
+  read-refused zero r e h a = absurd (h refl)
+  read-refused (suc n) r e h a = read-early n r (sym e) a
+
+  -- where there is none, the tables have their sizes and the file is not too long
+  pub early-passed : earlyRefusal f t ≡ 0 → Long t × (length f ≤ 32768)
+  unfolding earlyRefusal
+  early-passed e =
+      let p = none-failed (check 1 (tablesFit t) ∷ check 2 (leb (length f) 32768) ∷ []) refl e in
+      (fit-long (p .0), leb-true _ 32768 (p .1 .0))
 
   pub read-through : (u : Lent) (r : Answer) → earlyRefusal f t ≡ 0 → LinesRead f t u r → ReadAs f t u r
   read-through u r e h = record {

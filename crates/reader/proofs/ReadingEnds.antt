@@ -1,14 +1,14 @@
 -- Laws of the end of reading: the checks 11 and 12, and what the record and the tables are in each case.
 -- Assumes nothing.
 use mathlib.Core.Path.{_≡_, refl, sym, ap, _∙_}
-use mathlib.Core.Bool.{Bool, true, false}
+use mathlib.Core.Bool.{true, false}
 use mathlib.Core.List.{List, [], _∷_}
-use Prim.Native.Nat.{ℕ, _*_, _%_, _≤_, _<_}
+use Prim.Native.Nat.{ℕ, zero, suc, _*_, _%_, _≤_, _<_}
 use native.Mathlib.Omega.{arith}
 use lib.Count.{ones}
 use lib.Dec.{eqb, leb}
 use lib.ListN.{length}
-use borrow.Author.Tests.{le-leb, lt-leb}
+use borrow.Author.Tests.{le-leb}
 use Rattle.words.proofs.Below.{any-ext}
 use Rattle.words.proofs.Bits.{has-ext}
 use Rattle.logic.specs.Formula.{Formula}
@@ -26,11 +26,12 @@ use Rattle.store.specs.Lent.{Lent}
 use Rattle.store.specs.Saying.{Said}
 use Rattle.store.specs.Tables.{clauseWords, constraintWords, formulaNodes}
 use Rattle.store.specs.Held.{Held, SpoiltBy, Spoilt}
+use Rattle.store.proofs.Forms.{node-each}
 use Rattle.store.proofs.TakingHeld.{held-spoilt}
 use Rattle.reader.specs.declared.read.Answer.{Answer}
-use Rattle.reader.specs.Reading.{Outcome, saidIn, ending, readLines, readFile}
-use Rattle.reader.specs.Steps.{Zeroed, refusedAt, LinesRead}
-use Rattle.reader.proofs.ReadingLines.{SameLengths, LinesTaken}
+use Rattle.reader.specs.Reading.{Outcome, saidIn, orElse, endRefusal, ending, readLines, readFile}
+use Rattle.reader.specs.Steps.{endRefusalIn, Countable, Zeroed, refusedAt, LinesRead}
+use Rattle.reader.proofs.ReadingLines.{or-else-refused, SameLengths, LinesTaken}
 
 -- the first n heads decide headsOf
 pub heads-ext : (cl cm : List ℕ) (n : ℕ) → ((k : ℕ) → k < n → headAt cl k ≡ headAt cm k) → headsOf cl n ≡ headsOf cm n
@@ -49,28 +50,26 @@ few-causes-filled n m ws old h l =
     (heads-ext (filled 768 ws old) ws m
     (λ k b. ap (λ (x : ℕ). x % 64) (filled-at 768 ws old (3 * k) (omega arith) l)))
 
--- ending
+-- the checks 11 and 12
 
-pub nodes-query : (qs : List Formula) → (length (formulaNodes qs) ≡ 0 → ⊥) → 0 < length qs
+nodes-query : (qs : List Formula) → (length (formulaNodes qs) ≡ 0 → ⊥) → 0 < length qs
 unfolding formulaNodes
 nodes-query [] h = absurd (h refl)
 nodes-query (q ∷ qs) h = omega arith
 
-module _ (st : Said) where
-  pub ending-without-query : length (st .queries) ≤ 0 → ending st ≡ Outcome.refused 11 0
-  unfolding ending
-  ending-without-query h = rw (le-leb _ _ h)
+some-leb : (n : ℕ) → (n ≡ 0 → ⊥) → leb 1 n ≡ true
+some-leb zero h = absurd (h refl)
+some-leb (suc n) h = le-leb 1 (suc n) (omega arith)
 
-  abbrev pub fewAfter : Bool
-  fewAfter = fewCauses (length (st .names)) (clauseWords (st .clauses)) (length (st .clauses))
+module _ (c : Case) (cl : List ℕ) where
+  pub end-eleven : c .nodes ≡ 0 → endRefusalIn c cl ≡ 11
+  end-eleven e = rw e
 
-  pub ending-many-causes : 0 < length (st .queries) → fewAfter ≡ false → ending st ≡ Outcome.refused 12 0
-  unfolding ending
-  ending-many-causes h e = rw (lt-leb _ _ h, e)
+  pub end-twelve : (c .nodes ≡ 0 → ⊥) → fewCauses (c .atoms) cl (c .clauses) ≡ false → endRefusalIn c cl ≡ 12
+  end-twelve h e = rw (some-leb (c .nodes) h, e)
 
-  pub ending-case : 0 < length (st .queries) → fewAfter ≡ true → ending st ≡ Outcome.case st
-  unfolding ending
-  ending-case h e = rw (lt-leb _ _ h, e)
+  pub end-none : (c .nodes ≡ 0 → ⊥) → fewCauses (c .atoms) cl (c .clauses) ≡ true → endRefusalIn c cl ≡ 0
+  end-none h e = rw (some-leb (c .nodes) h, e)
 
 -- LinesRead
 
@@ -79,7 +78,8 @@ lines-read-lengths {f} {t} {u} {r} h =
     let s = saidIn (readFile f) in
     record {
       clauses-same = ap length (h .clauses-are) ∙ filled-length 768 (clauseWords (s .clauses)) (t .clauses);
-      constraints-same = ap length (h .constraints-are) ∙ filled-length 64 (constraintWords (s .constraints)) (t .constraints);
+      constraints-same =
+          ap length (h .constraints-are) ∙ filled-length 64 (constraintWords (s .constraints)) (t .constraints);
       formula-same = ap length (h .formula-is) ∙ filled-length 128 (formulaNodes (s .queries)) (t .formula);
       names-same = ap length (h .names-are) ∙ filled-length 1024 (rowsOf (s .names)) (t .names);
     }
@@ -138,51 +138,51 @@ case-read f st c t₀ old t e z h = record {
 
 -- all lines are taken
 module _ (f : List ℕ) (old t : Lent) (c : Case) (at line : ℕ) (i : LinesTaken f old t c at line) where
-  nodes-are : c .nodes ≡ length (formulaNodes (i .said .queries))
-  nodes-are = ap (λ (x : Case). x .nodes) (i .held .case-is)
-
   ended : length f ≤ at → readFile f ≡ ending (i .said)
   unfolding readLines
   ended h = i .rest-is ∙ ap (λ (m : List (List ℕ)). readLines m (i .said) line) (lines-none f at h)
 
-  -- the test of the table is the test of the words
-  few-is : fewCauses (c .atoms) (t .clauses) (c .clauses) ≡ fewAfter (i .said)
+  -- the tests of the record and of the table are those of what was read
+  query-is : leb 1 (c .nodes) ≡ leb 1 (length (i .said .queries))
+  query-is = rw (i .held .case-is) (node-each (i .said .queries) (i .held .limits .query-nodes))
+
+  few-is : fewCauses (c .atoms) (t .clauses) (c .clauses)
+      ≡ fewCauses (length (i .said .names)) (clauseWords (i .said .clauses)) (length (i .said .clauses))
   few-is =
       let k : 768 ≤ length (old .clauses) = omega (arith, i .same .clauses-same, i .long .clauses-long) in
       rw (i .held .case-is, i .held .clauses-are)
       (few-causes-filled (length (i .said .names)) (length (i .said .clauses)) (clauseWords (i .said .clauses))
       (old .clauses) (i .held .limits .clauses-few) k)
 
-  has-query : (c .nodes ≡ 0 → ⊥) → 0 < length (i .said .queries)
-  has-query h = nodes-query (i .said .queries) (λ e. h (nodes-are ∙ e))
+  end-is : endRefusalIn c (t .clauses) ≡ endRefusal (i .said)
+  end-is = rw (query-is, few-is)
 
   -- what counting the causes requires
-  pub causes-countable : (c .nodes ≡ 0 → ⊥)
-      → (1 ≤ c .atoms) × (c .atoms ≤ 64) × (c .clauses ≤ 256) × (3 * c .clauses ≤ length (t .clauses))
-  causes-countable h =
-      let q = has-query h in
+  pub causes-countable : Countable c (t .clauses)
+  causes-countable =
       let a : c .atoms ≡ length (i .said .names) = ap (λ (x : Case). x .atoms) (i .held .case-is) in
       let b : c .clauses ≡ length (i .said .clauses) = ap (λ (x : Case). x .clauses) (i .held .case-is) in
       let l = i .held .limits in
       let m : c .clauses ≤ 256 = omega (arith, l .clauses-few) in
-      (omega (arith, l .query-atoms), i .atoms-few, m, omega (arith, i .long .clauses-long))
+      let n : c .nodes ≡ length (formulaNodes (i .said .queries)) = ap (λ (x : Case). x .nodes) (i .held .case-is) in
+      record {
+        atoms-some = λ h. omega (arith, l .query-atoms, nodes-query (i .said .queries) (λ e. h (n ∙ e)));
+        atoms-few = i .atoms-few;
+        clauses-few = m;
+        clauses-fit = omega (arith, i .long .clauses-long);
+      }
 
-  module _ (t₀ : Lent) (h : length f ≤ at) (z : Zeroed t₀ old) where
-    pub read-without-query : (u : Lent) (r : Answer) → c .nodes ≡ 0 → Zeroed t u → r ≡ refusedAt 11 0
-        → LinesRead f t₀ u r
-    read-without-query u r e w a =
-        let q : length (i .said .queries) ≤ 0 = omega (arith, i .held .limits .query-nodes, nodes-are) in
-        refused-read f 11 0 t₀ old t u r (ended h ∙ ending-without-query (i .said) q) z
+  module _ (t₀ : Lent) (h : length f ≤ at) (z : Zeroed t₀ old) (n : ℕ) (e : n ≡ endRefusalIn c (t .clauses)) where
+    -- the end decides by this number
+    end-by : readFile f ≡ orElse n 0 (Outcome.case (i .said))
+    unfolding ending
+    end-by = ended h ∙ ap (λ (m : ℕ). orElse m 0 (Outcome.case (i .said))) (sym (e ∙ end-is))
+
+    pub read-ended : (u : Lent) (r : Answer) → (n ≡ 0 → ⊥) → Zeroed t u → r ≡ refusedAt n 0 → LinesRead f t₀ u r
+    read-ended u r p w a =
+        refused-read f n 0 t₀ old t u r (end-by ∙ or-else-refused n 0 _ p) z
         (held-spoilt (i .said) c old t (i .held)) w a
 
-    pub read-many-causes : (u : Lent) (r : Answer) → (c .nodes ≡ 0 → ⊥)
-        → fewCauses (c .atoms) (t .clauses) (c .clauses) ≡ false → Zeroed t u → r ≡ refusedAt 12 0 → LinesRead f t₀ u r
-    read-many-causes u r n e w a =
-        refused-read f 12 0 t₀ old t u r
-        (ended h ∙ ending-many-causes (i .said) (has-query n) (sym few-is ∙ e)) z
-        (held-spoilt (i .said) c old t (i .held)) w a
-
-    pub read-case : (c .nodes ≡ 0 → ⊥) → fewCauses (c .atoms) (t .clauses) (c .clauses) ≡ true
-        → LinesRead f t₀ t (record { refusal = 0; line = 0; found = c })
-    read-case n e =
-        case-read f (i .said) c t₀ old t (ended h ∙ ending-case (i .said) (has-query n) (sym few-is ∙ e)) z (i .held)
+    pub read-case : n ≡ 0 → LinesRead f t₀ t (record { refusal = 0; line = 0; found = c })
+    read-case p =
+        case-read f (i .said) c t₀ old t (end-by ∙ ap (λ (m : ℕ). orElse m 0 (Outcome.case (i .said))) p) z (i .held)

@@ -36,7 +36,7 @@ part-slice (x ∷ l) (suc a) (suc e) h = rw (suc-sub-suc) (part-slice l a e (le-
 
 -- readLines
 
-or-else-refused : (n k : ℕ) (o : Outcome) → (n ≡ 0 → ⊥) → orElse n k o ≡ Outcome.refused n k
+pub or-else-refused : (n k : ℕ) (o : Outcome) → (n ≡ 0 → ⊥) → orElse n k o ≡ Outcome.refused n k
 or-else-refused zero k o h = absurd (h refl)
 or-else-refused (suc n) k o h = refl
 

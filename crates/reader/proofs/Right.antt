@@ -15,7 +15,7 @@ use Rattle.logic.specs.Formula.{Formula, depth, over}
 use Rattle.logic.specs.Nodes.{nodes}
 use Rattle.program.specs.Sound.{bare, shaped}
 use Rattle.names.specs.Names.{withNames}
-use Rattle.names.specs.Distinct.{Distinct}
+use Rattle.names.proofs.Distinct.{Distinct}
 use Rattle.names.proofs.Each.{Each, each-append, each-gives}
 use Rattle.names.proofs.Adding.{distinct-none, with-names-length, with-names-distinct, with-names-each}
 use Rattle.store.specs.Saying.{ClauseRow, ConstraintRow, Said, nothingSaid, renamed}

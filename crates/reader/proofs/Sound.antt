@@ -1,7 +1,7 @@
 -- A right reading is a sound case, with tables filled over any tables of full size. Assumes nothing.
 use mathlib.Core.Path.{_≡_, sym, _∙_}
 use mathlib.Core.Bool.{true}
-use mathlib.Core.List.{List, [], _∷_, append-nil}
+use mathlib.Core.List.{List, [], _∷_, _++_, append-nil}
 use Prim.Native.Nat.{ℕ, zero, suc, _+_, _*_, _≤_, _<_}
 use native.Mathlib.Nat.{not-suc-le-zero, le-of-suc-le-suc, suc-add}
 use native.Mathlib.Omega.{arith}
@@ -9,6 +9,7 @@ use lib.ListN.{length, getD, take}
 use lib.Seq.{length-take-le, getD-take, ext-getD}
 use Rattle.logic.specs.Formula.{Formula}
 use Rattle.logic.specs.Nodes.{nodes, oneFormula}
+use Rattle.logic.specs.Claims.{Spells}
 use Rattle.logic.proofs.Spelled.{one-formula-complete}
 use Rattle.program.specs.Case.{tablesFull}
 use Rattle.program.specs.Sound.{limitsHold, soundClause, soundClauses, soundConstraint, soundConstraints, fewCauses}
@@ -95,7 +96,7 @@ module _ (n : ℕ) where
 
   -- The query
 
-  nodes-few : (fs : List Formula) → Rows (QueryRight n) 1 fs → length (formulaNodes fs) ≤ 128
+  pub nodes-few : (fs : List Formula) → Rows (QueryRight n) 1 fs → length (formulaNodes fs) ≤ 128
   unfolding formulaNodes
   nodes-few [] r = omega arith
   nodes-few (f ∷ []) r = rw (append-nil (nodes f)) (r .each .0 .nodes-few)
@@ -105,14 +106,15 @@ module _ (n : ℕ) where
   atoms-some [] r h = absurd (not-suc-le-zero h)
   atoms-some (f ∷ fs) r h = over-some n f (r .each .0 .over-atoms)
 
+  pub query-spells : (f : Formula) → QueryRight n f → Spells n (nodes f ++ []) f
+  query-spells f q =
+      record { nodes-are = sym (append-nil (nodes f)); over-atoms = q .over-atoms; not-deep = q .not-deep }
+
   query-sound : (fs : List Formula) → n ≤ 64 → Rows (QueryRight n) 1 fs → 0 < length fs
       → oneFormula n (formulaNodes fs) ≡ true
   unfolding formulaNodes
   query-sound [] h r l = absurd (not-suc-le-zero l)
-  query-sound (f ∷ []) h r l =
-      let q = r .each .0 in
-      one-formula-complete n _ f h
-      record { nodes-are = sym (append-nil (nodes f)); over-atoms = q .over-atoms; not-deep = q .not-deep }
+  query-sound (f ∷ []) h r l = one-formula-complete n _ f h (query-spells f (r .each .0))
   query-sound (f ∷ (g ∷ fs)) h r l = absurd (omega (arith, r .few))
 
 -- The case

@@ -1,8 +1,9 @@
 -- What is claimed of reading is so. Assumes nothing.
-use mathlib.Core.Path.{_≡_, subst}
-use mathlib.Core.List.{List, []}
-use Prim.Native.Nat.{ℕ, _+_, _*_, _≤_}
-use native.Mathlib.Nat.{zero-add}
+use mathlib.Core.Path.{_≡_, sym, ap, subst, _∙_}
+use mathlib.Core.Bool.{true}
+use mathlib.Core.List.{[]}
+use mathlib.Core.Logic.{inl, inr}
+use Prim.Native.Nat.{suc, _+_, _*_, _≤_}
 use native.Mathlib.Omega.{arith}
 use lib.ListN.{length}
 use Rattle.text.specs.Lines.{lines}
@@ -15,15 +16,20 @@ use Rattle.names.proofs.Adding.{distinct-atom}
 use Rattle.store.specs.Saying.{nothingSaid}
 use Rattle.store.proofs.Encoded.{encoded-length}
 use Rattle.checks.specs.Naming.{IsName}
-use Rattle.reader.specs.Reading.{readFile}
-use Rattle.reader.specs.Claims.{AcceptedSound, AcceptedNames, FirstBad, FirstBadLine, NoBadLine, NodesFit}
+use Rattle.reader.specs.Reading.{Outcome, readFile}
+use Rattle.reader.specs.Claims.{AcceptedSound, TablesSay, AcceptedNames, allPass, FirstBad, ReadExact}
+use Rattle.reader.specs.Claims.{FirstBadLine, NoBadLine, NodesFit}
 use Rattle.reader.proofs.ReadingEarly.{fit-long}
 use Rattle.reader.proofs.Added.{accepted-right}
 use Rattle.reader.proofs.Sound.{ended-sound}
-use Rattle.reader.proofs.FirstBad.{BadAt, bad-line, no-bad}
+use Rattle.reader.proofs.Says.{answer-says}
+use Rattle.reader.proofs.FirstBad.{all-read, bad-read, AllOrBad, all-or-bad, ending-line}
 
 pub accepted-sound : AcceptedSound
 accepted-sound f st t h e = ended-sound st t (fit-long f t h) (accepted-right f st e)
+
+pub tables-say : TablesSay
+tables-say = answer-says
 
 pub accepted-names : AcceptedNames
 accepted-names f st e =
@@ -33,21 +39,35 @@ accepted-names f st e =
       differ = λ a h. distinct-atom (st .names) a (r .distinct) h;
     }
 
-first-bad : (f : List ℕ) (n j k : ℕ) → k ≡ 0 + j → BadAt (lines f) nothingSaid n j → FirstBad f n k
-first-bad f n j k e b = rw (e, zero-add) record {
-  there = b .there;
-  before-pass = b .before-pass;
-  refused-with = b .refused-with;
-  not-zero = b .not-zero;
+pub read-exact : ReadExact
+unfolding readFile
+read-exact = record {
+  all-pass = λ f h. all-read (lines f) nothingSaid 1 h;
+  one-bad = λ f n k b.
+      let s : k + 1 ≡ suc k = omega arith in
+      bad-read (lines f) nothingSaid n k 1 b ∙ ap (Outcome.refused n) s;
 }
 
 pub first-bad-line : FirstBadLine
-unfolding readFile
-first-bad-line f n k e = let b = bad-line (lines f) nothingSaid 0 n k e in first-bad f n (b .0) k (b .1) (b .2)
+first-bad-line f n k e = go (all-or-bad (lines f) nothingSaid)
+  where
+    go : AllOrBad (lines f) nothingSaid → FirstBad f n k
+    go (inl h) = absurd (omega (arith, ending-line _ n (suc k) (sym (read-exact .all-pass f h) ∙ e)))
+    go (inr b) =
+        let q = sym (read-exact .one-bad f (b .0) (b .1) (b .2)) ∙ e in
+        let m : b .0 ≡ n = cc in
+        let j : b .1 ≡ k = cc in
+        rw (← m, ← j) (b .2)
 
 pub no-bad-line : NoBadLine
-unfolding readFile
-no-bad-line f n e = no-bad (lines f) nothingSaid 0 n e
+no-bad-line f n e = go (all-or-bad (lines f) nothingSaid)
+  where
+    go : AllOrBad (lines f) nothingSaid → allPass (lines f) nothingSaid ≡ true
+    go (inl h) = h
+    go (inr b) =
+        let q = sym (read-exact .one-bad f (b .0) (b .1) (b .2)) ∙ e in
+        let z : suc (b .1) ≡ 0 = cc in
+        absurd (omega arith)
 
 pub nodes-fit : NodesFit
 nodes-fit l f ns h e =

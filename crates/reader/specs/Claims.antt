@@ -1,4 +1,9 @@
--- What is claimed of reading beyond the contract of *read*: claim 3 of the design. Proved in proofs/Theorems.antt.
+-- What is claimed of reading beyond the contract of *read*. Proved in proofs/Theorems.antt.
+-- From: document 01, "What each operation refuses" (Reading), "Case tables and sound cases".
+--
+--   AcceptedSound, TablesSay, AcceptedNames     an accepted file's record and tables
+--   ReadExact, FirstBadLine, NoBadLine          which line decides
+--   NodesFit                                    why there is no refusal for too many nodes
 use mathlib.Core.Path.{_≡_}
 use mathlib.Core.Bool.{Bool, true, _&&_}
 use mathlib.Core.List.{List, [], _∷_}
@@ -19,8 +24,10 @@ use Rattle.store.specs.Saying.{Said, nothingSaid, encoded}
 use Rattle.store.specs.Tables.{clauseWords, caseSaid, constraintWords, formulaNodes}
 use Rattle.checks.specs.Checks.{lineRefusal, saidAfter}
 use Rattle.checks.specs.Naming.{IsName}
-use Rattle.reader.specs.Reading.{Outcome, readFile}
-use Rattle.reader.specs.Operation.{tablesFit}
+use Rattle.reader.specs.Reading.{Outcome, ending, readFile}
+use Rattle.reader.specs.Contents.{Says}
+use Rattle.reader.specs.declared.read.Answer.{Answer}
+use Rattle.reader.specs.Operation.{tablesFit, ReadAs}
 
 -- an accepted file's case is sound, with tables filled over any tables of full size
 abbrev pub AcceptedSound : Type 0
@@ -29,6 +36,10 @@ AcceptedSound = (f : List ℕ) (st : Said) (t : Lent) → tablesFit t ≡ true �
     (filled 768 (clauseWords (st .clauses)) (t .clauses))
     (filled 64 (constraintWords (st .constraints)) (t .constraints))
     (filled 128 (formulaNodes (st .queries)) (t .formula)) ≡ true
+
+-- where reading accepts the file f, the record and the tables that it leaves say what f says
+abbrev pub TablesSay : Type 0
+TablesSay = (f : List ℕ) (t u : Lent) (r : Answer) → ReadAs f t u r → r .refusal ≡ 0 → Says f (r .found) u
 
 -- an accepted file's names are names and differ: each is found at its own place
 pub record NamesRight (st : Said) : Type 0 where
@@ -47,12 +58,22 @@ unfoldable pub allPass : List (List ℕ) → Said → Bool
 allPass [] st = true
 allPass (l ∷ ls) st = eqb (lineRefusal st l) 0 && allPass ls (saidAfter st l)
 
--- the first k lines pass, and the next is refused with n
-pub record FirstBad (f : List ℕ) (n k : ℕ) : Type 0 where
-  pub there : k < length (lines f)
-  pub before-pass : allPass (take k (lines f)) nothingSaid ≡ true
-  pub refused-with : lineRefusal (saidThrough (take k (lines f)) nothingSaid) (getD (lines f) k []) ≡ n
+-- of the lines ls, behind st, the first k pass and the next is refused with n
+pub record BadAt (ls : List (List ℕ)) (st : Said) (n k : ℕ) : Type 0 where
+  pub there : k < length ls
+  pub before-pass : allPass (take k ls) st ≡ true
+  pub refused-with : lineRefusal (saidThrough (take k ls) st) (getD ls k []) ≡ n
   pub not-zero : n ≡ 0 → ⊥
+
+-- the first k lines of the file f pass, and the next is refused with n
+abbrev pub FirstBad : List ℕ → ℕ → ℕ → Type 0
+FirstBad f n k = BadAt (lines f) nothingSaid n k
+
+-- where all lines pass, the end decides over what they say; otherwise the first bad line, counted from 1, does
+pub record ReadExact : Type 0 where
+  pub all-pass : (f : List ℕ) → allPass (lines f) nothingSaid ≡ true
+      → readFile f ≡ ending (saidThrough (lines f) nothingSaid)
+  pub one-bad : (f : List ℕ) (n k : ℕ) → FirstBad f n k → readFile f ≡ Outcome.refused n (suc k)
 
 -- a refusal with a line has the number and the line, counted from 1, of the first bad line
 abbrev pub FirstBadLine : Type 0

@@ -6,12 +6,12 @@
 --   tableLeft ..          a table at exit: untouched by 1 and 2, otherwise filled in its first n entries
 --   ReadAs f t u r        the answer r and the tables u at exit, for the file f and the tables t at entry
 use mathlib.Core.Path.{_≡_}
-use mathlib.Core.Bool.{Bool, not, _&&_}
-use mathlib.Core.List.{List}
+use mathlib.Core.Bool.{Bool, _&&_}
+use mathlib.Core.List.{List, [], _∷_}
 use Prim.Native.Nat.{ℕ}
-use lib.Dec.{leb, ltb}
+use lib.Dec.{leb}
 use lib.ListN.{length}
-use Rattle.words.specs.Choice.{pick, unlessRefused}
+use Rattle.words.specs.Choice.{unlessRefused, check, firstFailed}
 use Rattle.program.specs.Case.{tablesFull}
 use Rattle.table.specs.Filled.{filled}
 use Rattle.names.specs.Names.{rowsOf}
@@ -25,7 +25,7 @@ unfoldable pub tablesFit : Lent → Bool
 tablesFit t = tablesFull (t .clauses) (t .constraints) (t .formula) && leb 1024 (length (t .names))
 
 unfoldable pub earlyRefusal : List ℕ → Lent → ℕ
-earlyRefusal f t = pick (not (tablesFit t)) 1 (pick (ltb 32768 (length f)) 2 0)
+earlyRefusal f t = firstFailed (check 1 (tablesFit t) ∷ check 2 (leb (length f) 32768) ∷ [])
 
 abbrev pub tableLeft : List ℕ → Lent → ℕ → List ℕ → List ℕ → List ℕ
 tableLeft f t n l old = unlessRefused (earlyRefusal f t) (filled n l old) old

@@ -3,13 +3,14 @@
 --
 --   Outcome            what a file says, or the number of a refusal and its line
 --   saidIn o           what an outcome says; refusalOf and lineOfRefusal its number and line
+--   endChecks st       the checks after the last line; endRefusal st the number of the first that fails, or 0
+--   ending st          what they leave
 --   readFile f         the outcome of the file f
-use mathlib.Core.Bool.{not}
 use mathlib.Core.List.{List, [], _∷_}
 use Prim.Native.Nat.{ℕ, zero, suc}
 use lib.Dec.{leb}
 use lib.ListN.{length}
-use Rattle.words.specs.Choice.{pick}
+use Rattle.words.specs.Choice.{Check, check, firstFailed}
 use Rattle.program.specs.Sound.{fewCauses}
 use Rattle.text.specs.Lines.{lines}
 use Rattle.store.specs.Saying.{Said, nothingSaid}
@@ -34,16 +35,23 @@ abbrev pub lineOfRefusal : Outcome → ℕ
 lineOfRefusal (Outcome.case st) = 0
 lineOfRefusal (Outcome.refused n k) = k
 
--- after the last line: 11 no query, 12 more than 10 causes
-unfoldable pub ending : Said → Outcome
-ending st =
-    let few = fewCauses (length (st .names)) (clauseWords (st .clauses)) (length (st .clauses)) in
-    pick (leb (length (st .queries)) 0) (Outcome.refused 11 0) (pick (not few) (Outcome.refused 12 0) (Outcome.case st))
-
--- refused by the number of a check at line k, or what comes after
+-- refused with the number of a failed check at line k, or what comes after where the number is 0
 abbrev pub orElse : ℕ → ℕ → Outcome → Outcome
 orElse zero k o = o
 orElse (suc n) k o = Outcome.refused (suc n) k
+
+-- after the last line: 11 no query, 12 more than 10 causes
+abbrev pub endChecks : Said → List Check
+endChecks st =
+    check 11 (leb 1 (length (st .queries)))
+    ∷ check 12 (fewCauses (length (st .names)) (clauseWords (st .clauses)) (length (st .clauses)))
+    ∷ []
+
+abbrev pub endRefusal : Said → ℕ
+endRefusal st = firstFailed (endChecks st)
+
+unfoldable pub ending : Said → Outcome
+ending st = orElse (endRefusal st) 0 (Outcome.case st)
 
 -- the lines from line k on, behind st
 unfoldable pub readLines : List (List ℕ) → Said → ℕ → Outcome

@@ -1,17 +1,34 @@
--- What the code's steps of reading leave.
+-- What the code's steps of reading answer and leave.
 --
+--   endRefusalIn c cl       the checks 11 and 12 of a record and its clause table
 --   Zeroed t u              the tables u are t with zeros in their sizes
 --   LinesRead f t u r       what reading a file of at most 32,768 bytes into tables of full size answers and leaves
 use mathlib.Core.Path.{_≡_}
-use mathlib.Core.List.{List, []}
-use Prim.Native.Nat.{ℕ}
+use mathlib.Core.List.{List, [], _∷_}
+use Prim.Native.Nat.{ℕ, _*_, _≤_}
+use lib.Dec.{leb}
+use lib.ListN.{length}
+use Rattle.words.specs.Choice.{check, firstFailed}
 use Rattle.program.specs.declared.case.Case.{Case}
+use Rattle.program.specs.Sound.{fewCauses}
 use Rattle.table.specs.Filled.{filled}
 use Rattle.names.specs.Names.{rowsOf}
 use Rattle.store.specs.Lent.{Lent}
 use Rattle.store.specs.Tables.{clauseWords, constraintWords, formulaNodes, caseWith, caseSaid}
 use Rattle.reader.specs.declared.read.Answer.{Answer}
 use Rattle.reader.specs.Reading.{saidIn, refusalOf, lineOfRefusal, readFile}
+
+-- a record has nodes exactly when there is a query
+abbrev pub endRefusalIn : Case → List ℕ → ℕ
+endRefusalIn c cl =
+    firstFailed (check 11 (leb 1 (c .nodes)) ∷ check 12 (fewCauses (c .atoms) cl (c .clauses)) ∷ [])
+
+-- what counting the causes of a record with a query takes
+pub record Countable (c : Case) (cl : List ℕ) : Type 0 where
+  pub atoms-some : (c .nodes ≡ 0 → ⊥) → 1 ≤ c .atoms
+  pub atoms-few : c .atoms ≤ 64
+  pub clauses-few : c .clauses ≤ 256
+  pub clauses-fit : 3 * c .clauses ≤ length cl
 
 -- the tables u are t with zeros in their sizes
 pub record Zeroed (t u : Lent) : Type 0 where

@@ -4,8 +4,8 @@ ghost use Prim.Native.Nat.{_≤_};
 ghost use lib.ListN.{length};
 ghost use Rattle.store.specs.Lent.{lent};
 ghost use Rattle.store.specs.Held.{Long};
-ghost use Rattle.reader.specs.Operation.{ReadAs};
-ghost use Rattle.reader.specs.Steps.{Zeroed, refusedAt, LinesRead};
+ghost use Rattle.reader.specs.Operation.{earlyRefusal, ReadAs};
+ghost use Rattle.reader.specs.Steps.{endRefusalIn, Countable, Zeroed, refusedAt, LinesRead};
 use checks::take::Taken;
 use checks::take::take_line;
 use program::case::Case;
@@ -48,6 +48,20 @@ fn zero(clauses: &mut [u64], constraints: &mut [u64], formula: &mut [u8], names:
     table::zero_bytes(names, 1024);
 }
 
+// The number of the refusal after the last line: 11 no query, 12 more than ten causes, 0 for neither.
+fn end_refusal(c: Case, clauses: &[u64]) -> u32
+    requires { ⌜ Countable c (now clauses) ⌝ }
+    ensures { λ r. ⌜ r ≡ endRefusalIn c (now (clauses .entry)) ⌝ }
+{
+    if c.nodes == 0 {
+        return 11;
+    }
+    if !program::sound::causes_few(c.atoms, clauses, c.clauses) {
+        return 12;
+    }
+    0
+}
+
 // Reads a file of at most 32,768 bytes into tables of full size.
 fn read_lines(
     file: &[u8],
@@ -86,19 +100,40 @@ fn read_lines(
             }
         }
     }
-    if c.nodes == 0 {
+    let number = end_refusal(c, clauses);
+    if number != 0 {
         zero(clauses, constraints, formula, names);
-        return refused(11, 0);
-    }
-    if !program::sound::causes_few(c.atoms, clauses, c.clauses) {
-        zero(clauses, constraints, formula, names);
-        return refused(12, 0);
+        return refused(number, 0);
     }
     Answer {
         refusal: 0,
         line: 0,
         found: c,
     }
+}
+
+// The number of the refusal before the first line: 1 a table shorter than its size, 2 a file over 32,768 bytes, 0 for
+// neither.
+fn early_refusal(
+    file: &[u8],
+    clauses: &[u64],
+    constraints: &[u64],
+    formula: &[u8],
+    names: &[u8],
+) -> u32
+    ensures { λ r. ⌜ r ≡ earlyRefusal (now (file .entry))
+        (lent (now (clauses .entry)) (now (constraints .entry)) (now (formula .entry)) (now (names .entry))) ⌝ }
+{
+    if !program::case::tables_full(clauses, constraints, formula) {
+        return 1;
+    }
+    if names.len() < 1024 {
+        return 1;
+    }
+    if 32768 < file.len() {
+        return 2;
+    }
+    0
 }
 
 // Reads a case file into four lent tables. Refuses with 1 a table shorter than its size, with 2 a file over 32,768
@@ -115,14 +150,9 @@ pub fn read(
         (lent (now (clauses .entry)) (now (constraints .entry)) (now (formula .entry)) (now (names .entry)))
         (lent (now (clauses .exit)) (now (constraints .exit)) (now (formula .exit)) (now (names .exit))) r ⌝ }
 {
-    if !program::case::tables_full(clauses, constraints, formula) {
-        return refused(1, 0);
-    }
-    if names.len() < 1024 {
-        return refused(1, 0);
-    }
-    if 32768 < file.len() {
-        return refused(2, 0);
+    let number = early_refusal(file, clauses, constraints, formula, names);
+    if number != 0 {
+        return refused(number, 0);
     }
     read_lines(file, clauses, constraints, formula, names)
 }

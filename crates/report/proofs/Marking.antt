@@ -2,7 +2,7 @@
 use mathlib.Core.Path.{refl}
 use lib.Count.{ones, onesIn}
 use Rattle.words.specs.Bits.{has, word}
-use Rattle.logic.specs.Formula.{valueOf, depth, literalsBelow}
+use Rattle.logic.specs.Formula.{valueOf, literalsBelow}
 use Rattle.logic.specs.Nodes.{nodes, withNode, spelled, formulaOf}
 use Rattle.program.specs.Program.{clauseAt, clausesOf, addedBelow, headsOf}
 use Rattle.program.specs.Cause.{causesAmong, causesOf, atomsFrom}
@@ -18,6 +18,7 @@ use Rattle.text.specs.Lines.{linesFrom, isComment}
 use Rattle.text.specs.Tokens.{tokensFrom}
 use Rattle.table.specs.Filled.{padded}
 use Rattle.names.specs.Names.{namesFrom, someLong, atomOf, withName, withNames, rowsOf}
+use Rattle.formulas.specs.Parsing.{depthOf}
 use Rattle.formulas.specs.Keyword.{nodeOf, kindOf}
 use Rattle.formulas.specs.Sentence.{isName, isSentence}
 use Rattle.formulas.specs.Items.{withForm, itemsOf}
@@ -34,7 +35,7 @@ unfolding ones onesIn has word valueOf literalsBelow nodes withNode spelled form
     headsOf causesAmong causesOf atomsFrom choicesFor product digits digitOf settingsOf additionsOf fewCauses bodiesOf someTrue allFalse nextValue
     step rounds roundCount settled observedTrue noneBroken explainsUnder setExplains subsetOf properOf someProper
     minimal minimalsBelow roundsBelow trueInAll falseInAll verdictOf isWordByte isAllowed allOf sameBytes linesFrom
-    isComment tokensFrom padded namesFrom someLong atomOf withName withNames rowsOf nodeOf kindOf isName depth
+    isComment tokensFrom padded namesFrom someLong atomOf withName withNames rowsOf nodeOf kindOf isName depthOf
     withForm itemsOf literalsOf lineOf someOn plainAtoms negatedAtoms encoded saidBy formRefusal lineRefusal saidAfter
     clauseWords ending readLines readFile constraintWords formulaNodes isSentence areNamed isLine
 marked-rows = refl

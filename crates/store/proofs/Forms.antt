@@ -12,11 +12,11 @@ use Rattle.logic.specs.Formula.{Formula}
 use Rattle.program.specs.declared.case.Case.{Case}
 use Rattle.grammar.specs.declared.line.Form.{Form}
 use Rattle.grammar.specs.declared.line.Form.the-variants.{Skipped, NoForm, Fact, Assumption, Rule, Never, Seen, Query}
-use Rattle.grammar.specs.Line.{Line}
+use Rattle.grammar.specs.Line.{Line, isDeep}
 use Rattle.grammar.specs.LineOf.{isNoForm}
 use Rattle.grammar.specs.Parsing.{FormIs}
 use Rattle.store.specs.Saying.{Said}
-use Rattle.store.specs.Checking.{isDeep, isOneTooMany, isSecondQuery}
+use Rattle.store.specs.Checking.{isOneTooMany, isSecondQuery}
 use Rattle.store.specs.Tables.{formulaNodes, caseSaid}
 use Rattle.store.specs.Held.{Limits}
 
@@ -96,7 +96,7 @@ form-many l (Seen at) y st h = rw (h .line-is)
 form-many l (Query at d) y st h = rw (h .line-is)
 
 -- formulas that have at least a node each have a node where there is one of them
-node-each : (fs : List Formula) → length fs ≤ length (formulaNodes fs)
+pub node-each : (fs : List Formula) → length fs ≤ length (formulaNodes fs)
     → leb 1 (length (formulaNodes fs)) ≡ leb 1 (length fs)
 unfolding formulaNodes
 node-each [] h = refl

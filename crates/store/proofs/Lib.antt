@@ -2,6 +2,7 @@
 -- Formulas: the atoms of a formula, and the nodes of a form.
 -- Encoded: formulas by atom numbers.
 -- Literals: the words of literals.
+-- Renaming: literals and formulas by more names.
 -- Forms: the checks of a form found in a line.
 -- StoringMasks: the words of the atoms of literals.
 -- StoringNodes: the nodes of formulas.
@@ -11,6 +12,7 @@
 pub mod Formulas
 pub mod Encoded
 pub mod Literals
+pub mod Renaming
 pub mod Forms
 pub mod StoringMasks
 pub mod StoringNodes

@@ -1,7 +1,7 @@
 -- Laws of the words that hold the atoms of literals: their bits name one of the atoms, and one literal gives a bit.
 -- Assumes nothing.
 use mathlib.Core.Path.{_≡_, refl, sym, _∙_}
-use mathlib.Core.Bool.{Bool, true, false, not, and-false, false≢true}
+use mathlib.Core.Bool.{Bool, true, false, not, _&&_, and-false, false≢true}
 use mathlib.Core.List.{List, [], _∷_}
 use Prim.Native.Nat.{ℕ, _^_, _≤_, _<_}
 use native.Mathlib.Omega.{arith}
@@ -9,6 +9,7 @@ use lib.Dec.{eqb}
 use lib.Pow.{pow-pos}
 use borrow.Author.Tests.{eq-eqb, ne-eqb}
 use lib.ListN.{length}
+use Rattle.words.specs.Choice.{pick}
 use Rattle.words.specs.Bits.{has, word}
 use Rattle.words.proofs.Bits.{has-zero, has-above}
 use Rattle.words.proofs.Words.{word-lt, has-word, is-word, lt-of-bits}
@@ -18,8 +19,11 @@ use Rattle.grammar.proofs.Names.{EachLiteral}
 use Rattle.grammar.proofs.Shapes.{Bodied}
 use Rattle.names.specs.Names.{atomOf}
 use Rattle.store.specs.Saying.{someOn, plainAtoms, negatedAtoms, orAtoms}
-use Rattle.store.specs.Storing.{isOn}
 use Rattle.store.proofs.Encoded.{Known}
+
+-- the literal is on atom a, with or without negation as b says
+abbrev pub isOn : List (List ℕ) → Bool → ℕ → Literal → Bool
+isOn ns b a (Literal.literal n w) = pick b n (not n) && eqb (atomOf ns w) a
 
 -- a word whose bits are all below n
 pub word-below : (p : ℕ → Bool) (n : ℕ) → n ≤ 64 → ((a : ℕ) → n ≤ a → p a ≡ false) → word 64 p < 2 ^ n

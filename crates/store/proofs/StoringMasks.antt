@@ -22,7 +22,8 @@ use Rattle.grammar.specs.Parsing.{bodyIn}
 use Rattle.names.specs.Names.{atomOf}
 use Rattle.names.specs.Held.{Holds, FoundIn}
 use Rattle.store.specs.Saying.{someOn, plainAtoms, negatedAtoms}
-use Rattle.store.specs.Storing.{isOn, withAtom, Known, LiteralsKnown, MasksStored}
+use Rattle.store.specs.Storing.{withAtom, Known, LiteralsKnown, MasksStored}
+use Rattle.store.proofs.Literals.{isOn}
 
 -- Words of atoms
 

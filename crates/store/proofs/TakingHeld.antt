@@ -25,10 +25,14 @@ use Rattle.store.specs.Lent.{Lent, lent}
 use Rattle.store.specs.Held.{Long, Limits, Held, Spoilt}
 use Rattle.store.specs.Saying.{Said, ClauseRow, ConstraintRow, plainAtoms, negatedAtoms, encoded, clauseRow}
 use Rattle.store.specs.Saying.{constraintRow, renamed, withClause, withConstraint, withObserved, withQuery}
-use Rattle.store.specs.Tables.{clauseWords, constraintWords, formulaNodes}
+use Rattle.store.specs.Tables.{caseWith, clauseWords, constraintWords, formulaNodes}
 use Rattle.store.specs.Storing.{Known, SentenceKnown}
-use Rattle.store.specs.Taking.{withAtomCount, ClauseStored, ConstraintStored, ObservedStored, QueryStored}
+use Rattle.store.specs.Taking.{ClauseStored, ConstraintStored, ObservedStored, QueryStored}
 use Rattle.store.proofs.TakingRows.{formula-nodes-push, formula-nodes-none}
+
+-- c with a number of atoms
+abbrev pub withAtomCount : Case → ℕ → Case
+withAtomCount c n = caseWith n (c .clauses) (c .constraints) (c .nodes) (c .plain) (c .negated)
 
 -- a formula names something
 sentence-known-some : {ns : List (List ℕ)} {f : Sentence} → SentenceKnown ns f → 1 ≤ length ns

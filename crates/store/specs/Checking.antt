@@ -1,23 +1,12 @@
--- The checks of a line's form, in the code's cases.
+-- The checks 9 and 10 of a line's form, in the code's cases.
 --
---   isDeep x              7: its formula is deeper than 16
 --   isOneTooMany st x     9: behind st it is a 257th clause or a 33rd constraint
 --   isSecondQuery st x    10: behind st it is a second query
 use mathlib.Core.Bool.{Bool, false}
-use lib.Dec.{ltb, leb}
+use lib.Dec.{leb}
 use lib.ListN.{length}
-use Rattle.formulas.specs.Parsing.{depthOf}
 use Rattle.grammar.specs.Line.{Line}
 use Rattle.store.specs.Saying.{Said}
-
--- 7: the formula is deeper than 16
-abbrev pub isDeep : Line → Bool
-isDeep Line.skipped = false
-isDeep Line.noForm = false
-isDeep (Line.clause k w l) = false
-isDeep (Line.never l) = false
-isDeep (Line.seen x) = false
-isDeep (Line.query f) = ltb 16 (depthOf f)
 
 -- 9: the line is a 257th clause or a 33rd constraint
 abbrev pub isOneTooMany : Said → Line → Bool

@@ -5,12 +5,12 @@
 --   Pushed ..            one node more
 --   NodesStored ..       the nodes of the formula at a place of a line
 use mathlib.Core.Path.{_≡_}
-use mathlib.Core.Bool.{Bool, not, _&&_}
+use mathlib.Core.Bool.{Bool}
 use mathlib.Core.List.{List, [], _∷_, _++_}
 use mathlib.Core.Option.{Option}
 use Prim.Native.Nat.{ℕ, _+_, _^_, _≤_, _<_}
 use lib.Bits.{bitOr}
-use lib.Dec.{eqb, ltb}
+use lib.Dec.{ltb}
 use lib.ListN.{length, drop}
 use Rattle.words.specs.Choice.{pick}
 use Rattle.logic.specs.Nodes.{nodes}
@@ -24,10 +24,6 @@ use Rattle.names.specs.Names.{atomOf}
 use Rattle.names.specs.Held.{Named, Holds}
 use Rattle.store.specs.Saying.{plainAtoms, negatedAtoms, encoded}
 
--- the literal is on atom a, with or without negation as b says
-abbrev pub isOn : List (List ℕ) → Bool → ℕ → Literal → Bool
-isOn ns b a (Literal.literal n w) = pick b n (not n) && eqb (atomOf ns w) a
-
 abbrev pub withAtom : ℕ → ℕ → ℕ
 withAtom w a = pick (ltb a 64) (bitOr w (2 ^ a)) w
 
@@ -39,7 +35,8 @@ pub record Known (ns : List (List ℕ)) (w : List ℕ) : Type 0 where
 -- each literal's name is known
 pub data LiteralsKnown (ns : List (List ℕ)) : List Literal → Type 0 where
   none : LiteralsKnown ns []
-  more : {b : Bool} {w : List ℕ} {l : List Literal} → Known ns w → LiteralsKnown ns l → LiteralsKnown ns (Literal.literal b w ∷ l)
+  more : {b : Bool} {w : List ℕ} {l : List Literal} → Known ns w → LiteralsKnown ns l
+      → LiteralsKnown ns (Literal.literal b w ∷ l)
 
 -- each name of a formula is known
 pub data SentenceKnown (ns : List (List ℕ)) : Sentence → Type 0 where
@@ -72,7 +69,8 @@ pub record NodesPut (l : List ℕ) (next : ℕ) (m : List Item) (xs ys old u : L
   pub len-is : length (xs ++ ys) ≡ len
   pub table-is : u ≡ filled 128 (xs ++ ys) old
 
-pub record NodesStored (l : List ℕ) (at : ℕ) (t : List ℕ) (count : ℕ) (u : List ℕ) (len next r : ℕ) (v : List ℕ) : Type 0 where
+pub record NodesStored (l : List ℕ) (at : ℕ) (t : List ℕ) (count : ℕ) (u : List ℕ) (len next r : ℕ) (v : List ℕ)
+    : Type 0 where
   pub onward : at ≤ next
   pub len-kept : length v ≡ length u
   pub put : (ns : List (List ℕ)) (namesOld : List ℕ) (f : Sentence) (m : List Item) (xs old : List ℕ)

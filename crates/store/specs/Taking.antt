@@ -60,10 +60,6 @@ PartsInside l (Query at d) = Unit {0}
 abbrev pub withCounts : Case → ℕ → ℕ → ℕ → Case
 withCounts c clauses constraints nodes = caseWith (c .atoms) clauses constraints nodes (c .plain) (c .negated)
 
--- c with a number of atoms
-abbrev pub withAtomCount : Case → ℕ → Case
-withAtomCount c n = caseWith n (c .clauses) (c .constraints) (c .nodes) (c .plain) (c .negated)
-
 -- c with the observed atoms
 abbrev pub withAtoms : Case → ℕ → ℕ → Case
 withAtoms c plain negated = caseWith (c .atoms) (c .clauses) (c .constraints) (c .nodes) plain negated

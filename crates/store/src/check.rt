@@ -2,11 +2,11 @@
 ghost use mathlib.Core.Path.{_≡_};
 ghost use mathlib.Core.List.{List};
 ghost use Prim.Native.Nat.{ℕ};
-ghost use Rattle.grammar.specs.Line.{Line};
+ghost use Rattle.grammar.specs.Line.{Line, isDeep};
 ghost use Rattle.grammar.specs.LineOf.{isNoForm};
 ghost use Rattle.grammar.specs.Parsing.{FormIs};
 ghost use Rattle.store.specs.Saying.{Said};
-ghost use Rattle.store.specs.Checking.{isDeep, isOneTooMany, isSecondQuery};
+ghost use Rattle.store.specs.Checking.{isOneTooMany, isSecondQuery};
 ghost use Rattle.store.specs.Tables.{caseSaid};
 ghost use Rattle.store.specs.Held.{Limits};
 use grammar::line::Form;

@@ -1,16 +1,13 @@
 -- `reader::read_lines` meets its contract. The loop's invariant, LinesTaken, says that the file's outcome is that of
 -- the lines left, behind what was read; the measure is what is left of the file. Assumes nothing.
-use mathlib.Core.Path.{sym, _∙_}
 use mathlib.Core.List.{List}
 use Prim.Native.Nat.{ℕ, _+_, _-_}
 use native.Mathlib.Omega.{arith}
 use lib.ListN.{length}
 use borrow.Author.Needs.{needs}
-use borrow.Author.Tests.{not-true, not-false}
 use Rattle.store.specs.Lent.{Lent, lent}
 use Rattle.reader.proofs.ReadingLines.{LinesTaken, no-lines-taken, line-taken, line-refused, line-refused-long}
-use Rattle.reader.proofs.ReadingEnds.{lines-read-lengths, refused-read, causes-countable, read-without-query}
-use Rattle.reader.proofs.ReadingEnds.{read-many-causes, read-case}
+use Rattle.reader.proofs.ReadingEnds.{lines-read-lengths, refused-read, causes-countable, read-ended, read-case}
 use Rattle.reader.proofs.read.read_lines.Statement.{statement}
 use Rattle.reader.proofs.read.read_lines.Tie as tie
 
@@ -23,12 +20,16 @@ abbrev μ-loop : tie.MeasureT-loop
     length file + 1 - at
 
 zero-requires : tie.Need-zero-requires Inv-loop μ-loop
-zero-requires c κs = c .before .before .before .before .before .before .before .before .before .pre .0
+zero-requires c κs =
+    let a = c .before .before .before .before in
+    a .before .before .before .before .before .pre .0
 
 loop-holds : tie.Need-loop-holds Inv-loop μ-loop
 loop-holds c =
-    let z = c .before .before .before .before .before .before .before .before in
-    let s = z .before .before .before .before .before .before .before .before .before .before in
+    let z₀ = c .before .before .before .before in
+    let z = z₀ .before .before .before .before in
+    let s₀ = z .before .before .before .before .before in
+    let s = s₀ .before .before .before .before .before in
     let a = s .args in
     let f : List ℕ = a .file .now in
     let t₀ : Lent = lent (a .clauses .now) (a .constraints .now) (a .formula .now) (a .names .now) in
@@ -58,35 +59,45 @@ enum-known-next c = search needs
 
 add-at : tie.Need-add-at Inv-loop μ-loop
 add-at c =
-    let k = c .before .before .before .before .before .before .before .before .before .before .before in
+    let k₀ = c .before .before .before .before .before in
+    let k = k₀ .before .before .before .before .before .before in
     let e = k .before .before .before .before .before .before in
-    let z = e .before .before .before .before .before .before .before .before .before .before .before in
-    let s = z .before .before .before .before .before .before .before .before .before .before in
+    let z₀ = e .before .before .before .before .before in
+    let z = z₀ .before .before .before .before .before .before in
+    let s₀ = z .before .before .before .before .before in
+    let s = s₀ .before .before .before .before .before in
     omega (arith, e .line-end .ensures .within, s .pre .1)
 
 add-line : tie.Need-add-line Inv-loop μ-loop
 add-line c =
-    let k = c .before .before .before .before .before .before .before .before .before .before .before in
+    let k₀ = c .before .before .before .before .before in
+    let k = k₀ .before .before .before .before .before .before in
     let i = k .before .before .before .before .before .before .before in
     let l = i .before in
-    let z = l .before .before .before .before .before .before .before .before .before in
-    let s = z .before .before .before .before .before .before .before .before .before .before in
+    let z₀ = l .before .before .before .before in
+    let z = z₀ .before .before .before .before .before in
+    let s₀ = z .before .before .before .before .before in
+    let s = s₀ .before .before .before .before .before in
     omega (arith, l .loop .inv .counted, i .loop-test .taken, s .pre .1)
 
 loop-less : tie.Need-loop-less Inv-loop μ-loop
 loop-less c =
-    let k = c .before .before .before .before .before .before .before .before .before .before .before in
+    let k₀ = c .before .before .before .before .before in
+    let k = k₀ .before .before .before .before .before .before in
     let e = k .before .before .before .before .before .before in
     omega (arith, e .line-end .ensures .onward, e .before .loop-test .taken)
 
 loop-again : tie.Need-loop-again Inv-loop μ-loop
 loop-again c =
     let n = c .before in
-    let k = n .before .before .before .before .before .before .before .before .before .before in
+    let k₀ = n .before .before .before .before .before in
+    let k = k₀ .before .before .before .before .before in
     let e = k .before .before .before .before .before .before in
     let l = e .before .before in
-    let z = l .before .before .before .before .before .before .before .before .before in
-    let s = z .before .before .before .before .before .before .before .before .before .before in
+    let z₀ = l .before .before .before .before in
+    let z = z₀ .before .before .before .before .before in
+    let s₀ = z .before .before .before .before .before in
+    let s = s₀ .before .before .before .before .before in
     let f : List ℕ = s .args .file .now in
     let o = z .zero .last in
     let old : Lent = lent (o .0) (o .1 .0) (o .1 .1 .0) (o .1 .1 .1 .0) in
@@ -104,11 +115,14 @@ enum-known-number c = search needs
 zero-requires-2 : tie.Need-zero-requires-2 Inv-loop μ-loop
 zero-requires-2 c κs =
     let n = c .before .before .before .before .before in
-    let k = n .before .before .before .before .before .before .before .before .before .before in
+    let k₀ = n .before .before .before .before .before in
+    let k = k₀ .before .before .before .before .before in
     let e = k .before .before .before .before .before .before in
     let l = e .before .before in
-    let z = l .before .before .before .before .before .before .before .before .before in
-    let s = z .before .before .before .before .before .before .before .before .before .before in
+    let z₀ = l .before .before .before .before in
+    let z = z₀ .before .before .before .before .before in
+    let s₀ = z .before .before .before .before .before in
+    let s = s₀ .before .before .before .before .before in
     let o = z .zero .last in
     let old : Lent = lent (o .0) (o .1 .0) (o .1 .1 .0) (o .1 .1 .1 .0) in
     let h = l .loop in
@@ -125,13 +139,17 @@ refused-requires c κs = tt
 
 returns : tie.Need-returns Inv-loop μ-loop
 returns c =
-    let w = c .before .before .before .before .before .before .before .before .before in
+    let w₀ = c .before .before .before .before in
+    let w = w₀ .before .before .before .before .before in
     let n = w .before .before .before .before .before .before in
-    let k = n .before .before .before .before .before .before .before .before .before .before in
+    let k₀ = n .before .before .before .before .before in
+    let k = k₀ .before .before .before .before .before in
     let e = k .before .before .before .before .before .before in
     let l = e .before .before in
-    let z = l .before .before .before .before .before .before .before .before .before in
-    let s = z .before .before .before .before .before .before .before .before .before .before in
+    let z₀ = l .before .before .before .before in
+    let z = z₀ .before .before .before .before .before in
+    let s₀ = z .before .before .before .before .before in
+    let s = s₀ .before .before .before .before .before in
     let a = s .args in
     let f : List ℕ = a .file .now in
     let t₀ : Lent = lent (a .clauses .now) (a .constraints .now) (a .formula .now) (a .names .now) in
@@ -164,20 +182,40 @@ same-length-3 c = lines-read-lengths (returns c) .formula-same
 same-length-4 : tie.Need-same-length-4 Inv-loop μ-loop
 same-length-4 c = lines-read-lengths (returns c) .names-same
 
+end-refusal-requires : tie.Need-end-refusal-requires Inv-loop μ-loop
+end-refusal-requires c κs =
+    let l = c .before .before in
+    let z₀ = l .before .before .before .before in
+    let z = z₀ .before .before .before .before .before in
+    let s₀ = z .before .before .before .before .before in
+    let s = s₀ .before .before .before .before .before in
+    let f : List ℕ = s .args .file .now in
+    let o = z .zero .last in
+    let old : Lent = lent (o .0) (o .1 .0) (o .1 .1 .0) (o .1 .1 .1 .0) in
+    let h = l .loop in
+    let t : Lent = lent (h .clauses) (h .constraints) (h .formula) (h .names) in
+    causes-countable f old t (h .c) (h .at) (h .line) (h .inv)
+
 zero-requires-3 : tie.Need-zero-requires-3 Inv-loop μ-loop
-zero-requires-3 c κs = c .before .before .before .before .before .before .before .loop .inv .long
+zero-requires-3 c κs =
+    let i = c .before .before .before .before in
+    i .before .before .before .before .loop .inv .long
 
 refused-requires-2 : tie.Need-refused-requires-2 Inv-loop μ-loop
 refused-requires-2 c κs = tt
 
 returns-2 : tie.Need-returns-2 Inv-loop μ-loop
 returns-2 c =
-    let w = c .before .before .before .before .before .before .before .before .before in
+    let w₀ = c .before .before .before .before in
+    let w = w₀ .before .before .before .before .before in
     let i = w .before .before .before .before .before in
-    let x = i .before .before in
+    let q = i .before in
+    let x = q .before .before in
     let l = x .before in
-    let z = l .before .before .before .before .before .before .before .before .before in
-    let s = z .before .before .before .before .before .before .before .before .before .before in
+    let z₀ = l .before .before .before .before in
+    let z = z₀ .before .before .before .before .before in
+    let s₀ = z .before .before .before .before .before in
+    let s = s₀ .before .before .before .before .before in
     let a = s .args in
     let f : List ℕ = a .file .now in
     let t₀ : Lent = lent (a .clauses .now) (a .constraints .now) (a .formula .now) (a .names .now) in
@@ -187,8 +225,9 @@ returns-2 c =
     let t : Lent = lent (h .clauses) (h .constraints) (h .formula) (h .names) in
     let y = w .zero3 .last in
     let v : Lent = lent (y .0) (y .1 .0) (y .1 .1 .0) (y .1 .1 .1 .0) in
-    read-without-query f old t (h .c) (h .at) (h .line) (h .inv) t₀ (x .loop-test .left) (z .zero .ensures)
-    v (c .refused2 .result) (i .if1 .taken) (w .zero3 .ensures) (c .refused2 .ensures)
+    read-ended f old t (h .c) (h .at) (h .line) (h .inv) t₀ (x .loop-test .left) (z .zero .ensures)
+    (q .end-refusal .result) (q .end-refusal .ensures) v (c .refused2 .result) (i .if1 .taken) (w .zero3 .ensures)
+    (c .refused2 .ensures)
 
 same-length-5 : tie.Need-same-length-5 Inv-loop μ-loop
 same-length-5 c = lines-read-lengths (returns-2 c) .clauses-same
@@ -202,37 +241,15 @@ same-length-7 c = lines-read-lengths (returns-2 c) .formula-same
 same-length-8 : tie.Need-same-length-8 Inv-loop μ-loop
 same-length-8 c = lines-read-lengths (returns-2 c) .names-same
 
-causes-few-requires : tie.Need-causes-few-requires Inv-loop μ-loop
-causes-few-requires c κs =
-    let i = c .before in
-    let l = i .before .before .before in
-    let z = l .before .before .before .before .before .before .before .before .before in
-    let s = z .before .before .before .before .before .before .before .before .before .before in
-    let f : List ℕ = s .args .file .now in
-    let o = z .zero .last in
-    let old : Lent = lent (o .0) (o .1 .0) (o .1 .1 .0) (o .1 .1 .1 .0) in
-    let h = l .loop in
-    let t : Lent = lent (h .clauses) (h .constraints) (h .formula) (h .names) in
-    causes-countable f old t (h .c) (h .at) (h .line) (h .inv) (i .if1 .left)
-
-zero-requires-4 : tie.Need-zero-requires-4 Inv-loop μ-loop
-zero-requires-4 c κs =
-    let l = c .before .before .before .before .before .before .before .before .before .before in
-    l .loop .inv .long
-
-refused-requires-3 : tie.Need-refused-requires-3 Inv-loop μ-loop
-refused-requires-3 c κs = tt
-
 returns-3 : tie.Need-returns-3 Inv-loop μ-loop
 returns-3 c =
-    let w = c .before .before .before .before .before .before .before .before .before in
-    let j = w .before .before .before .before .before in
-    let q = j .before in
-    let i = q .before .before in
-    let x = i .before .before in
+    let q = c .before in
+    let x = q .before .before in
     let l = x .before in
-    let z = l .before .before .before .before .before .before .before .before .before in
-    let s = z .before .before .before .before .before .before .before .before .before .before in
+    let z₀ = l .before .before .before .before in
+    let z = z₀ .before .before .before .before .before in
+    let s₀ = z .before .before .before .before .before in
+    let s = s₀ .before .before .before .before .before in
     let a = s .args in
     let f : List ℕ = a .file .now in
     let t₀ : Lent = lent (a .clauses .now) (a .constraints .now) (a .formula .now) (a .names .now) in
@@ -240,11 +257,8 @@ returns-3 c =
     let old : Lent = lent (o .0) (o .1 .0) (o .1 .1 .0) (o .1 .1 .1 .0) in
     let h = l .loop in
     let t : Lent = lent (h .clauses) (h .constraints) (h .formula) (h .names) in
-    let y = w .zero4 .last in
-    let v : Lent = lent (y .0) (y .1 .0) (y .1 .1 .0) (y .1 .1 .1 .0) in
-    let few = sym (q .causes-few .ensures) ∙ not-true (q .causes-few .result) (j .if2 .taken) in
-    read-many-causes f old t (h .c) (h .at) (h .line) (h .inv) t₀ (x .loop-test .left) (z .zero .ensures)
-    v (c .refused3 .result) (i .if1 .left) few (w .zero4 .ensures) (c .refused3 .ensures)
+    read-case f old t (h .c) (h .at) (h .line) (h .inv) t₀ (x .loop-test .left) (z .zero .ensures)
+    (q .end-refusal .result) (q .end-refusal .ensures) (c .if1 .left)
 
 same-length-9 : tie.Need-same-length-9 Inv-loop μ-loop
 same-length-9 c = lines-read-lengths (returns-3 c) .clauses-same
@@ -258,43 +272,11 @@ same-length-11 c = lines-read-lengths (returns-3 c) .formula-same
 same-length-12 : tie.Need-same-length-12 Inv-loop μ-loop
 same-length-12 c = lines-read-lengths (returns-3 c) .names-same
 
-returns-4 : tie.Need-returns-4 Inv-loop μ-loop
-returns-4 c =
-    let q = c .before in
-    let i = q .before .before in
-    let x = i .before .before in
-    let l = x .before in
-    let z = l .before .before .before .before .before .before .before .before .before in
-    let s = z .before .before .before .before .before .before .before .before .before .before in
-    let a = s .args in
-    let f : List ℕ = a .file .now in
-    let t₀ : Lent = lent (a .clauses .now) (a .constraints .now) (a .formula .now) (a .names .now) in
-    let o = z .zero .last in
-    let old : Lent = lent (o .0) (o .1 .0) (o .1 .1 .0) (o .1 .1 .1 .0) in
-    let h = l .loop in
-    let t : Lent = lent (h .clauses) (h .constraints) (h .formula) (h .names) in
-    let few = sym (q .causes-few .ensures) ∙ not-false (q .causes-few .result) (c .if2 .left) in
-    read-case f old t (h .c) (h .at) (h .line) (h .inv) t₀ (x .loop-test .left) (z .zero .ensures)
-    (i .if1 .left) few
-
-same-length-13 : tie.Need-same-length-13 Inv-loop μ-loop
-same-length-13 c = lines-read-lengths (returns-4 c) .clauses-same
-
-same-length-14 : tie.Need-same-length-14 Inv-loop μ-loop
-same-length-14 c = lines-read-lengths (returns-4 c) .constraints-same
-
-same-length-15 : tie.Need-same-length-15 Inv-loop μ-loop
-same-length-15 c = lines-read-lengths (returns-4 c) .formula-same
-
-same-length-16 : tie.Need-same-length-16 Inv-loop μ-loop
-same-length-16 c = lines-read-lengths (returns-4 c) .names-same
-
 pub read-lines-spec : {M : Type 1} → statement M
 read-lines-spec =
     tie.close
     (tie.spec Inv-loop μ-loop zero-requires loop-holds line-end-requires sub-take-line part-take-line-start
     part-take-line-end take-line-requires enum-known-next add-at add-line loop-less loop-again enum-known-number
-    zero-requires-2 refused-requires same-length same-length-2 same-length-3 same-length-4 returns zero-requires-3
-    refused-requires-2 same-length-5 same-length-6 same-length-7 same-length-8 returns-2 causes-few-requires
-    zero-requires-4 refused-requires-3 same-length-9 same-length-10 same-length-11 same-length-12 returns-3
-    same-length-13 same-length-14 same-length-15 same-length-16 returns-4)
+    zero-requires-2 refused-requires same-length same-length-2 same-length-3 same-length-4 returns
+    end-refusal-requires zero-requires-3 refused-requires-2 same-length-5 same-length-6 same-length-7 same-length-8
+    returns-2 same-length-9 same-length-10 same-length-11 same-length-12 returns-3)

@@ -9,18 +9,22 @@ zero-words-requires c κs = omega (arith, c .before .before .before .before .bef
 
 zero-words-requires-2 : tie.Need-zero-words-requires-2
 zero-words-requires-2 c κs =
-    let s = c .before .before .before .before .before .before .before .before .before in
+    let cl = c .before .before .before .before in
+    let s = cl .before .before .before .before .before in
     omega (arith, s .pre .constraints-long)
 
 zero-bytes-requires : tie.Need-zero-bytes-requires
 zero-bytes-requires c κs =
-    let m = c .before .before .before .before .before .before .before .before .before in
-    omega (arith, m .before .before .before .before .pre .formula-long)
+    let co = c .before .before .before .before in
+    let cl = co .before .before .before .before in
+    omega (arith, cl .before .before .before .before .before .pre .formula-long)
 
 zero-bytes-requires-2 : tie.Need-zero-bytes-requires-2
 zero-bytes-requires-2 c κs =
-    let m = c .before .before .before .before .before .before .before .before .before in
-    omega (arith, m .before .before .before .before .before .before .before .before .pre .names-long)
+    let fo = c .before .before .before .before in
+    let co = fo .before .before .before .before in
+    let cl = co .before .before .before .before in
+    omega (arith, cl .before .before .before .before .before .pre .names-long)
 
 returns : tie.Need-returns
 returns c =

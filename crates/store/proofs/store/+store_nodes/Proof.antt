@@ -83,11 +83,12 @@ pub +store-nodes-spec : {M : Type 1} → statement M
     (λ c. search needs)
     (λ c. let b = c .before .before .before .before in
     let d = b .before .before .before .before in
-    negation-stored (head t (d .before .before)) (d .push2 .ensures) (b .store-nodes .ensures) (c .behind-close .ensures)
-    (c .before .if1 .taken))
+    negation-stored (head t (d .before .before)) (d .push2 .ensures) (b .store-nodes .ensures)
+    (c .behind-close .ensures) (c .before .if1 .taken))
     (λ c κs. let b = c .before .before .before .before in
     let d = b .before .before .before .before in
-    let g = d .before .before .before .before .before .before .before .before .before .before .before .before .before .before in
+    let e = d .before .before .before .before .before .before .before in
+    let g = e .before .before .before .before .before .before .before in
     let q = head t (d .before .before) in
     let o = b .store-nodes .ensures in
     let p = g .pre in (

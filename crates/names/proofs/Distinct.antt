@@ -1,6 +1,7 @@
 -- Names that differ from each other.
 --
 --   Distinct ns     no name stands twice in ns
+-- Assumes nothing.
 use mathlib.Core.Path.{_≡_}
 use mathlib.Core.List.{List, []}
 use Prim.Native.Nat.{ℕ, _<_}

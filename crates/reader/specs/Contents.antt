@@ -1,0 +1,101 @@
+-- What a case file says, from its lines to clauses, constraints, observed literals, query and names; and what it is for
+-- a record and tables to say the same.
+-- From: document 01, "The file", "Interpretations and the step" and "Case tables and sound cases".
+--
+--   formOf l             the form of the line l; a comment says nothing
+--   namesOf l            the names of the line l in order; a comment has none
+--   fileNames f          the names of the file f in the order of first appearance: the a-th is the name of atom a
+--   bodyOf ns ls         the body with the literals ls, by the names ns
+--   Content              clauses, bodies of constraints, observed literals and queries, in file order
+--   contentOf ns x       what the form x says, by the names ns
+--   fileContent f        what the lines of the file f say, by its names
+--   constraintsOf co n   the bodies of the first n constraints of a table
+--   Says f c t           the record c and the tables t say what the file f says
+use mathlib.Core.Path.{_≡_}
+use mathlib.Core.List.{List, [], _∷_, _++_}
+use Prim.Native.Nat.{ℕ, zero, suc, _+_, _*_, _<_}
+use lib.ListN.{length, getD, take}
+use lib.Seq.{slice}
+use Rattle.words.specs.Choice.{pick}
+use Rattle.logic.specs.Formula.{Formula, body}
+use Rattle.logic.specs.Nodes.{formulaOf}
+use Rattle.program.specs.declared.case.Case.{Case}
+use Rattle.program.specs.Case.{forbidden, forbiddenNot}
+use Rattle.program.specs.Program.{Clause, clause, byKind, clausesOf}
+use Rattle.text.specs.Lines.{lines, isComment}
+use Rattle.text.specs.Tokens.{tokens}
+use Rattle.table.specs.Filled.{padded}
+use Rattle.grammar.specs.Line.{Line, Literal}
+use Rattle.grammar.specs.LineOf.{lineOf}
+use Rattle.names.specs.Names.{namesIn, atomOf, withNames}
+use Rattle.store.specs.Lent.{Lent}
+use Rattle.store.specs.Saying.{plainAtoms, negatedAtoms, encoded}
+
+unfoldable pub formOf : List ℕ → Line
+formOf l = pick (isComment l) Line.skipped (lineOf (tokens l))
+
+unfoldable pub namesOf : List ℕ → List (List ℕ)
+namesOf l = pick (isComment l) [] (namesIn (tokens l))
+
+-- the names of lines, one line after the other
+unfoldable pub namesThrough : List (List ℕ) → List (List ℕ)
+namesThrough [] = []
+namesThrough (l ∷ ls) = namesOf l ++ namesThrough ls
+
+abbrev pub fileNames : List ℕ → List (List ℕ)
+fileNames f = withNames [] (namesThrough (lines f))
+
+abbrev pub bodyOf : List (List ℕ) → List Literal → Formula
+bodyOf ns ls = body (plainAtoms ns ls) (negatedAtoms ns ls)
+
+pub record Content : Type 0 where
+  pub clauses : List Clause
+  pub constraints : List Formula
+  pub observed : List Literal
+  pub queries : List Formula
+
+-- a content by its parts
+abbrev pub content : List Clause → List Formula → List Literal → List Formula → Content
+content cs ds ls fs = record { clauses = cs; constraints = ds; observed = ls; queries = fs }
+
+abbrev pub noContent : Content
+noContent = content [] [] [] []
+
+-- what x says, and behind it what y says
+abbrev pub andThen : Content → Content → Content
+andThen x y =
+    content (x .clauses ++ y .clauses) (x .constraints ++ y .constraints) (x .observed ++ y .observed)
+    (x .queries ++ y .queries)
+
+-- a clause has its head's atom, and the body true (a fact), false (an assumption) or of its literals (a rule)
+unfoldable pub contentOf : List (List ℕ) → Line → Content
+contentOf ns Line.skipped = noContent
+contentOf ns Line.noForm = noContent
+contentOf ns (Line.clause k w l) = content (clause (atomOf ns w) (byKind k (bodyOf ns l)) ∷ []) [] [] []
+contentOf ns (Line.never l) = content [] (bodyOf ns l ∷ []) [] []
+contentOf ns (Line.seen x) = content [] [] (x ∷ []) []
+contentOf ns (Line.query f) = content [] [] [] (encoded ns f ∷ [])
+
+-- what lines say, one after the other
+unfoldable pub contents : List (List ℕ) → List (List ℕ) → Content
+contents ns [] = noContent
+contents ns (l ∷ ls) = andThen (contentOf ns (formOf l)) (contents ns ls)
+
+abbrev pub fileContent : List ℕ → Content
+fileContent f = contents (fileNames f) (lines f)
+
+unfoldable pub constraintsOf : List ℕ → ℕ → List Formula
+constraintsOf co zero = []
+constraintsOf co (suc k) = constraintsOf co k ++ (body (forbidden co k) (forbiddenNot co k) ∷ [])
+
+-- row a of the names is the a-th name and zeros; clausesOf is the program that settling takes from the table; the two
+-- observed words have the atoms of the plain and of the negated observed literals; there is one query
+pub record Says (f : List ℕ) (c : Case) (t : Lent) : Type 0 where
+  pub atoms-are : c .atoms ≡ length (fileNames f)
+  pub names-are : (a : ℕ) → a < c .atoms
+      → slice (a * 16) (a * 16 + 16) (t .names) ≡ padded 16 (getD (fileNames f) a [])
+  pub clauses-are : clausesOf (t .clauses) (c .clauses) ≡ fileContent f .clauses
+  pub constraints-are : constraintsOf (t .constraints) (c .constraints) ≡ fileContent f .constraints
+  pub plain-are : c .plain ≡ plainAtoms (fileNames f) (fileContent f .observed)
+  pub negated-are : c .negated ≡ negatedAtoms (fileNames f) (fileContent f .observed)
+  pub query-is : (formulaOf (take (c .nodes) (t .formula)) ∷ []) ≡ fileContent f .queries
