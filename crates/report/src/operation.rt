@@ -79,7 +79,7 @@ fn show_answer(
 
 // Reads a file into lent tables of exactly their sizes, answers its question with a list of 1,024 slots and a work area
 // of 59,049 bytes, and writes the report.
-pub fn report_in(
+fn report_in(
     file: &[u8],
     clauses: &mut [u64],
     constraints: &mut [u64],
