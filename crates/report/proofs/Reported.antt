@@ -32,7 +32,7 @@ use Rattle.report.specs.Report.{clauseTable, constraintTable, formulaTab
 use Rattle.report.specs.Report.{unlessLong, reportText}
 use Rattle.report.proofs.Accepted.{said-sound, said-length, asked-fits, asked-text}
 
-report-long : (f : List ℕ) → 32768 < length f → reportText f ≡ refusalText 2 0
+pub report-long : (f : List ℕ) → 32768 < length f → reportText f ≡ refusalText 2 0
 unfolding reportText
 report-long f h = ap (λ (b : Bool). unlessLong b (outcomeText (readFile f))) (lt-ltb 32768 (length f) h)
 
