@@ -5,9 +5,8 @@ use Prim.Native.Nat.{ℕ, _≤_}
 use native.Mathlib.Nat.{zero-add}
 use lib.ListN.{length}
 use lib.Seq.{sets, sets-eq}
-use Rattle.embed.specs.Words.{answered}
+use Rattle.words.specs.Lists.{over}
 
 -- what storing the words from the first place on leaves
-pub stored-answered : (ws old : List ℕ) → length ws ≤ length old → sets old 0 ws ≡ answered ws old
-unfolding answered
-stored-answered ws old h = rw (zero-add (length ws)) at (sets-eq ws old 0 (rw (zero-add (length ws)) h))
+pub stored-over : (ws old : List ℕ) → length ws ≤ length old → sets old 0 ws ≡ over ws old
+stored-over ws old h = rw (zero-add (length ws)) at (sets-eq ws old 0 (rw (zero-add (length ws)) h))
