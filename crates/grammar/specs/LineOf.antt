@@ -1,5 +1,4 @@
 -- The form of a line, read from its tokens. That this reads exactly the lines that forms spell is a claim (LineExact).
--- From: document 01, refusal 5 ("not a form, with length of names and depth left aside").
 --
 --   literalsOf l    the literals that the items l are, up to the line's closing bracket, or that they are none
 --   lineOf ts       the line with the tokens ts
