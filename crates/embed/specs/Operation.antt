@@ -46,8 +46,8 @@ pub data QuestionOut (c cl co fo list work words : List ℕ) (r : ℕ) (listAfte
       → QuestionOut c cl co fo list work words r listAfter workAfter wordsAfter
   short : length words < 4 → r ≡ 1 → listAfter ≡ list → workAfter ≡ work → wordsAfter ≡ words
       → QuestionOut c cl co fo list work words r listAfter workAfter wordsAfter
-  done : 6 ≤ length c → 4 ≤ length words → (a : asked.Answer) → Asked (caseIn c) cl co fo list work a listAfter workAfter
-      → r ≡ a .refusal
+  done : 6 ≤ length c → 4 ≤ length words → (a : asked.Answer)
+      → Asked (caseIn c) cl co fo list work a listAfter workAfter → r ≡ a .refusal
       → wordsAfter ≡ over (verdictNumber (a .verdict) ∷ a .minimal ∷ a .written ∷ a .rounds ∷ []) words
       → QuestionOut c cl co fo list work words r listAfter workAfter wordsAfter
 

@@ -1,4 +1,5 @@
 -- Records and answers as words, for callers in C and Rust.
+-- From: document 01, "Case tables and sound cases" ("A case record, by value, holds the counts").
 --
 --   caseWords c       the six words of a case record
 --   caseIn w          the case record in the first six of the words w

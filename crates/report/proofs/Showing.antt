@@ -10,7 +10,7 @@ use native.Mathlib.Omega.{arith}
 use lib.ListN.{length, take, drop, length-append}
 use lib.Seq.{take-at}
 use borrow.Author.Tests.{le-leb, lt-leb}
-use Rattle.words.specs.Choice.{unlessRefused, check, firstFailed}
+use Rattle.words.specs.Choice.{check, firstFailed}
 use Rattle.words.specs.Lists.{over}
 use Rattle.words.proofs.Tests.{lt-or-le}
 use Rattle.output.specs.Writing.{Writes}

@@ -1,4 +1,5 @@
 -- What is claimed of reports beyond the contract of *report*. Proved in proofs/Theorems.antt.
+-- From: document 01, "The program `causes`".
 use mathlib.Core.Path.{_≡_}
 use mathlib.Core.List.{List}
 use Prim.Native.Nat.{ℕ, _≤_, _<_}
