@@ -1,2 +1,2 @@
--- Counted: the length of a report counts bytes of the output.
-pub mod Counted
+-- Reports: what the program makes of the report of the bytes read.
+pub mod Reports

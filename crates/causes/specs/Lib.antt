@@ -1,2 +1,2 @@
--- Input: what reading the input gives.
-pub mod Input
+-- Program: what the program's functions promise of what it reads and writes.
+pub mod Program

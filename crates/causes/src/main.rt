@@ -1,48 +1,86 @@
 // The program `causes`: reads a case file from standard input and writes its report to standard output. Where the input
-// cannot be read or the report cannot be written whole, it says so on standard error.
-ghost use Rattle.causes.specs.Input.{Within};
+// cannot be read or the report cannot be written whole, it says so on standard error. It takes no argument.
+ghost use lib.ListN.{length, take};
+ghost use Rattle.causes.specs.Program.{Stopped, Answered, ReportOf};
+use libc::STDERR_FILENO;
 use libc::STDIN_FILENO;
 use libc::STDOUT_FILENO;
 
-// What reading the input gave: how many bytes there are, or that a read failed.
-enum Input {
-    Bytes(usize),
-    Failed,
+// Room for a byte more than a file may have (refusal 2), and for every report (crates/report/specs/Claims.antt).
+const FILE_ROOM: usize = 32769;
+
+const REPORT_ROOM: usize = 264252;
+
+// What reading the input gave: how many bytes, how many of them by the last call of read, and whether that failed.
+struct Input {
+    count: usize,
+    last: usize,
+    failed: bool,
 }
 
-// Reads standard input until it ends or the buffer is full. A read that fails or is interrupted is no end.
+// Reads standard input until the buffer is full, the input ends or a read fails.
 fn read_input(buf: &mut [u8]) -> Input
-    ensures { λ r. ⌜ Within (now (buf .exit)) r ⌝ }
+    ensures { λ r. ⌜ Stopped (now (buf .exit)) r ⌝ }
 {
     let mut done: usize = 0;
+    let mut last: usize = 0;
     while done < buf.len() {
         let got = libc::read(STDIN_FILENO, &mut buf[done..]);
-        if got < 0 {
-            return Input::Failed;
+        last = io::count(got, &buf[done..]);
+        if last == 0 {
+            return Input {
+                count: done,
+                last,
+                failed: got < 0,
+            };
         }
-        let more = io::count(got, &buf[done..]);
-        if more == 0 {
-            return Input::Bytes(done);
-        }
-        done += more;
+        done += last;
     }
-    Input::Bytes(done)
+    Input {
+        count: done,
+        last,
+        failed: false,
+    }
 }
 
-// Writes the report of a file. The output has room for every report (crates/report/specs/Claims.antt, ReportFits).
-fn answer(file: &[u8]) {
-    let mut out = [0u8; 264252];
-    let a = report::operation::report(file, &mut out);
-    let length = a.length;
-    if !io::write_all(STDOUT_FILENO, &out[..length]) {
+// Puts the report of a file in front of an output with room for every report, and answers its length.
+fn answer(file: &[u8], out: &mut [u8; REPORT_ROOM]) -> usize
+    ensures { λ r. ⌜ Answered (now (file .entry)) r (now (out .exit)) ⌝ }
+{
+    let a = report::operation::report(file, out);
+    a.length
+}
+
+// Writes to standard output a text that is the report of the input. The buffer and what reading gave only say of which.
+fn write_report(file: &[u8; FILE_ROOM], input: Input, text: &[u8]) -> bool
+    requires { ⌜ ReportOf (length (now file)) (take (input .count) (now file)) (now text) ⌝ }
+{
+    io::write_all(STDOUT_FILENO, text)
+}
+
+// Reads the input, and writes its report.
+fn run() {
+    let mut file = [0u8; FILE_ROOM];
+    let input = read_input(&mut file);
+    let n = input.count;
+    if input.failed {
+        os::fail(b"causes: standard input");
+        return;
+    }
+    let mut out = [0u8; REPORT_ROOM];
+    let length = answer(&file[..n], &mut out);
+    if !write_report(&file, input, &out[..length]) {
         os::fail(b"causes: standard output");
     }
 }
 
 fn main() {
-    let mut file = [0u8; 32769];
-    match read_input(&mut file) {
-        Input::Bytes(n) => answer(&file[..n]),
-        Input::Failed => os::fail(b"causes: standard input"),
+    if os::arg_count() > 1 {
+        io::write_all(
+            STDERR_FILENO,
+            b"causes: takes no argument, call it so: causes < FILE\n",
+        );
+        return;
     }
+    run()
 }

@@ -11,7 +11,7 @@ use Rattle.text.specs.Bytes.{isWordByte, allOf}
 use Rattle.text.specs.Tokens.{Token, tokens}
 use Rattle.text.proofs.Words.{WordBytes, tokens-word-bytes}
 use Rattle.formulas.specs.Parsing.{Items}
-use Rattle.formulas.specs.Sentence.{Sentence, isName}
+use Rattle.formulas.specs.Sentence.{Sentence, beginsWithLetter}
 use Rattle.formulas.specs.Items.{prepend, Item, withForm, itemsOf}
 use Rattle.formulas.specs.Keyword.{nodeOf, kindOf}
 use Rattle.formulas.proofs.Items.{EachWord}
@@ -55,14 +55,14 @@ picked-some true x h = (refl, h)
 picked-some false x h = absurd h
 
 abbrev Lettered : List ℕ → Type 0
-Lettered w = isName w ≡ true
+Lettered w = beginsWithLetter w ≡ true
 
 items-lettered : (ts : List Token) → Some (itemsOf ts) → Each Lettered (namesFrom false ts)
 unfolding itemsOf namesFrom
 items-lettered [] h = tt
 items-lettered (Token.closing ∷ ts) h = items-lettered ts (item-some Item.closing (itemsOf ts) h)
 items-lettered (Token.word w ∷ ts) h =
-    let p = picked-some (isName w) _ h in
+    let p = picked-some (beginsWithLetter w) _ h in
     (p .0, items-lettered ts (item-some (Item.formula (Sentence.name w)) (itemsOf ts) (p .1)))
 items-lettered (Token.opening ∷ []) h = absurd h
 items-lettered (Token.opening ∷ (Token.opening ∷ ts)) h = absurd h

@@ -13,6 +13,7 @@ use mathlib.Core.Path.{_≡_}
 use mathlib.Core.List.{List, [], _∷_}
 use Prim.Native.Nat.{ℕ, _≤_, _<_}
 use lib.ListN.{length}
+use Rattle.words.specs.Lists.{over}
 use Rattle.settle.specs.declared.operation.Answer as settled
 use Rattle.settle.specs.Operation.{SettledOne}
 use Rattle.reader.specs.declared.read.Answer as found
@@ -23,20 +24,20 @@ use Rattle.question.specs.Operation.{Asked}
 use Rattle.question.specs.Walk.{verdictNumber}
 use Rattle.report.specs.declared.operation.Answer as reported
 use Rattle.report.specs.Operation.{Reported}
-use Rattle.embed.specs.Words.{caseWords, caseIn, answered}
+use Rattle.embed.specs.Words.{caseWords, caseIn}
 
 -- the file f, the tables t at entry and u at exit, the answer's words at entry and at exit
 pub data ReadOut (f : List ℕ) (t u : Lent) (words : List ℕ) (r : ℕ) (wordsAfter : List ℕ) : Type 0 where
   short : length words < 7 → r ≡ 1 → u ≡ t → wordsAfter ≡ words → ReadOut f t u words r wordsAfter
   done : 7 ≤ length words → (a : found.Answer) → ReadAs f t u a → r ≡ a .refusal
-      → wordsAfter ≡ answered (a .line ∷ caseWords (a .found)) words → ReadOut f t u words r wordsAfter
+      → wordsAfter ≡ over (a .line ∷ caseWords (a .found)) words → ReadOut f t u words r wordsAfter
 
 -- the case record's words, the tables, the setting, the answer's words at entry and at exit
 pub data SettleOut (c cl co fo : List ℕ) (s : ℕ) (words : List ℕ) (r : ℕ) (wordsAfter : List ℕ) : Type 0 where
   short-record : length c < 6 → r ≡ 1 → wordsAfter ≡ words → SettleOut c cl co fo s words r wordsAfter
   short : length words < 3 → r ≡ 1 → wordsAfter ≡ words → SettleOut c cl co fo s words r wordsAfter
   done : 6 ≤ length c → 3 ≤ length words → (a : settled.Answer) → SettledOne (caseIn c) cl co fo s a → r ≡ a .refusal
-      → wordsAfter ≡ answered (a .trues ∷ a .falses ∷ a .rounds ∷ []) words → SettleOut c cl co fo s words r wordsAfter
+      → wordsAfter ≡ over (a .trues ∷ a .falses ∷ a .rounds ∷ []) words → SettleOut c cl co fo s words r wordsAfter
 
 -- the case record's words, the tables, and at entry and at exit the list, the work area and the answer's words
 pub data QuestionOut (c cl co fo list work words : List ℕ) (r : ℕ) (listAfter workAfter wordsAfter : List ℕ)
@@ -45,13 +46,13 @@ pub data QuestionOut (c cl co fo list work words : List ℕ) (r : ℕ) (listAfte
       → QuestionOut c cl co fo list work words r listAfter workAfter wordsAfter
   short : length words < 4 → r ≡ 1 → listAfter ≡ list → workAfter ≡ work → wordsAfter ≡ words
       → QuestionOut c cl co fo list work words r listAfter workAfter wordsAfter
-  done : 6 ≤ length c → 4 ≤ length words → (a : asked.Answer) → Asked (caseIn c) cl co fo list work a listAfter workAfter
-      → r ≡ a .refusal
-      → wordsAfter ≡ answered (verdictNumber (a .verdict) ∷ a .minimal ∷ a .written ∷ a .rounds ∷ []) words
+  done : 6 ≤ length c → 4 ≤ length words → (a : asked.Answer)
+      → Asked (caseIn c) cl co fo list work a listAfter workAfter → r ≡ a .refusal
+      → wordsAfter ≡ over (verdictNumber (a .verdict) ∷ a .minimal ∷ a .written ∷ a .rounds ∷ []) words
       → QuestionOut c cl co fo list work words r listAfter workAfter wordsAfter
 
 -- the file f, and at entry and at exit the output and the answer's words
 pub data ReportOut (f out words : List ℕ) (r : ℕ) (outAfter wordsAfter : List ℕ) : Type 0 where
   short : length words < 1 → r ≡ 1 → outAfter ≡ out → wordsAfter ≡ words → ReportOut f out words r outAfter wordsAfter
   done : 1 ≤ length words → (a : reported.Answer) → Reported f out a outAfter → r ≡ a .refusal
-      → wordsAfter ≡ answered (a .length ∷ []) words → ReportOut f out words r outAfter wordsAfter
+      → wordsAfter ≡ over (a .length ∷ []) words → ReportOut f out words r outAfter wordsAfter

@@ -1,11 +1,11 @@
 -- Records and answers as words, for callers in C and Rust.
+-- From: document 01, "Case tables and sound cases" ("A case record, by value, holds the counts").
 --
 --   caseWords c       the six words of a case record
 --   caseIn w          the case record in the first six of the words w
---   answered ws old   lent words old with ws in front, the rest kept
-use mathlib.Core.List.{List, [], _∷_, _++_}
+use mathlib.Core.List.{List, [], _∷_}
 use Prim.Native.Nat.{ℕ}
-use lib.ListN.{length, drop, getD}
+use lib.ListN.{getD}
 use Rattle.program.specs.declared.case.Case.{Case}
 
 abbrev pub caseWords : Case → List ℕ
@@ -20,6 +20,3 @@ caseIn w = record {
   plain = getD w 4 0;
   negated = getD w 5 0;
 }
-
-unfoldable pub answered : List ℕ → List ℕ → List ℕ
-answered ws old = ws ++ drop (length ws) old

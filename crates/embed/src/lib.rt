@@ -5,9 +5,10 @@ ghost use mathlib.Core.Path.{_≡_};
 ghost use mathlib.Core.List.{[], _∷_};
 ghost use Prim.Native.Nat.{_≤_};
 ghost use lib.ListN.{length};
+ghost use Rattle.words.specs.Lists.{over};
 ghost use Rattle.question.specs.Walk.{verdictNumber};
 ghost use Rattle.store.specs.Lent.{lent};
-ghost use Rattle.embed.specs.Words.{caseWords, caseIn, answered};
+ghost use Rattle.embed.specs.Words.{caseWords, caseIn};
 ghost use Rattle.embed.specs.Operation.{ReadOut, SettleOut, QuestionOut, ReportOut};
 use program::case::Case;
 use question::verdict::Verdict;
@@ -42,7 +43,7 @@ fn verdict_number(v: Verdict) -> u64
 // Puts words in front of lent ones.
 fn put_words(answer: &mut [u64], words: &[u64])
     requires { ⌜ length (now words) ≤ length (now answer) ⌝ }
-    ensures { λ _. ⌜ now (answer .exit) ≡ answered (now (words .entry)) (now (answer .entry)) ⌝ }
+    ensures { λ _. ⌜ now (answer .exit) ≡ over (now (words .entry)) (now (answer .entry)) ⌝ }
 {
     let mut i: usize = 0;
     while i < words.len() {
@@ -54,7 +55,7 @@ fn put_words(answer: &mut [u64], words: &[u64])
 // Puts what reading answers to words: the line of a refusal, then the six words of the case record.
 fn put_found(answer: &mut [u64], a: reader::read::Answer)
     requires { ⌜ 7 ≤ length (now answer) ⌝ }
-    ensures { λ _. ⌜ now (answer .exit) ≡ answered (a .line ∷ caseWords (a .found)) (now (answer .entry)) ⌝ }
+    ensures { λ _. ⌜ now (answer .exit) ≡ over (a .line ∷ caseWords (a .found)) (now (answer .entry)) ⌝ }
 {
     let c = a.found;
     let words = [
@@ -72,7 +73,7 @@ fn put_found(answer: &mut [u64], a: reader::read::Answer)
 // Puts what settling answers to words: the true atoms, the false atoms, the rounds.
 fn put_settled(answer: &mut [u64], a: settle::operation::Answer)
     requires { ⌜ 3 ≤ length (now answer) ⌝ }
-    ensures { λ _. ⌜ now (answer .exit) ≡ answered (a .trues ∷ a .falses ∷ a .rounds ∷ []) (now (answer .entry)) ⌝ }
+    ensures { λ _. ⌜ now (answer .exit) ≡ over (a .trues ∷ a .falses ∷ a .rounds ∷ []) (now (answer .entry)) ⌝ }
 {
     let words = [a.trues, a.falses, a.rounds as u64];
     put_words(answer, &words);
@@ -83,7 +84,7 @@ fn put_settled(answer: &mut [u64], a: settle::operation::Answer)
 fn put_asked(answer: &mut [u64], a: question::operation::Answer)
     requires { ⌜ 4 ≤ length (now answer) ⌝ }
     ensures { λ _. ⌜ now (answer .exit)
-        ≡ answered (verdictNumber (a .verdict) ∷ a .minimal ∷ a .written ∷ a .rounds ∷ []) (now (answer .entry)) ⌝ }
+        ≡ over (verdictNumber (a .verdict) ∷ a .minimal ∷ a .written ∷ a .rounds ∷ []) (now (answer .entry)) ⌝ }
 {
     let verdict = a.verdict;
     let words = [

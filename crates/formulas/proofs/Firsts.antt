@@ -14,7 +14,7 @@ use Prim.Native.Nat.{ℕ}
 use lib.Dec.{eqb}
 use Rattle.text.specs.Tokens.{Token}
 use Rattle.formulas.specs.Parsing.{Items, withOne, withTwo, closedAmong}
-use Rattle.formulas.specs.Sentence.{Sentence, isName}
+use Rattle.formulas.specs.Sentence.{Sentence, beginsWithLetter}
 use Rattle.formulas.specs.Items.{prepend, Item, closed, withForm, itemsOf}
 use Rattle.formulas.specs.Keyword.{nodeOf}
 use Rattle.formulas.proofs.Items.{picked-items}
@@ -106,7 +106,7 @@ unfolding itemsOf
 token-filled Token.opening ts = form-filled (itemsOf (Token.opening ∷ ts)) (opening-first ts)
 token-filled Token.closing ts = item-filled Item.closing (itemsOf ts)
 token-filled (Token.word w) ts =
-    picked-items Filled (isName w) _ _ (item-filled (Item.formula (Sentence.name w)) (itemsOf ts)) tt
+    picked-items Filled (beginsWithLetter w) _ _ (item-filled (Item.formula (Sentence.name w)) (itemsOf ts)) tt
 
 pub record Unclosed (ts : List Token) : Type 0 where
   pub unclosed : (f : Sentence) → closedAmong f (itemsOf ts) ≡ Option.none
@@ -138,6 +138,6 @@ module _ {ts : List Token} where
       pub word-unclosed : Unclosed ts
       word-unclosed = record { unclosed = λ f. rw e (items.word-unclosed f w us) }
 
-      pub word-unnamed : isName w ≡ false → Unnamed ts
+      pub word-unnamed : beginsWithLetter w ≡ false → Unnamed ts
       unfolding itemsOf
       word-unnamed h = record { unnamed = rw (e, h) }

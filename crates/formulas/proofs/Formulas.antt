@@ -10,7 +10,7 @@ use Rattle.text.specs.Tokens.{tokens}
 use Rattle.text.specs.declared.tokens.Next.{Next}
 use Rattle.text.specs.declared.tokens.Next.the-variants.{End, Open, Close, Word}
 use Rattle.text.specs.Scanning.{Found}
-use Rattle.formulas.specs.Sentence.{Sentence, isName}
+use Rattle.formulas.specs.Sentence.{Sentence, beginsWithLetter}
 use Rattle.formulas.specs.Items.{prepend, Item, withForm, itemsOf}
 use Rattle.formulas.specs.declared.formula.Parse.{Parse}
 use Rattle.formulas.specs.declared.formula.Parse.the-variants.{NoFormula, Formula}
@@ -65,7 +65,8 @@ module _ (l : List ℕ) (at : ℕ) where
   unfolding itemsOf
   closing-parsed i t = rw (t .tokens-are) (closing-begins (itemsOf (tokens (drop i l))))
 
-  pub name-parsed : (a e : ℕ) → Found l at (Word a e) → isName (slice a e l) ≡ true → Parsed l at (Formula e 1)
+  pub name-parsed : (a e : ℕ) → Found l at (Word a e) → beginsWithLetter (slice a e l) ≡ true
+      → Parsed l at (Formula e 1)
   unfolding itemsOf depthOf sizeOf
   name-parsed a e t h = record {
     sentence = Sentence.name (slice a e l);
@@ -76,7 +77,7 @@ module _ (l : List ℕ) (at : ℕ) where
     room = omega (arith, t .inside .0, t .inside .1);
   }
 
-  pub word-parsed : (a e : ℕ) → Found l at (Word a e) → isName (slice a e l) ≡ false → Parsed l at NoFormula
+  pub word-parsed : (a e : ℕ) → Found l at (Word a e) → beginsWithLetter (slice a e l) ≡ false → Parsed l at NoFormula
   unfolding itemsOf
   word-parsed a e t h = rw (t .tokens-are, h)
 

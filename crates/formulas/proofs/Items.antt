@@ -10,7 +10,7 @@ use lib.Dec.{eqb}
 use Rattle.words.specs.Choice.{pick}
 use Rattle.text.specs.Tokens.{Token}
 use Rattle.formulas.specs.Parsing.{Items, withOne, withSecond, withTwo, beginsFormula, closedAmong}
-use Rattle.formulas.specs.Sentence.{Sentence, isName}
+use Rattle.formulas.specs.Sentence.{Sentence, beginsWithLetter}
 use Rattle.formulas.specs.Items.{prepend, Item, closed, withForm, itemsOf}
 use Rattle.formulas.specs.Keyword.{nodeOf}
 use Rattle.formulas.proofs.Sentences.{EachName}
@@ -71,7 +71,8 @@ module _ (f : Sentence) where
 
   pub word-unclosed : (w : List ℕ) (ts : List Token) → closedAmong f (itemsOf (Token.word w ∷ ts)) ≡ Option.none
   unfolding itemsOf
-  word-unclosed w ts = picked-items Unclosed (isName w) _ _ (formula-unclosed (Sentence.name w) (itemsOf ts)) refl
+  word-unclosed w ts =
+      picked-items Unclosed (beginsWithLetter w) _ _ (formula-unclosed (Sentence.name w) (itemsOf ts)) refl
 
 -- Items that begin with no formula
 
@@ -181,7 +182,8 @@ module _ (P : List ℕ → Type 0) where
   items-each [] h = tt
   items-each (Token.closing ∷ ts) h = closing-each (itemsOf ts) (items-each ts h)
   items-each (Token.word w ∷ ts) h =
-      picked-items Each (isName w) _ _ (formula-each (Sentence.name w) (itemsOf ts) (h .0) (items-each ts (h .1))) tt
+      picked-items Each (beginsWithLetter w) _ _
+      (formula-each (Sentence.name w) (itemsOf ts) (h .0) (items-each ts (h .1))) tt
   items-each (Token.opening ∷ []) h = tt
   items-each (Token.opening ∷ (Token.opening ∷ ts)) h = tt
   items-each (Token.opening ∷ (Token.closing ∷ ts)) h = tt

@@ -5,13 +5,13 @@
 -- Assumes nothing.
 use mathlib.Core.Path.{_≡_, refl}
 use mathlib.Core.Bool.{Bool, true, false}
-use mathlib.Core.List.{List, [], _∷_}
+use mathlib.Core.List.{List, []}
 use mathlib.Core.Logic.{_⊎_, inl, inr}
 use Prim.Native.Nat.{ℕ, zero, suc, _+_, _-_, _≤_, _<_}
 use native.Mathlib.Omega.{arith}
 use lib.ListN.{length, getD}
 use Rattle.words.specs.Choice.{pick}
-use Rattle.text.specs.Bytes.{sameBytes}
+use Rattle.text.specs.Bytes.{sameBytes, bytes}
 use Rattle.text.proofs.Same.{same-eq}
 use Rattle.formulas.specs.Sentence.{formWords}
 use Rattle.formulas.specs.Keyword.{nodeOf, kindOf}
@@ -69,9 +69,9 @@ picked-le false x y n h k = k
 pub kind-le : (w : List ℕ) → kindOf w ≤ 6
 unfolding kindOf
 kind-le w =
-    picked-le (sameBytes w (116 ∷ 114 ∷ 117 ∷ 101 ∷ [])) 1 _ 6 (omega arith)
-    (picked-le (sameBytes w (102 ∷ 97 ∷ 108 ∷ 115 ∷ 101 ∷ [])) 2 _ 6 (omega arith)
-    (picked-le (sameBytes w (105 ∷ 102 ∷ [])) 3 _ 6 (omega arith)
-    (picked-le (sameBytes w (110 ∷ 101 ∷ 118 ∷ 101 ∷ 114 ∷ [])) 4 _ 6 (omega arith)
-    (picked-le (sameBytes w (115 ∷ 101 ∷ 101 ∷ 110 ∷ [])) 5 _ 6 (omega arith)
-    (picked-le (sameBytes w (113 ∷ 117 ∷ 101 ∷ 114 ∷ 121 ∷ [])) 6 0 6 (omega arith) (omega arith))))))
+    picked-le (sameBytes w (bytes "true")) 1 _ 6 (omega arith)
+    (picked-le (sameBytes w (bytes "false")) 2 _ 6 (omega arith)
+    (picked-le (sameBytes w (bytes "if")) 3 _ 6 (omega arith)
+    (picked-le (sameBytes w (bytes "never")) 4 _ 6 (omega arith)
+    (picked-le (sameBytes w (bytes "seen")) 5 _ 6 (omega arith)
+    (picked-le (sameBytes w (bytes "query")) 6 0 6 (omega arith) (omega arith))))))

@@ -1,3 +1,4 @@
+-- Theorems: a proof of each claim.
 -- Keywords: the numbers that the words of forms have.
 -- Sentences: names and formulas.
 -- Items: what a token makes of the items behind it.
@@ -6,6 +7,7 @@
 -- Formulas: formulas at a place of a line.
 -- Firsts: what items begin with.
 -- Fronts: what a formula that items begin with is.
+pub mod Theorems
 pub mod Keywords
 pub mod Sentences
 pub mod Items

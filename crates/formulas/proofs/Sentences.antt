@@ -7,12 +7,12 @@ use native.Mathlib.Omega.{arith}
 use lib.ListN.{length, getD}
 use lib.Seq.{slice, slice-cons}
 use Rattle.text.specs.Bytes.{isLetter}
-use Rattle.formulas.specs.Sentence.{Sentence, isName}
+use Rattle.formulas.specs.Sentence.{Sentence, beginsWithLetter}
 use Rattle.formulas.specs.Parsing.{depthOf, sizeOf}
 
 -- a word is a name by its first byte
-pub name-first : (l : List ℕ) (a e : ℕ) → a < e → e ≤ length l → isName (slice a e l) ≡ isLetter (getD l a 0)
-unfolding isName
+pub name-first : (l : List ℕ) (a e : ℕ) → a < e → e ≤ length l → beginsWithLetter (slice a e l) ≡ isLetter (getD l a 0)
+unfolding beginsWithLetter
 name-first l a e h k = rw (slice-cons a e l 0 h k)
 
 pub depth-le-size : (f : Sentence) → depthOf f ≤ sizeOf f

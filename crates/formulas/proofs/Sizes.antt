@@ -11,7 +11,7 @@ use Rattle.words.specs.Choice.{pick}
 use Rattle.text.specs.Bytes.{isWordByte}
 use Rattle.text.specs.Tokens.{Token, ended, bracket, tokensFrom, tokens}
 use Rattle.formulas.specs.Parsing.{Items, withOne, withSecond, withTwo, sizeOf}
-use Rattle.formulas.specs.Sentence.{Sentence, isName}
+use Rattle.formulas.specs.Sentence.{Sentence, beginsWithLetter}
 use Rattle.formulas.specs.Items.{prepend, Item, closed, withForm, itemsOf}
 use Rattle.formulas.specs.Keyword.{nodeOf}
 use Rattle.formulas.proofs.Sentences.{tokenCount, size-le-tokens}
@@ -107,7 +107,7 @@ unfolding itemsOf tokenCount
 items-take [] = omega arith
 items-take (Token.closing ∷ ts) = item-take (length ts) Item.closing (itemsOf ts) (omega arith) (items-take ts)
 items-take (Token.word w ∷ ts) =
-    picked-items (Take (suc (length ts))) (isName w) _ _
+    picked-items (Take (suc (length ts))) (beginsWithLetter w) _ _
     (item-take (length ts) (Item.formula (Sentence.name w)) (itemsOf ts) (omega arith) (items-take ts)) tt
 items-take (Token.opening ∷ []) = tt
 items-take (Token.opening ∷ (Token.opening ∷ ts)) = tt

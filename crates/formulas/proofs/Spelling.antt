@@ -19,7 +19,7 @@ use Rattle.words.specs.Choice.{pick}
 use Rattle.text.specs.Tokens.{Token}
 use Rattle.text.proofs.ByteLaws.{and-true-both}
 use Rattle.formulas.specs.Parsing.{Items, withOne, withTwo}
-use Rattle.formulas.specs.Sentence.{Sentence, isName, formWords, tokensOf, isSentence}
+use Rattle.formulas.specs.Sentence.{Sentence, beginsWithLetter, formWords, tokensOf, isSentence}
 use Rattle.formulas.specs.Items.{prepend, Item, withForm, itemsOf}
 use Rattle.formulas.specs.Keyword.{nodeOf}
 use Rattle.formulas.proofs.Keywords.{WordOf, node-word, word-node}
@@ -85,7 +85,7 @@ unfolding spelledItems
 closing-spells ts Option.none h = tt
 closing-spells ts (Option.some m) h = (ap (λ us. Token.closing ∷ us) (h .0), h .1)
 
-name-spells : (t : Bool) (w : List ℕ) (ts : List Token) (x : Items) → isName w ≡ t → Spells ts x
+name-spells : (t : Bool) (w : List ℕ) (ts : List Token) (x : Items) → beginsWithLetter w ≡ t → Spells ts x
     → Spells (Token.word w ∷ ts) (pick t (prepend (Item.formula (Sentence.name w)) x) Option.none)
 unfolding spelledItems tokensOf isSentence
 name-spells false w ts x e h = tt
@@ -138,7 +138,7 @@ pub items-spell : (ts : List Token) → Spells ts (itemsOf ts)
 unfolding itemsOf spelledItems
 items-spell [] = (refl, tt)
 items-spell (Token.closing ∷ ts) = closing-spells ts (itemsOf ts) (items-spell ts)
-items-spell (Token.word w ∷ ts) = name-spells (isName w) w ts (itemsOf ts) refl (items-spell ts)
+items-spell (Token.word w ∷ ts) = name-spells (beginsWithLetter w) w ts (itemsOf ts) refl (items-spell ts)
 items-spell (Token.opening ∷ []) = tt
 items-spell (Token.opening ∷ (Token.opening ∷ ts)) = tt
 items-spell (Token.opening ∷ (Token.closing ∷ ts)) = tt

@@ -10,7 +10,7 @@ use lib.Dec.{eqb}
 use Rattle.words.specs.Choice.{pick}
 use Rattle.text.specs.Tokens.{Token}
 use Rattle.formulas.specs.Keyword.{nodeOf}
-use Rattle.formulas.specs.Sentence.{isName, Sentence}
+use Rattle.formulas.specs.Sentence.{beginsWithLetter, Sentence}
 
 -- what tokens are read as, one after the other: formulas, and the closing brackets of forms around them
 pub data Item : Type 0 where
@@ -45,7 +45,8 @@ withForm k (Option.some l) =
 unfoldable pub itemsOf : List Token → Option (List Item)
 itemsOf [] = Option.some []
 itemsOf (Token.closing ∷ ts) = prepend Item.closing (itemsOf ts)
-itemsOf (Token.word w ∷ ts) = pick (isName w) (prepend (Item.formula (Sentence.name w)) (itemsOf ts)) Option.none
+itemsOf (Token.word w ∷ ts) =
+    pick (beginsWithLetter w) (prepend (Item.formula (Sentence.name w)) (itemsOf ts)) Option.none
 itemsOf (Token.opening ∷ []) = Option.none
 itemsOf (Token.opening ∷ (Token.opening ∷ ts)) = Option.none
 itemsOf (Token.opening ∷ (Token.closing ∷ ts)) = Option.none

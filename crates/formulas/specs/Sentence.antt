@@ -1,22 +1,22 @@
 -- Formulas over names, and how a line spells them.
 -- From: document 01, "The file" ("F is N, `(not F)`, or `(and F F)`, likewise or, then, same").
 --
---   isName w        w begins with a letter; the rest of a word is letters, digits and `-` anyway
---   Sentence        a formula over names: F
---   formTokens w ts the tokens of the form with the word w and with the tokens ts behind it
---   tokensOf f      the tokens of the formula f
---   isSentence f    the names of f are names, and its nodes are those of the words
+--   beginsWithLetter w   w begins with a letter; the rest of a word is letters, digits and `-` anyway
+--   Sentence             a formula over names: F
+--   formTokens w ts      the tokens of the form with the word w and with the tokens ts behind it
+--   tokensOf f           the tokens of the formula f
+--   isSentence f         the names of f are names, and its nodes are those of the words
 use mathlib.Core.Bool.{Bool, false, _&&_}
 use mathlib.Core.List.{List, [], _∷_, _++_}
 use Prim.Native.Nat.{ℕ, _-_}
 use lib.Dec.{leb}
 use lib.ListN.{getD}
-use Rattle.text.specs.Bytes.{isLetter}
+use Rattle.text.specs.Bytes.{isLetter, bytes}
 use Rattle.text.specs.Tokens.{Token}
 
-unfoldable pub isName : List ℕ → Bool
-isName [] = false
-isName (b ∷ w) = isLetter b
+unfoldable pub beginsWithLetter : List ℕ → Bool
+beginsWithLetter [] = false
+beginsWithLetter (b ∷ w) = isLetter b
 
 -- joined k f g is the form with the node k: 65 and, 66 or, 67 then, 68 same
 pub data Sentence : Type 0 where
@@ -24,11 +24,10 @@ pub data Sentence : Type 0 where
   negation : Sentence → Sentence
   joined : ℕ → Sentence → Sentence → Sentence
 
--- "not", "and", "or", "then", "same": the words of the nodes 64 to 68
+-- the words of the nodes 64 to 68
 abbrev pub formWords : List (List ℕ)
 formWords =
-    (110 ∷ 111 ∷ 116 ∷ []) ∷ (97 ∷ 110 ∷ 100 ∷ []) ∷ (111 ∷ 114 ∷ []) ∷ (116 ∷ 104 ∷ 101 ∷ 110 ∷ [])
-    ∷ (115 ∷ 97 ∷ 109 ∷ 101 ∷ []) ∷ []
+    bytes "not" ∷ bytes "and" ∷ bytes "or" ∷ bytes "then" ∷ bytes "same" ∷ []
 
 abbrev pub formTokens : List ℕ → List Token → List Token
 formTokens w ts = Token.opening ∷ (Token.word w ∷ (ts ++ (Token.closing ∷ [])))
@@ -39,6 +38,6 @@ tokensOf (Sentence.negation f) = formTokens (getD formWords 0 []) (tokensOf f)
 tokensOf (Sentence.joined k f g) = formTokens (getD formWords (k - 64) []) (tokensOf f ++ tokensOf g)
 
 unfoldable pub isSentence : Sentence → Bool
-isSentence (Sentence.name w) = isName w
+isSentence (Sentence.name w) = beginsWithLetter w
 isSentence (Sentence.negation f) = isSentence f
 isSentence (Sentence.joined k f g) = leb 65 k && leb k 68 && isSentence f && isSentence g

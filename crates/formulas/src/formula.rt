@@ -3,7 +3,7 @@ ghost use mathlib.Core.Path.{_≡_};
 ghost use Prim.Native.Nat.{_≤_, _<_, max};
 ghost use lib.ListN.{length};
 ghost use lib.Seq.{slice};
-ghost use Rattle.formulas.specs.Sentence.{isName};
+ghost use Rattle.formulas.specs.Sentence.{beginsWithLetter};
 ghost use Rattle.formulas.specs.Parsing.{Parsed, Closed};
 use crate::keyword::node_of;
 use text::tokens::Next;
@@ -18,7 +18,7 @@ pub enum Parse {
 // Whether the word from a to e is a name.
 pub fn is_name(l: &[u8], a: usize, e: usize) -> bool
     requires { ⌜ (a < e) × (e ≤ length (now l)) ⌝ }
-    ensures { λ r. ⌜ r ≡ isName (slice a e (now (l .entry))) ⌝ }
+    ensures { λ r. ⌜ r ≡ beginsWithLetter (slice a e (now (l .entry))) ⌝ }
 {
     let b = l[a];
     if b < 97 {

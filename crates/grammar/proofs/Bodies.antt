@@ -15,7 +15,7 @@ use lib.Dec.{eqb}
 use borrow.Author.Tests.{ne-eqb}
 use Rattle.text.specs.Tokens.{Token, tokens}
 use Rattle.formulas.specs.Parsing.{Items, withTwo}
-use Rattle.formulas.specs.Sentence.{Sentence, isName}
+use Rattle.formulas.specs.Sentence.{Sentence, beginsWithLetter}
 use Rattle.formulas.specs.Items.{prepend, Item, closed, withForm, itemsOf}
 use Rattle.formulas.specs.Keyword.{nodeOf}
 use Rattle.formulas.proofs.Items.{picked-items, negation-items}
@@ -124,7 +124,7 @@ module _ {ts : List Token} where
         unfolding itemsOf
         negation-unnamed n = rw (e, h) (among-unnamed (itemsOf us) (n .unnamed))
 
-        module _ {v : List ℕ} {vs : List Token} (f : us ≡ Token.word v ∷ vs) (n : isName v ≡ true) where
+        module _ {v : List ℕ} {vs : List Token} (f : us ≡ Token.word v ∷ vs) (n : beginsWithLetter v ≡ true) where
           pub negation-unclosed : Unclosed vs → bodyIn (Token.opening ∷ ts) ≡ Option.none
           unfolding itemsOf
           negation-unclosed d =
@@ -144,11 +144,11 @@ module _ {ts : List Token} where
 
   module _ {us : List Token} where
     module _ {w : List ℕ} (e : ts ≡ Token.word w ∷ us) where
-      pub body-name : isName w ≡ true → bodyIn ts ≡ prepend (Literal.literal false w) (bodyIn us)
+      pub body-name : beginsWithLetter w ≡ true → bodyIn ts ≡ prepend (Literal.literal false w) (bodyIn us)
       unfolding itemsOf
       body-name h = rw (e, h) (among-name w (itemsOf us))
 
-      pub body-word : isName w ≡ false → bodyIn ts ≡ Option.none
+      pub body-word : beginsWithLetter w ≡ false → bodyIn ts ≡ Option.none
       unfolding itemsOf
       body-word h = rw (e, h)
 

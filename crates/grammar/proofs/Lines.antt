@@ -10,7 +10,7 @@ use lib.ListN.{length, drop}
 use Rattle.words.specs.Choice.{pick}
 use Rattle.text.specs.Tokens.{Token, tokens}
 use Rattle.formulas.specs.Parsing.{Items, beginsFormula, closedAmong, FormulaAt}
-use Rattle.formulas.specs.Sentence.{Sentence, isName}
+use Rattle.formulas.specs.Sentence.{Sentence, beginsWithLetter}
 use Rattle.formulas.specs.Items.{prepend, Item, itemsOf, withFirst}
 use Rattle.formulas.specs.Keyword.{kindOf}
 use Rattle.formulas.proofs.Firsts.{Filled, nameFirst, Unnamed, Unclosed, token-filled}
@@ -110,7 +110,7 @@ unended (suc zero) w x a b h = fact-line w x ∙ rw h
 unended (suc (suc zero)) w x a b h = assumption-line w x ∙ rw h
 unended (suc (suc (suc k))) w x a b h = absurd (omega arith)
 
-module _ {ts us : List Token} {w : List ℕ} (e : ts ≡ Token.word w ∷ us) (n : isName w ≡ true) (k : ℕ) where
+module _ {ts us : List Token} {w : List ℕ} (e : ts ≡ Token.word w ∷ us) (n : beginsWithLetter w ≡ true) (k : ℕ) where
   pub kind-unended : 1 ≤ k → k ≤ 2 → endsItems (itemsOf us) ≡ false → withItems k (itemsOf ts) ≡ Line.noForm
   unfolding itemsOf
   kind-unended a b h = rw (e, n) (unended k w (itemsOf us) a b h)
@@ -124,7 +124,7 @@ module _ {ts us : List Token} {w : List ℕ} (e : ts ≡ Token.word w ∷ us) (n
   kind-assumption d h = rw (d, e, n) (assumption-line w (itemsOf us) ∙ rw h)
 
 -- a rule, a constraint and a reading by their literals
-pub rule-is : {ts us : List Token} {w : List ℕ} → ts ≡ Token.word w ∷ us → isName w ≡ true
+pub rule-is : {ts us : List Token} {w : List ℕ} → ts ≡ Token.word w ∷ us → beginsWithLetter w ≡ true
     → withItems 3 (itemsOf ts) ≡ withBody (Line.clause 2 w) (bodyIn us)
 unfolding itemsOf
 rule-is {ts} {us} {w} e n = rw (e, n) (rule-line w (itemsOf us))

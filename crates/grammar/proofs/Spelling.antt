@@ -19,7 +19,7 @@ use Rattle.text.specs.Bytes.{sameBytes}
 use Rattle.text.specs.Tokens.{Token}
 use Rattle.text.proofs.ByteLaws.{and-true-both}
 use Rattle.formulas.specs.Parsing.{Items}
-use Rattle.formulas.specs.Sentence.{Sentence, isName, tokensOf, isSentence}
+use Rattle.formulas.specs.Sentence.{Sentence, beginsWithLetter, tokensOf, isSentence}
 use Rattle.formulas.specs.Items.{prepend, Item, itemsOf}
 use Rattle.formulas.specs.Keyword.{kindOf}
 use Rattle.formulas.proofs.Keywords.{WordOf, picked-word}
@@ -79,7 +79,7 @@ query-read f h = ap (withItems 6) (tokensOf-read f (Token.closing ∷ []) h)
 
 -- what a clause that passes isLine is made of
 record ClauseParts (k : ℕ) (w : List ℕ) (ls : List Literal) : Type 0 where
-  head : isName w ≡ true
+  head : beginsWithLetter w ≡ true
   body : areNamed ls ≡ true
   count : pick (eqb k 2) (ltb 0 (length ls)) (ltb k 2 && eqb (length ls) 0) ≡ true
 

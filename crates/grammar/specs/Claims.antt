@@ -1,5 +1,5 @@
 -- What is claimed of reading a line beyond the contract. Proved in proofs/Theorems.antt.
--- From: document 01, refusal 5 ("not a form, with length of names and depth left aside").
+-- From: document 01, "The file" ("Every other line is one form of nested brackets").
 use mathlib.Core.Path.{_≡_}
 use mathlib.Core.Bool.{true, false}
 use mathlib.Core.List.{List}

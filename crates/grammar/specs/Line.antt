@@ -13,8 +13,9 @@ use Prim.Native.Nat.{ℕ}
 use lib.Dec.{eqb, ltb}
 use lib.ListN.{length, getD}
 use Rattle.words.specs.Choice.{pick}
+use Rattle.text.specs.Bytes.{bytes}
 use Rattle.text.specs.Tokens.{Token}
-use Rattle.formulas.specs.Sentence.{isName, Sentence, formTokens, tokensOf, isSentence}
+use Rattle.formulas.specs.Sentence.{beginsWithLetter, Sentence, formTokens, tokensOf, isSentence}
 use Rattle.formulas.specs.Parsing.{depthOf}
 
 -- the literal of the name w, negated where the test holds
@@ -30,11 +31,10 @@ pub data Line : Type 0 where
   seen : Literal → Line
   query : Sentence → Line
 
--- "true", "false", "if": the words of the kinds of clauses; then "never", "seen", "query"
+-- the words of the kinds of clauses, of constraints, of readings and of the query
 abbrev pub lineWords : List (List ℕ)
 lineWords =
-    (116 ∷ 114 ∷ 117 ∷ 101 ∷ []) ∷ (102 ∷ 97 ∷ 108 ∷ 115 ∷ 101 ∷ []) ∷ (105 ∷ 102 ∷ [])
-    ∷ (110 ∷ 101 ∷ 118 ∷ 101 ∷ 114 ∷ []) ∷ (115 ∷ 101 ∷ 101 ∷ 110 ∷ []) ∷ (113 ∷ 117 ∷ 101 ∷ 114 ∷ 121 ∷ []) ∷ []
+    bytes "true" ∷ bytes "false" ∷ bytes "if" ∷ bytes "never" ∷ bytes "seen" ∷ bytes "query" ∷ []
 
 -- the formula that a literal is
 abbrev pub ofLiteral : Literal → Sentence
@@ -63,7 +63,7 @@ unfoldable pub isLine : Line → Bool
 isLine Line.skipped = true
 isLine Line.noForm = false
 isLine (Line.clause k w l) =
-    isName w && areNamed l && pick (eqb k 2) (ltb 0 (length l)) (ltb k 2 && eqb (length l) 0)
+    beginsWithLetter w && areNamed l && pick (eqb k 2) (ltb 0 (length l)) (ltb k 2 && eqb (length l) 0)
 isLine (Line.never l) = areNamed l && ltb 0 (length l)
 isLine (Line.seen x) = isSentence (ofLiteral x)
 isLine (Line.query f) = isSentence f

@@ -16,7 +16,7 @@ use Rattle.logic.proofs.Interpretations.{Good, nothing-good, changed, has-chang
 use Rattle.program.specs.declared.cause.Additions.{Additions}
 use Rattle.program.specs.Program.{programWith}
 use Rattle.program.proofs.Heads.{heads-lt}
-use Rattle.program.proofs.Settings.{additions-facts-lt, additions-assumptions-lt}
+use Rattle.program.proofs.Sets.{additions-set}
 use Rattle.settle.specs.Rounds.{rounds, roundCount}
 use Rattle.settle.proofs.Steady.{program-steady}
 use Rattle.settle.proofs.Reached.{rounds-good}
@@ -34,17 +34,17 @@ use Rattle.lanes.proofs.Choosing.{differs-none}
 use Rattle.lanes.proofs.LaneRounds.{Settling}
 
 -- the planes ot, of and oh have the opening o in each lane, xs and ys what the settings from first on add
-module _ (cl : List ℕ) (n : ℕ) (o : Opening) (eo : o ≡ openingOf cl n) (causes first : ℕ) (fits : causes < 2 ^ 64)
+module _ (cl : List ℕ) (n : ℕ) (o : Opening) (eo : o ≡ openingOf cl n) (causes first : ℕ)
     (ot of oh xs ys t f : List ℕ) (et : Even (o .trues) ot) (ef : Even (o .falses) of) (eh : Even (o .heads) oh)
     (g : Filled causes first xs ys) (c : Changed) (b : Opens ot of oh xs ys t f c) where
   abbrev x : ℕ → Additions
   x = addsAt causes first
 
   facts-fit : (j : ℕ) → x j .facts < 2 ^ 64
-  facts-fit j = additions-facts-lt causes _ 64 (omega arith) fits
+  facts-fit j = additions-set causes _ .facts-fit
 
   assumptions-fit : (j : ℕ) → x j .assumptions < 2 ^ 64
-  assumptions-fit j = additions-assumptions-lt causes _ 64 (omega arith) fits
+  assumptions-fit j = additions-set causes _ .assumptions-fit
 
   heads-fit : o .heads < 2 ^ 64
   unfolding openingOf

@@ -5,8 +5,9 @@ use Prim.Native.Nat.{ℕ, suc, _+_, _≤_, _<_}
 use native.Mathlib.Nat.{add-zero, add-suc, suc-add, zero-add}
 use native.Mathlib.Numerals.{add-one}
 use native.Mathlib.Omega.{arith}
-use lib.ListN.{length, drop, take, getD, set, length-append, length-set}
+use lib.ListN.{length, take, getD, set, length-append, length-set}
 use lib.Seq.{sets, sets-eq, set-out, take-suc}
+use Rattle.words.specs.Lists.{over}
 use Rattle.output.specs.Writing.{laid, Writes, Room}
 
 -- laid
@@ -26,8 +27,11 @@ unfolding laid
 laid-sets out at [] = refl
 laid-sets out at (b ∷ s) = laid-sets (set out at b) (suc at) s
 
-pub laid-all : (s out : List ℕ) → length s ≤ length out → laid out 0 s ≡ s ++ drop (length s) out
-laid-all s out h = laid-sets out 0 s ∙ rw zero-add at (sets-eq s out 0 (rw zero-add h))
+pub sets-over : (s out : List ℕ) → length s ≤ length out → sets out 0 s ≡ over s out
+sets-over s out h = rw zero-add at (sets-eq s out 0 (rw zero-add h))
+
+pub laid-all : (s out : List ℕ) → length s ≤ length out → laid out 0 s ≡ over s out
+laid-all s out h = laid-sets out 0 s ∙ sets-over s out h
 
 -- Writes
 

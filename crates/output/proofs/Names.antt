@@ -1,39 +1,16 @@
 -- Laws of a name in a row of a names table, by places of the row: a loop that writes it. Assumes nothing.
 use mathlib.Core.Path.{_≡_, refl, ap, _∙_}
 use mathlib.Core.List.{List, [], _∷_, _++_, append-nil}
-use Prim.Native.Nat.{ℕ, zero, suc, _+_, _*_, _≤_, _<_}
+use Prim.Native.Nat.{ℕ, suc, _+_, _*_, _≤_, _<_}
 use native.Mathlib.Nat.{min-le-left}
 use native.Mathlib.Numerals.{add-one}
 use native.Mathlib.Omega.{arith}
 use lib.ListN.{length, drop, take, getD, length-append, length-take, length-drop, drop-of-length-le}
 use lib.Seq.{drop-cons, take-suc, append-snoc, getD-take, getD-drop, length-take-le}
-use Rattle.output.specs.Writing.{Writes, Room, beforeZero, nameIn}
+use Rattle.names.specs.Row.{beforeZero, nameIn}
+use Rattle.names.proofs.RowNames.{before-zero-length, before-zero-stops, before-zero-more, before-zero-nil}
+use Rattle.output.specs.Writing.{Writes, Room}
 use Rattle.output.proofs.Laying.{writes-none, writes-more}
-
--- beforeZero
-
-pub before-zero-length : (l : List ℕ) → length (beforeZero l) ≤ length l
-unfolding beforeZero
-before-zero-length [] = omega arith
-before-zero-length (zero ∷ l) = omega arith
-before-zero-length (suc b ∷ l) = omega (arith, before-zero-length l)
-
-pub before-zero-stops : (b : ℕ) (l : List ℕ) → b ≡ 0 → beforeZero (b ∷ l) ≡ []
-unfolding beforeZero
-before-zero-stops zero l e = refl
-before-zero-stops (suc b) l e = absurd (omega arith)
-
-pub before-zero-more : (b : ℕ) (l : List ℕ) → (b ≡ 0 → ⊥) → beforeZero (b ∷ l) ≡ b ∷ beforeZero l
-unfolding beforeZero
-before-zero-more zero l n = absurd (n refl)
-before-zero-more (suc b) l n = refl
-
--- a list that has no first byte, or begins with a zero
-pub before-zero-none : (l : List ℕ) → getD l 0 0 ≡ 0 → beforeZero l ≡ []
-unfolding beforeZero
-before-zero-none [] e = refl
-before-zero-none (zero ∷ l) e = refl
-before-zero-none (suc b ∷ l) e = absurd (omega arith)
 
 -- nameIn
 
@@ -92,7 +69,6 @@ module _ (t : List ℕ) (a i : ℕ) (h : 16 * a + 16 ≤ length t) {out : List �
       rw (g .2, row-rest k, f, append-nil) (g .1)
 
   pub naming-ends : 16 ≤ i → Writes (nameIn t a) out at place out₁
-  unfolding beforeZero
   naming-ends k =
       let l : length (rowOf t a) ≤ i = rw (row-length t a h) k in
-      rw (g .2, drop-of-length-le (rowOf t a) l, append-nil) (g .1)
+      rw (g .2, drop-of-length-le (rowOf t a) l, before-zero-nil, append-nil) (g .1)

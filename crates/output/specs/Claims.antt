@@ -1,4 +1,5 @@
 -- What is claimed of numbers in decimal. Proved in proofs/Theorems.antt.
+-- From: document 01, head ("Counts are in decimal").
 use mathlib.Core.Path.{_≡_}
 use mathlib.Core.Bool.{true}
 use mathlib.Core.List.{List, [], _∷_}

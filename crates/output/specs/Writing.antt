@@ -4,11 +4,10 @@
 --   Writes s ..         the bytes s were written from a place on; the answer is the place behind them
 --   textLimit           places stay below it
 --   Room s at           the bytes s end at or before that limit
---   nameIn t a          the name in row a of a names table: its bytes before the first zero, at most 16
 use mathlib.Core.Path.{_≡_}
 use mathlib.Core.List.{List, [], _∷_}
-use Prim.Native.Nat.{ℕ, zero, suc, _+_, _*_, _≤_}
-use lib.ListN.{length, drop, take, set}
+use Prim.Native.Nat.{ℕ, suc, _+_, _≤_}
+use lib.ListN.{length, set}
 
 unfoldable pub laid : List ℕ → ℕ → List ℕ → List ℕ
 laid out at [] = out
@@ -23,12 +22,3 @@ textLimit = 1000000
 
 abbrev pub Room : List ℕ → ℕ → Type 0
 Room s at = at + length s ≤ textLimit
-
--- the bytes of a row before its first zero
-unfoldable pub beforeZero : List ℕ → List ℕ
-beforeZero [] = []
-beforeZero (zero ∷ l) = []
-beforeZero (suc b ∷ l) = suc b ∷ beforeZero l
-
-abbrev pub nameIn : List ℕ → ℕ → List ℕ
-nameIn t a = beforeZero (take 16 (drop (16 * a) t))

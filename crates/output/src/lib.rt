@@ -3,8 +3,9 @@
 ghost use mathlib.Core.List.{[], _∷_};
 ghost use Prim.Native.Nat.{_+_, _*_, _≤_, _<_};
 ghost use lib.ListN.{length};
+ghost use Rattle.names.specs.Row.{nameIn};
 ghost use Rattle.output.specs.Decimal.{decimal};
-ghost use Rattle.output.specs.Writing.{Writes, Room, nameIn};
+ghost use Rattle.output.specs.Writing.{Writes, Room};
 
 // Writes one byte at a place, and answers the place behind it.
 pub fn put(out: &mut [u8], at: usize, b: u8) -> usize

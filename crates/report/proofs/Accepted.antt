@@ -18,7 +18,9 @@ use Rattle.program.specs.Sound.{sound}
 use Rattle.program.proofs.Soundness.{sound-full, sound-atoms, sound-few}
 use Rattle.program.proofs.Theorems.{causes-counted}
 use Rattle.names.specs.Names.{rowsOf}
+use Rattle.names.specs.Row.{nameIn}
 use Rattle.names.specs.Held.{Named}
+use Rattle.names.proofs.RowNames.{every-named, table-name}
 use Rattle.names.proofs.LineNames.{no-zero}
 use Rattle.question.specs.declared.operation.Answer.{Answer}
 use Rattle.question.specs.Operation.{settingsIn, choicesIn, questionRefusal, Asked}
@@ -32,11 +34,10 @@ use Rattle.store.specs.Tables.{clauseWords, constraintWords, formulaNodes, case
 use Rattle.reader.specs.Reading.{Outcome, readFile}
 use Rattle.reader.specs.Operation.{tablesFit}
 use Rattle.reader.proofs.Theorems.{accepted-sound, accepted-names}
-use Rattle.output.specs.Writing.{nameIn}
 use Rattle.wording.specs.Text.{answerText}
-use Rattle.report.specs.Report.{clauseTable, constraintTable, formulaTable, causesIn, judgeIn, minimalsOf, roundsOf}
-use Rattle.report.specs.Report.{verdictIn, nameOf, saidText, listLength}
-use Rattle.wording.proofs.Naming.{every-named, table-name, answer-alike}
+use Rattle.report.specs.Report.{clauseTable, constraintTable, formulaTable, causesIn, judgeIn, minimalsOf}
+use Rattle.report.specs.Report.{roundsOf, verdictIn, nameOf, saidText, listLength}
+use Rattle.wording.proofs.Naming.{answer-alike}
 use Rattle.wording.proofs.Lengths.{answer-length}
 
 -- A list whose first slots, as many as there are, are written
@@ -121,37 +122,38 @@ module _ (f : List ℕ) (st : Said) (e : readFile f ≡ Outcome.case st) where
 
 module _ (f : List ℕ) (st : Said) (e : readFile f ≡ Outcome.case st) (list work : List ℕ) (full : length list ≡ 1024)
     (room : length work ≡ 59049) (r : Answer) (listAfter workAfter : List ℕ)
-    (h : Asked (caseSaid st) (clauseTable st) (constraintTable st) (formulaTable st) list work r listAfter workAfter) where
-  none : questionRefusal (caseSaid st) (clauseTable st) (constraintTable st) (formulaTable st) (length work) ≡ 0
-  none =
-      let s = said-sound f st e in
-      refusal-none (caseSaid st) _ _ _ (length work) (sound-full (caseSaid st) _ _ _ s) s
-      (omega (arith, said-settings f st e))
+    (h : Asked (caseSaid st) (clauseTable st) (constraintTable st) (formulaTable st) list work r listAfter workAfter)
+  where
+    none : questionRefusal (caseSaid st) (clauseTable st) (constraintTable st) (formulaTable st) (length work) ≡ 0
+    none =
+        let s = said-sound f st e in
+        refusal-none (caseSaid st) _ _ _ (length work) (sound-full (caseSaid st) _ _ _ s) s
+        (omega (arith, said-settings f st e))
 
-  verdict-is : r .verdict ≡ verdictIn st
-  verdict-is = rw none at (h .verdict-is)
+    verdict-is : r .verdict ≡ verdictIn st
+    verdict-is = rw none at (h .verdict-is)
 
-  rounds-are : r .rounds ≡ roundsOf st
-  rounds-are = rw none at (h .rounds-are)
+    rounds-are : r .rounds ≡ roundsOf st
+    rounds-are = rw none at (h .rounds-are)
 
-  minimal-is : r .minimal ≡ length (minimalsOf st)
-  minimal-is = rw none at (h .minimal-is)
+    minimal-is : r .minimal ≡ length (minimalsOf st)
+    minimal-is = rw none at (h .minimal-is)
 
-  written-is : r .written ≡ min (length (minimalsOf st)) 1024
-  written-is = rw (none, full) at (h .written-is)
+    written-is : r .written ≡ min (length (minimalsOf st)) 1024
+    written-is = rw (none, full) at (h .written-is)
 
-  list-is : listAfter
-      ≡ take (min (length (minimalsOf st)) 1024) (minimalsOf st) ++ drop (min (length (minimalsOf st)) 1024) list
-  list-is = rw (none, full) at (h .list-is)
+    list-is : listAfter
+        ≡ take (min (length (minimalsOf st)) 1024) (minimalsOf st) ++ drop (min (length (minimalsOf st)) 1024) list
+    list-is = rw (none, full) at (h .list-is)
 
-  pub asked-fits : r .written ≤ length listAfter
-  asked-fits = rw (written-is, list-is) (front-fits (minimalsOf st) list 1024 full)
+    pub asked-fits : r .written ≤ length listAfter
+    asked-fits = rw (written-is, list-is) (front-fits (minimalsOf st) list 1024 full)
 
-  pub asked-text : (names : List ℕ) (causes : ℕ) → names ≡ padded 1024 (rowsOf (st .names)) → causes ≡ causesIn st
-      → answerText (nameIn names) causes (r .verdict) (r .rounds) (r .minimal) (take (r .written) listAfter)
-      ≡ saidText st
-  unfolding saidText
-  asked-text names causes n c =
-      rw (n, c, verdict-is, rounds-are, minimal-is, written-is, list-is, front-written (minimalsOf st) list 1024)
-      (answer-alike (nameIn (padded 1024 (rowsOf (st .names)))) (nameOf st) (said-table f st e) (causesIn st)
-      (verdictIn st) (roundsOf st) (length (minimalsOf st)) (take listLength (minimalsOf st)))
+    pub asked-text : (names : List ℕ) (causes : ℕ) → names ≡ padded 1024 (rowsOf (st .names)) → causes ≡ causesIn st
+        → answerText (nameIn names) causes (r .verdict) (r .rounds) (r .minimal) (take (r .written) listAfter)
+        ≡ saidText st
+    unfolding saidText
+    asked-text names causes n c =
+        rw (n, c, verdict-is, rounds-are, minimal-is, written-is, list-is, front-written (minimalsOf st) list 1024)
+        (answer-alike (nameIn (padded 1024 (rowsOf (st .names)))) (nameOf st) (said-table f st e) (causesIn st)
+        (verdictIn st) (roundsOf st) (length (minimalsOf st)) (take listLength (minimalsOf st)))

@@ -20,7 +20,7 @@ use Rattle.table.specs.Filled.{padded}
 use Rattle.names.specs.Names.{namesFrom, someLong, atomOf, withName, withNames, rowsOf}
 use Rattle.formulas.specs.Parsing.{depthOf}
 use Rattle.formulas.specs.Keyword.{nodeOf, kindOf}
-use Rattle.formulas.specs.Sentence.{isName, isSentence}
+use Rattle.formulas.specs.Sentence.{beginsWithLetter, isSentence}
 use Rattle.formulas.specs.Items.{withForm, itemsOf}
 use Rattle.grammar.specs.Line.{areNamed, isLine}
 use Rattle.grammar.specs.LineOf.{literalsOf, lineOf}
@@ -32,10 +32,11 @@ use Rattle.report.specs.Marked.{MarkedRows}
 
 pub marked-rows : MarkedRows
 unfolding ones onesIn has word valueOf literalsBelow nodes withNode spelled formulaOf clauseAt clausesOf addedBelow
-    headsOf causesAmong causesOf atomsFrom choicesFor product digits digitOf settingsOf additionsOf fewCauses bodiesOf someTrue allFalse nextValue
-    step rounds roundCount settled observedTrue noneBroken explainsUnder setExplains subsetOf properOf someProper
-    minimal minimalsBelow roundsBelow trueInAll falseInAll verdictOf isWordByte isAllowed allOf sameBytes linesFrom
-    isComment tokensFrom padded namesFrom someLong atomOf withName withNames rowsOf nodeOf kindOf isName depthOf
-    withForm itemsOf literalsOf lineOf someOn plainAtoms negatedAtoms encoded saidBy formRefusal lineRefusal saidAfter
-    clauseWords ending readLines readFile constraintWords formulaNodes isSentence areNamed isLine
+    headsOf causesAmong causesOf atomsFrom choicesFor product digits digitOf settingsOf additionsOf fewCauses bodiesOf
+    someTrue allFalse nextValue step rounds roundCount settled observedTrue noneBroken explainsUnder setExplains
+    subsetOf properOf someProper minimal minimalsBelow roundsBelow trueInAll falseInAll verdictOf isWordByte isAllowed
+    allOf sameBytes linesFrom isComment tokensFrom padded namesFrom someLong atomOf withName withNames rowsOf nodeOf
+    kindOf beginsWithLetter depthOf withForm itemsOf literalsOf lineOf someOn plainAtoms negatedAtoms encoded saidBy
+    formRefusal lineRefusal saidAfter clauseWords ending readLines readFile constraintWords formulaNodes isSentence
+    areNamed isLine
 marked-rows = refl

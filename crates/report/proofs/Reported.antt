@@ -15,6 +15,7 @@ use Rattle.program.specs.Cause.{causesOf}
 use Rattle.program.specs.Sound.{sound}
 use Rattle.program.proofs.Soundness.{clauses-held, sound-full, sound-limits}
 use Rattle.names.specs.Names.{rowsOf}
+use Rattle.names.specs.Row.{nameIn}
 use Rattle.question.specs.declared.operation.Answer as question
 use Rattle.question.specs.Operation.{Asked}
 use Rattle.reader.specs.declared.read.Answer.{Answer}
@@ -26,13 +27,13 @@ use Rattle.reader.specs.Operation.{earlyRefusal, ReadAs}
 use Rattle.reader.proofs.Cases.{tables-full}
 use Rattle.reader.proofs.ReadingEarly.{Full, early-none, early-file-long}
 use Rattle.reader.proofs.Numbered.{Numbered, file-numbered}
-use Rattle.output.specs.Writing.{Room, nameIn}
+use Rattle.output.specs.Writing.{Room}
 use Rattle.wording.specs.Text.{answerText, refusalText}
 use Rattle.report.specs.Report.{clauseTable, constraintTable, formulaTable, causesIn, saidText, outcomeText}
 use Rattle.report.specs.Report.{unlessLong, reportText}
 use Rattle.report.proofs.Accepted.{said-sound, said-length, asked-fits, asked-text}
 
-report-long : (f : List ℕ) → 32768 < length f → reportText f ≡ refusalText 2 0
+pub report-long : (f : List ℕ) → 32768 < length f → reportText f ≡ refusalText 2 0
 unfolding reportText
 report-long f h = ap (λ (b : Bool). unlessLong b (outcomeText (readFile f))) (lt-ltb 32768 (length f) h)
 

@@ -6,24 +6,24 @@
 --   Shown              the answer and the output at exit, for a text
 --   Reported           the same for the report of a file
 use mathlib.Core.Path.{_≡_}
-use mathlib.Core.List.{List, _++_}
+use mathlib.Core.List.{List, [], _∷_}
 use Prim.Native.Nat.{ℕ}
 use lib.Dec.{leb}
-use lib.ListN.{length, drop}
-use Rattle.words.specs.Choice.{unlessRefused}
-use Rattle.settle.specs.Operation.{unless}
+use lib.ListN.{length}
+use Rattle.words.specs.Choice.{unlessRefused, check, firstFailed}
+use Rattle.words.specs.Lists.{over}
 use Rattle.report.specs.declared.operation.Answer.{Answer}
 use Rattle.report.specs.Report.{reportText}
 
 -- t is the text, n the length of the output
 unfoldable pub reportRefusal : List ℕ → ℕ → ℕ
-reportRefusal t n = unless (leb (length t) n) 19 0
+reportRefusal t n = firstFailed (check 19 (leb (length t) n) ∷ [])
 
 -- the text t, the output at entry and at exit
 pub record Shown (t out : List ℕ) (r : Answer) (outAfter : List ℕ) : Type 0 where
   pub refusal-is : r .refusal ≡ reportRefusal t (length out)
   pub length-is : r .length ≡ unlessRefused (reportRefusal t (length out)) (length t) 0
-  pub out-is : outAfter ≡ unlessRefused (reportRefusal t (length out)) (t ++ drop (length t) out) out
+  pub out-is : outAfter ≡ unlessRefused (reportRefusal t (length out)) (over t out) out
 
 -- the file f, the output at entry and at exit
 abbrev pub Reported : List ℕ → List ℕ → Answer → List ℕ → Type 0

@@ -58,7 +58,8 @@ nameOf st a = getD (st .names) a []
 
 unfoldable pub saidText : Said → List ℕ
 saidText st =
-    answerText (nameOf st) (causesIn st) (verdictIn st) (roundsOf st) (length (minimalsOf st)) (take listLength (minimalsOf st))
+    let l = minimalsOf st in
+    answerText (nameOf st) (causesIn st) (verdictIn st) (roundsOf st) (length l) (take listLength l)
 
 abbrev pub outcomeText : Outcome → List ℕ
 outcomeText (Outcome.case st) = saidText st

@@ -3,7 +3,8 @@ ghost use Prim.Native.Nat.{_≤_};
 ghost use lib.ListN.{length, take};
 ghost use Rattle.wording.specs.Text.{answerText, refusalText};
 ghost use Rattle.report.specs.Operation.{Shown, Reported};
-ghost use Rattle.output.specs.Writing.{Room, nameIn};
+ghost use Rattle.names.specs.Row.{nameIn};
+ghost use Rattle.output.specs.Writing.{Room};
 ghost use Rattle.report.specs.Sizes.{FullSizes};
 use wording::answer_text;
 use wording::refusal_text;
@@ -79,7 +80,7 @@ fn show_answer(
 
 // Reads a file into lent tables of exactly their sizes, answers its question with a list of 1,024 slots and a work area
 // of 59,049 bytes, and writes the report.
-pub fn report_in(
+fn report_in(
     file: &[u8],
     clauses: &mut [u64],
     constraints: &mut [u64],

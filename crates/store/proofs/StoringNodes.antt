@@ -17,7 +17,7 @@ use Rattle.text.specs.Scanning.{Found}
 use Rattle.table.specs.Filled.{filled}
 use Rattle.table.proofs.Filled.{filled-length, filled-push}
 use Rattle.formulas.specs.declared.formula.Parse.the-variants.{NoFormula}
-use Rattle.formulas.specs.Sentence.{Sentence, isName}
+use Rattle.formulas.specs.Sentence.{Sentence, beginsWithLetter}
 use Rattle.formulas.specs.Items.{Item, itemsOf}
 use Rattle.formulas.specs.Parsing.{beginsFormula, Parsed, closedAmong}
 use Rattle.formulas.proofs.Keywords.{NodeNumber}
@@ -128,7 +128,7 @@ module _ {l : List ℕ} {at : ℕ} {t : List ℕ} {count : ℕ} {u : List ℕ} {
     put = λ ns namesOld f m xs old n held known i q few s.
         let w = slice a e l in
         let x : NameFront w (itemsOf (tokens (drop e l))) f m =
-        name-front (isName w) w (itemsOf (tokens (drop e l))) f m (rw (o .tokens-are) at i) in
+        name-front (beginsWithLetter w) w (itemsOf (tokens (drop e l))) f m (rw (o .tokens-are) at i) in
         let k = known-name (rw (x .sentence-is) at known) in
         let few' : length xs + length (nodes (encoded ns (Sentence.name w))) ≤ 128 = rw (x .sentence-is) at few in
         let y = p .pushed xs old q (omega arith) s in

@@ -6,9 +6,12 @@
 --   isAllowed b         b may stand in a line that is no comment: a word's byte, a space or a bracket
 --   allOf p l           every byte of l passes p
 --   sameBytes l m       l and m are the same bytes
+--   bytes t             the bytes of a quoted text, which is ASCII
 use mathlib.Core.Bool.{Bool, true, false, _&&_, _||_}
 use mathlib.Core.List.{List, [], _∷_}
 use Prim.Native.Nat.{ℕ}
+use Prim.Native.Char.{code}
+use Prim.Native.String.{String}
 use lib.Dec.{eqb, leb}
 
 abbrev pub isLetter : ℕ → Bool
@@ -32,3 +35,7 @@ sameBytes [] [] = true
 sameBytes [] (c ∷ m) = false
 sameBytes (b ∷ l) [] = false
 sameBytes (b ∷ l) (c ∷ m) = eqb b c && sameBytes l m
+
+abbrev pub bytes : String → List ℕ
+bytes String.[] = []
+bytes (String._∷_ c t) = code c ∷ bytes t

@@ -1,6 +1,6 @@
 -- How what a setting adds is written, atom by atom: what is written so far, and what is left of the setting from the
 -- next atom on, make up the whole. Assumes nothing.
-use mathlib.Core.Path.{_≡_, refl, ap, _∙_}
+use mathlib.Core.Path.{_≡_, ap, _∙_}
 use mathlib.Core.Bool.{Bool, true, false}
 use mathlib.Core.List.{List, [], _++_}
 use Prim.Native.Nat.{ℕ, suc, _+_, _-_, _/_, _%_, _≤_, _<_}
@@ -10,7 +10,8 @@ use Rattle.words.specs.Bits.{has}
 use Rattle.program.specs.Cause.{atomsFrom, atomsIn}
 use Rattle.program.specs.Setting.{choicesFor, digits}
 use Rattle.output.specs.Writing.{Writes, Room}
-use Rattle.wording.specs.Forms.{spaced}
+use Rattle.output.proofs.FormTexts.{spaced-nil}
+use Rattle.output.specs.Forms.{spaced}
 use Rattle.wording.specs.Text.{withAbducible, abducibles}
 use Rattle.wording.proofs.Progress.{Underway, underway-start, underway-room, underway-more, underway-end}
 use Rattle.wording.proofs.LineTexts.{abducible-text}
@@ -45,8 +46,8 @@ module _ (name : ℕ → List ℕ) (w a s : ℕ) (l : a < 64) where
   left-other e = left-split ∙ ap splitText e
 
 left-none : (name : ℕ → List ℕ) (w s : ℕ) → leftText name w 64 s ≡ []
-unfolding spaced atomsFrom choicesFor digits abducibles
-left-none name w s = refl
+unfolding atomsFrom choicesFor digits abducibles
+left-none name w s = spaced-nil
 
 -- ---- the walk over the atoms
 -- setting s of the causes w is written to out from place at on; what is left of it from atom a on is rest, and comes

@@ -1,5 +1,4 @@
 -- Laws of the length of a report's lines. Assumes nothing.
-use mathlib.Core.Path.{_≡_}
 use mathlib.Core.List.{List, [], _∷_, _++_}
 use Prim.Native.Nat.{ℕ, zero, suc, _+_, _*_, _^_, _≤_, _<_}
 use native.Mathlib.Omega.{arith}
@@ -9,30 +8,10 @@ use Rattle.program.specs.Setting.{digitsOf}
 use Rattle.question.specs.declared.verdict.Verdict.{Verdict}
 use Rattle.question.specs.declared.verdict.Verdict.the-variants.{Unexplained, Follows, Denied, Open}
 use Rattle.output.proofs.Decimals.{decimal-length, decimal-short}
-use Rattle.wording.specs.Forms.{spaced, form, line}
+use Rattle.output.proofs.FormTexts.{spaced-nil, spaced-more, spaced-one, spaced-two, form-length, line-length}
+use Rattle.output.specs.Forms.{spaced}
 use Rattle.wording.specs.Text.{verdictWord, verdictLine, roundsLine, minimalLine, withAbducible, abducibles}
 use Rattle.wording.specs.Text.{causeLine, causeLines, answerText, refusalText}
-
--- Forms
-
-spaced-more : (p : List ℕ) (ps : List (List ℕ)) → length (spaced (p ∷ ps)) ≡ 1 + length p + length (spaced ps)
-unfolding spaced
-spaced-more p ps = omega (arith, length-append p (spaced ps))
-
-spaced-one : (p : List ℕ) → length (spaced (p ∷ [])) ≡ 1 + length p
-unfolding spaced
-spaced-one p = omega (arith, length-append p [])
-
-spaced-two : (p q : List ℕ) → length (spaced (p ∷ (q ∷ []))) ≡ 2 + length p + length q
-spaced-two p q = omega (arith, spaced-more p (q ∷ []), spaced-one q)
-
-form-length : (w : List ℕ) (ps : List (List ℕ)) → length (form w ps) ≡ 2 + length w + length (spaced ps)
-unfolding form
-form-length w ps = omega (arith, length-append w (spaced ps ++ (41 ∷ [])), length-append (spaced ps) (41 ∷ []))
-
-line-length : (w : List ℕ) (ps : List (List ℕ)) → length (line w ps) ≡ 3 + length w + length (spaced ps)
-unfolding line
-line-length w ps = omega (arith, length-append (form w ps) (10 ∷ []), form-length w ps)
 
 -- Lines
 
@@ -69,9 +48,9 @@ with-abducible-length (suc (suc d)) w ps h = rw (spaced-more, form-length, space
 
 module _ (name : ℕ → List ℕ) (short : (a : ℕ) → length (name a) ≤ 16) where
   abducibles-length : (l ds : List ℕ) → length (spaced (abducibles name l ds)) ≤ 25 * length l
-  unfolding abducibles spaced
-  abducibles-length [] ds = omega arith
-  abducibles-length (a ∷ l) [] = omega arith
+  unfolding abducibles
+  abducibles-length [] ds = rw spaced-nil (omega arith)
+  abducibles-length (a ∷ l) [] = rw spaced-nil (omega arith)
   abducibles-length (a ∷ l) (d ∷ ds) =
       omega (arith, with-abducible-length d (name a) (abducibles name l ds) (short a), abducibles-length l ds)
 

@@ -1,12 +1,10 @@
 -- Laws, in reading order.
--- FormTexts: forms and lines as the pieces that the code writes.
--- LineTexts: the lines of a report, and what a digit adds, as these pieces.
+-- LineTexts: the lines of a report, and what a digit adds, as the pieces that the code writes.
 -- Progress: a text that is being written piece by piece.
 -- Abducibles: how what a setting adds is written, atom by atom.
 -- Listings: how the lines of a list of settings are written, and the text of an answer.
 -- Naming: the names that a report shows.
 -- Lengths: the length of a report's lines.
-pub mod FormTexts
 pub mod LineTexts
 pub mod Progress
 pub mod Abducibles

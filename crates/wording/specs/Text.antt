@@ -14,33 +14,33 @@ use Rattle.program.specs.Cause.{atomsIn}
 use Rattle.program.specs.Setting.{digitsOf}
 use Rattle.question.specs.declared.verdict.Verdict.{Verdict}
 use Rattle.question.specs.declared.verdict.Verdict.the-variants.{Unexplained, Follows, Denied, Open}
+use Rattle.text.specs.Bytes.{bytes}
 use Rattle.output.specs.Decimal.{decimal}
-use Rattle.wording.specs.Forms.{form, line}
+use Rattle.output.specs.Forms.{form, line}
 
--- "unexplained", "follows", "denied", "open"
 abbrev pub verdictWord : Verdict → List ℕ
-verdictWord Unexplained = 117 ∷ 110 ∷ 101 ∷ 120 ∷ 112 ∷ 108 ∷ 97 ∷ 105 ∷ 110 ∷ 101 ∷ 100 ∷ []
-verdictWord Follows = 102 ∷ 111 ∷ 108 ∷ 108 ∷ 111 ∷ 119 ∷ 115 ∷ []
-verdictWord Denied = 100 ∷ 101 ∷ 110 ∷ 105 ∷ 101 ∷ 100 ∷ []
-verdictWord Open = 111 ∷ 112 ∷ 101 ∷ 110 ∷ []
+verdictWord Unexplained = bytes "unexplained"
+verdictWord Follows = bytes "follows"
+verdictWord Denied = bytes "denied"
+verdictWord Open = bytes "open"
 
 -- "(verdict v)"
 unfoldable pub verdictLine : Verdict → List ℕ
-verdictLine v = line (118 ∷ 101 ∷ 114 ∷ 100 ∷ 105 ∷ 99 ∷ 116 ∷ []) (verdictWord v ∷ [])
+verdictLine v = line (bytes "verdict") (verdictWord v ∷ [])
 
 -- "(rounds n)"
 unfoldable pub roundsLine : ℕ → List ℕ
-roundsLine n = line (114 ∷ 111 ∷ 117 ∷ 110 ∷ 100 ∷ 115 ∷ []) (decimal n ∷ [])
+roundsLine n = line (bytes "rounds") (decimal n ∷ [])
 
 -- "(minimal m w)"
 unfoldable pub minimalLine : ℕ → ℕ → List ℕ
-minimalLine m w = line (109 ∷ 105 ∷ 110 ∷ 105 ∷ 109 ∷ 97 ∷ 108 ∷ []) (decimal m ∷ (decimal w ∷ []))
+minimalLine m w = line (bytes "minimal") (decimal m ∷ (decimal w ∷ []))
 
 -- what a digit adds for the cause named w, in front of the rest: nothing, "(true w)" or "(false w)"
 abbrev pub withAbducible : ℕ → List ℕ → List (List ℕ) → List (List ℕ)
 withAbducible zero w ps = ps
-withAbducible (suc zero) w ps = form (116 ∷ 114 ∷ 117 ∷ 101 ∷ []) (w ∷ []) ∷ ps
-withAbducible (suc (suc d)) w ps = form (102 ∷ 97 ∷ 108 ∷ 115 ∷ 101 ∷ []) (w ∷ []) ∷ ps
+withAbducible (suc zero) w ps = form (bytes "true") (w ∷ []) ∷ ps
+withAbducible (suc (suc d)) w ps = form (bytes "false") (w ∷ []) ∷ ps
 
 -- name gives the name of each atom
 unfoldable pub abducibles : (ℕ → List ℕ) → List ℕ → List ℕ → List (List ℕ)
@@ -50,7 +50,7 @@ abducibles name (a ∷ l) (d ∷ ds) = withAbducible d (name a) (abducibles name
 
 -- "(cause (true N) (false N) ..)"
 unfoldable pub causeLine : (ℕ → List ℕ) → ℕ → ℕ → List ℕ
-causeLine name w s = line (99 ∷ 97 ∷ 117 ∷ 115 ∷ 101 ∷ []) (abducibles name (atomsIn w) (digitsOf w s))
+causeLine name w s = line (bytes "cause") (abducibles name (atomsIn w) (digitsOf w s))
 
 unfoldable pub causeLines : (ℕ → List ℕ) → ℕ → List ℕ → List ℕ
 causeLines name w [] = []
@@ -61,4 +61,4 @@ answerText name w v n m l = verdictLine v ++ (roundsLine n ++ (minimalLine m (le
 
 -- "(refused n k)"
 unfoldable pub refusalText : ℕ → ℕ → List ℕ
-refusalText n k = line (114 ∷ 101 ∷ 102 ∷ 117 ∷ 115 ∷ 101 ∷ 100 ∷ []) (decimal n ∷ (decimal k ∷ []))
+refusalText n k = line (bytes "refused") (decimal n ∷ (decimal k ∷ []))

@@ -1,14 +1,16 @@
 // The wording of a report: the lines of an answer and of a refusal.
-ghost use mathlib.Core.List.{[], _∷_, _++_};
+ghost use mathlib.Core.List.{[], _++_};
 ghost use Prim.Native.Nat.{_+_, _*_, _≤_, _<_};
 ghost use lib.ListN.{length, take};
 ghost use Rattle.program.specs.Cause.{atomsIn};
 ghost use Rattle.program.specs.Setting.{digitsOf};
+ghost use Rattle.text.specs.Bytes.{bytes};
+ghost use Rattle.names.specs.Row.{nameIn};
 ghost use Rattle.output.specs.Decimal.{decimal};
-ghost use Rattle.wording.specs.Forms.{spaced};
+ghost use Rattle.output.specs.Forms.{spaced};
 ghost use Rattle.wording.specs.Text.{withAbducible, abducibles, causeLine, causeLines};
 ghost use Rattle.wording.specs.Text.{verdictLine, roundsLine, answerText, refusalText};
-ghost use Rattle.output.specs.Writing.{Writes, Room, nameIn};
+ghost use Rattle.output.specs.Writing.{Writes, Room};
 use output::put;
 use output::put_decimal;
 use output::put_name;
@@ -40,8 +42,8 @@ fn rounds_line(out: &mut [u8], at: usize, n: u64) -> usize
 
 // Writes a line with two numbers behind its opening: a bracket, a word and a space.
 fn pair_line(out: &mut [u8], at: usize, opening: &[u8], x: u64, y: u64) -> usize
-    requires { ⌜ Room (now opening ++ (decimal x ++ (32 ∷ (decimal y ++ (41 ∷ (10 ∷ [])))))) at ⌝ }
-    ensures { λ r. ⌜ Writes (now (opening .entry) ++ (decimal x ++ (32 ∷ (decimal y ++ (41 ∷ (10 ∷ []))))))
+    requires { ⌜ Room (now opening ++ (decimal x ++ (bytes " " ++ (decimal y ++ bytes ")\n")))) at ⌝ }
+    ensures { λ r. ⌜ Writes (now (opening .entry) ++ (decimal x ++ (bytes " " ++ (decimal y ++ bytes ")\n"))))
         (now (out .entry)) at r
         (now (out .exit)) ⌝ }
 {
@@ -55,8 +57,8 @@ fn pair_line(out: &mut [u8], at: usize, opening: &[u8], x: u64, y: u64) -> usize
 // Writes a form with an atom's name behind its opening: a space, a bracket, a word and a space.
 fn put_form(out: &mut [u8], at: usize, opening: &[u8], names: &[u8], atom: usize) -> usize
     requires { ⌜ (16 * atom + 16 ≤ length (now names))
-        × Room (now opening ++ (nameIn (now names) atom ++ (41 ∷ []))) at ⌝ }
-    ensures { λ r. ⌜ Writes (now (opening .entry) ++ (nameIn (now (names .entry)) atom ++ (41 ∷ [])))
+        × Room (now opening ++ (nameIn (now names) atom ++ bytes ")")) at ⌝ }
+    ensures { λ r. ⌜ Writes (now (opening .entry) ++ (nameIn (now (names .entry)) atom ++ bytes ")"))
         (now (out .entry)) at r
         (now (out .exit)) ⌝ }
 {

@@ -7,7 +7,7 @@ use native.Mathlib.Omega.{arith}
 use lib.ListN.{length, take, length-set}
 use lib.Seq.{sets}
 use Rattle.table.proofs.Stores.{stored-more, stored-all}
-use Rattle.embed.proofs.Answering.{stored-answered}
+use Rattle.output.proofs.Laying.{sets-over}
 use Rattle.embed.proofs.put_words.Statement.{statement}
 use Rattle.embed.proofs.put_words.Tie as tie
 
@@ -54,7 +54,7 @@ returns c =
     let a = c .before .before .args in
     let l = c .before .loop in
     stored-all (a .words .now) (l .answer) (a .answer .now) 0 (l .i) (l .inv .2) (omega arith)
-    ∙ stored-answered (a .words .now) (a .answer .now) (omega arith)
+    ∙ sets-over (a .words .now) (a .answer .now) (omega arith)
 
 pub put-words-spec : {M : Type 1} → statement M
 put-words-spec =

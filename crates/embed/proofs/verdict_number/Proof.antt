@@ -28,4 +28,5 @@ returns-4 : tie.Need-returns-4
 returns-4 c = search needs
 
 pub verdict-number-spec : {M : Type 1} → statement M
-verdict-number-spec = tie.close (tie.spec enum-told enum-told-2 enum-told-3 enum-told-4 returns returns-2 returns-3 returns-4)
+verdict-number-spec =
+    tie.close (tie.spec enum-told enum-told-2 enum-told-3 enum-told-4 returns returns-2 returns-3 returns-4)

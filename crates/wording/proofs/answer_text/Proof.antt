@@ -2,7 +2,7 @@
 use borrow.Author.Needs.{needs}
 use native.Mathlib.Omega.{arith}
 use lib.ListN.{length-append}
-use Rattle.output.specs.Writing.{nameIn}
+use Rattle.names.specs.Row.{nameIn}
 use Rattle.wording.proofs.Listings.{answer-length, answer-writes}
 use Rattle.wording.proofs.answer_text.Statement.{statement}
 use Rattle.wording.proofs.answer_text.Tie as tie

@@ -2,7 +2,7 @@
 -- Assumes nothing.
 use borrow.Author.Needs.{needs}
 use native.Mathlib.Omega.{arith}
-use Rattle.output.specs.Writing.{nameIn}
+use Rattle.names.specs.Row.{nameIn}
 use Rattle.output.proofs.Laying.{writes-append}
 use Rattle.wording.proofs.LineTexts.{cause-text, cause-length}
 use Rattle.wording.proofs.cause_line.Statement.{statement}

@@ -3,7 +3,7 @@
 use borrow.Author.Needs.{needs}
 use Prim.Native.Nat.{_-_}
 use native.Mathlib.Omega.{arith}
-use Rattle.output.specs.Writing.{nameIn}
+use Rattle.names.specs.Row.{nameIn}
 use Rattle.output.proofs.Laying.{writes-length}
 use Rattle.wording.proofs.Listings.{AtSetting, setting-start, setting-room, setting-more, setting-end}
 use Rattle.wording.proofs.cause_lines.Statement.{statement}

@@ -1,7 +1,7 @@
 -- `wording::put_abducible` meets its contract, digit by digit. Assumes nothing.
 use borrow.Author.Needs.{needs}
 use Rattle.output.proofs.Laying.{writes-none}
-use Rattle.wording.proofs.FormTexts.{spaced-nil}
+use Rattle.output.proofs.FormTexts.{spaced-nil}
 use Rattle.wording.proofs.LineTexts.{fact-text, assumption-text}
 use Rattle.wording.proofs.put_abducible.Statement.{statement}
 use Rattle.wording.proofs.put_abducible.Tie as tie

@@ -5,7 +5,7 @@ use mathlib.Core.Path.{sym, _∙_}
 use mathlib.Core.Logic.{⊎-elim}
 use Prim.Native.Nat.{_-_}
 use native.Mathlib.Omega.{arith}
-use Rattle.output.specs.Writing.{nameIn}
+use Rattle.names.specs.Row.{nameIn}
 use Rattle.output.proofs.Laying.{writes-length}
 use Rattle.wording.proofs.Abducibles.{AtAtom, atom-start, atom-room, atom-cause, atom-other, atom-end}
 use Rattle.wording.proofs.put_abducibles.Statement.{statement}

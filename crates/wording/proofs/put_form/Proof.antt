@@ -1,7 +1,7 @@
 -- `wording::put_form` meets its contract: the form is its opening, the name, and a bracket. Assumes nothing.
 use borrow.Author.Needs.{needs}
 use native.Mathlib.Omega.{arith}
-use Rattle.output.specs.Writing.{nameIn}
+use Rattle.names.specs.Row.{nameIn}
 use Rattle.output.proofs.Laying.{writes-append}
 use Rattle.wording.proofs.LineTexts.{form-length}
 use Rattle.wording.proofs.put_form.Statement.{statement}

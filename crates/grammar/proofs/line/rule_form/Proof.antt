@@ -100,8 +100,8 @@ returns-7 c =
     let t = found-as (c8 .before .before .token .ensures) (c8 .a .given .1) in
     let name = sym (c4 .before .before .is-name .ensures) ∙ not-false _ (c4 .before .if1 .left) in
     let b = body-as l (p .1 .0) (c4 .body .ensures) (c .before .before .n .given .1) in
-    let makes =
-    body-filled b (Line.clause 2 (slice (p .0) (p .1 .0) l)) _ (rule-is (t .tokens-are) name) (c .if2 .left) in
+    let rule = Line.clause 2 (slice (p .0) (p .1 .0) l) in
+    let makes = body-filled b rule _ (rule-is (t .tokens-are) name) (c .if2 .left) in
     record { form-is = ((t .inside .1, t .inside .2), makes) }
 
 pub rule-form-spec : {M : Type 1} → statement M

@@ -71,7 +71,7 @@ begin-requires c κs = c .before .before .before .before .pre .7
 loop-holds : tie.Need-loop-holds Inv-loop μ-loop
 loop-holds c =
     let p = entry c .pre in (
-      settling-start _ _ _ (p .0 .opening-is) _ _ (omega arith) _ _ _ _ _ _ _ (p .1) (p .2) (p .3) (p .4) _
+      settling-start _ _ _ (p .0 .opening-is) _ _ _ _ _ _ _ _ _ (p .1) (p .2) (p .3) (p .4) _
           (c .begin .ensures) _,
       record { first-size = refl; second-size = refl },
     )

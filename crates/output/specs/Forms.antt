@@ -6,13 +6,14 @@
 --   line w ps      the same as a line, which ends in LF
 use mathlib.Core.List.{List, [], _∷_, _++_}
 use Prim.Native.Nat.{ℕ}
+use Rattle.text.specs.Bytes.{bytes}
 
 unfoldable pub spaced : List (List ℕ) → List ℕ
 spaced [] = []
-spaced (p ∷ ps) = 32 ∷ (p ++ spaced ps)
+spaced (p ∷ ps) = bytes " " ++ (p ++ spaced ps)
 
 unfoldable pub form : List ℕ → List (List ℕ) → List ℕ
-form w ps = 40 ∷ (w ++ (spaced ps ++ (41 ∷ [])))
+form w ps = bytes "(" ++ (w ++ (spaced ps ++ bytes ")"))
 
 unfoldable pub line : List ℕ → List (List ℕ) → List ℕ
-line w ps = form w ps ++ (10 ∷ [])
+line w ps = form w ps ++ bytes "\n"

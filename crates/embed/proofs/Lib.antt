@@ -1,3 +1,0 @@
--- Laws, in reading order.
--- Answering: words in front of lent ones.
-pub mod Answering

@@ -1,0 +1,9 @@
+-- What is claimed of the words of forms is so, by computation. Assumes nothing.
+use mathlib.Core.Path.{refl}
+use Rattle.formulas.specs.Sentence.{beginsWithLetter}
+use Rattle.formulas.specs.Items.{itemsOf}
+use Rattle.formulas.specs.Claims.{SpelledAlike}
+
+pub spelled-alike : SpelledAlike
+unfolding beginsWithLetter itemsOf
+spelled-alike = refl
