@@ -1,6 +1,6 @@
 -- What is known of an accepted file: its case is sound, its names are names, and its question is answered. Assumes
 -- nothing.
-use mathlib.Core.Path.{_≡_, refl, _∙_}
+use mathlib.Core.Path.{_≡_, refl, ap, _∙_}
 use mathlib.Core.Bool.{true}
 use mathlib.Core.List.{List, [], _++_}
 use mathlib.Core.Logic.{⊎-elim}
@@ -24,7 +24,8 @@ use Rattle.names.proofs.RowNames.{every-named, table-name}
 use Rattle.names.proofs.LineNames.{no-zero}
 use Rattle.question.specs.declared.operation.Answer.{Answer}
 use Rattle.question.specs.Operation.{settingsIn, choicesIn, questionRefusal, Asked}
-use Rattle.question.proofs.Answers.{refusal-none}
+use Rattle.question.proofs.Answers.{refusal-none, asked-verdict, asked-minimal, asked-written}
+use Rattle.question.proofs.Answers.{asked-rounds, asked-list}
 use Rattle.question.proofs.Bounds.{causes-fit, settings-few}
 use Rattle.question.proofs.Listed.{minimals-le}
 use Rattle.question.proofs.Theorems.{rounds-bounded}
@@ -131,20 +132,23 @@ module _ (f : List ℕ) (st : Said) (e : readFile f ≡ Outcome.case st) (list w
         (omega (arith, said-settings f st e))
 
     verdict-is : r .verdict ≡ verdictIn st
-    verdict-is = rw none at (h .verdict-is)
+    verdict-is = asked-verdict (caseSaid st) _ _ _ list work r listAfter workAfter h none
 
     rounds-are : r .rounds ≡ roundsOf st
-    rounds-are = rw none at (h .rounds-are)
+    rounds-are = asked-rounds (caseSaid st) _ _ _ list work r listAfter workAfter h none
 
     minimal-is : r .minimal ≡ length (minimalsOf st)
-    minimal-is = rw none at (h .minimal-is)
+    minimal-is = asked-minimal (caseSaid st) _ _ _ list work r listAfter workAfter h none
 
     written-is : r .written ≡ min (length (minimalsOf st)) 1024
-    written-is = rw (none, full) at (h .written-is)
+    written-is = rw full at (asked-written (caseSaid st) _ _ _ list work r listAfter workAfter h none)
 
     list-is : listAfter
         ≡ take (min (length (minimalsOf st)) 1024) (minimalsOf st) ++ drop (min (length (minimalsOf st)) 1024) list
-    list-is = rw (none, full) at (h .list-is)
+    list-is =
+        let w = min (length (minimalsOf st)) 1024 in
+        let l = rw full at (asked-list (caseSaid st) _ _ _ list work r listAfter workAfter h none) in
+        l ∙ ap (λ (k : ℕ). take w (minimalsOf st) ++ drop k list) (front-length (minimalsOf st) list 1024)
 
     pub asked-fits : r .written ≤ length listAfter
     asked-fits = rw (written-is, list-is) (front-fits (minimalsOf st) list 1024 full)
