@@ -3,6 +3,7 @@
 --
 --   subsetOf cs t s    each digit of t to the bases cs is 0 or that of s
 --   properOf cs t s    t is a subset of s and another setting
+--   someProper p cs s  some proper subset of s among the settings passes the test p
 --   minimal J cs s     s explains, and no proper subset of s explains
 use mathlib.Core.Bool.{Bool, true, not, _&&_, _||_}
 use mathlib.Core.List.{List, [], _∷_}

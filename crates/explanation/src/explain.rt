@@ -7,6 +7,7 @@ ghost use Rattle.words.specs.Bits.{has};
 ghost use Rattle.logic.specs.Interpretation.{valueAt};
 ghost use Rattle.lanes.specs.Planes.{column, Planes};
 ghost use Rattle.explanation.specs.Explanation.{noneBroken, explainsUnder};
+use lanes::plane::Lanes;
 use lanes::plane::body;
 use program::case::Case;
 
@@ -15,6 +16,13 @@ fn lacking(w: u64, v: u64) -> u64
     ensures { λ r. ⌜ ((j : ℕ) → j < 64 → has r j ≡ (has w j && not (has v j))) ⌝ }
 {
     w & !v
+}
+
+// The lanes of w in which a body isn't true, where b says what it is worth.
+fn untrue(w: u64, b: Lanes) -> u64
+    ensures { λ r. ⌜ ((j : ℕ) → j < 64 → has r j ≡ (has w j && not (has (b .trues) j))) ⌝ }
+{
+    lacking(w, b.trues)
 }
 
 // The lanes of w in which no body of the first n constraints is true.
@@ -28,7 +36,7 @@ fn unbroken(w: u64, constraints: &[u64], n: usize, t: &[u64; 64], f: &[u64; 64])
     while k < n {
         let at = 2 * k;
         let b = body(constraints[at], constraints[at + 1], t, f);
-        ok = lacking(ok, b.trues);
+        ok = untrue(ok, b);
         k += 1;
     }
     ok

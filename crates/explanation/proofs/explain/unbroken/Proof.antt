@@ -37,8 +37,8 @@ shared-slice-read-body-2 c = search needs
 body-requires : tie.Need-body-requires Inv-loop μ-loop
 body-requires c κs = c .before .before .before .before .before .pre .0
 
-lacking-requires : tie.Need-lacking-requires Inv-loop μ-loop
-lacking-requires c κs = search needs
+untrue-requires : tie.Need-untrue-requires Inv-loop μ-loop
+untrue-requires c κs = search needs
 
 add-k : tie.Need-add-k Inv-loop μ-loop
 add-k c = search needs
@@ -49,7 +49,7 @@ loop-less c = search needs
 loop-again : tie.Need-loop-again Inv-loop μ-loop
 loop-again c =
     let i = c .before .before .before .before .before .loop .inv in
-    passing-next _ _ _ _ _ _ _ _ _ i (omega arith) (c .before .body .ensures) (c .lacking .ensures)
+    passing-next _ _ _ _ _ _ _ _ _ i (omega arith) (c .before .body .ensures) (c .untrue .ensures)
 
 returns : tie.Need-returns Inv-loop μ-loop
 returns c = passing-end _ _ _ _ _ _ _ (c .before .loop .inv) (omega arith)
@@ -68,7 +68,7 @@ unbroken-spec =
     mul-body-2
     shared-slice-read-body-2
     body-requires
-    lacking-requires
+    untrue-requires
     add-k
     loop-less
     loop-again
