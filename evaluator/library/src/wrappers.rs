@@ -78,6 +78,7 @@ fn names(tests: &mut Tests, inputs: &[Input]) {
 /// Settles and asks each file by the safe calls, refusals too.
 fn cases(tests: &mut Tests, inputs: &[Input]) {
     tests.family("safe calls: settle and question");
+    let mut several = false;
     for input in inputs {
         let Ok(said) = file::read(&input.bytes) else { continue };
         let held = Held::of(&said);
@@ -87,8 +88,10 @@ fn cases(tests: &mut Tests, inputs: &[Input]) {
         let name = || input.name.clone();
         tests.call(name, settled(&mut settling, end - 1, lent::settle(&record, &tables, end - 1)));
         tests.call(name, differing(Err(Refusal::NoSetting), lent::settle(&record, &tables, end)));
-        let due = Asking::of(said).due(4);
-        let (mut list, mut work) = (vec![0; 4], vec![0; end as usize]);
+        let asking = Asking::of(said);
+        let due = asking.due(1);
+        several |= asking.minimal() > 1;
+        let (mut list, mut work) = (vec![0; 1], vec![0; end as usize]);
         let got = lent::question(&record, &tables, &mut list, &mut work);
         let shown = got.map(|a| vec![a.verdict as u64, a.minimal, a.listed as u64, a.rounds]);
         let listed = due.list.len();
@@ -102,6 +105,7 @@ fn cases(tests: &mut Tests, inputs: &[Input]) {
         unsound.atoms = 65;
         tests.call(name, differing(Err(Refusal::Unsound), lent::settle(&unsound, &tables, 0)));
     }
+    tests.require("a case with more explanations than are listed", several);
 }
 
 /// The complaints on the setting `s` as `got` has it, atom by atom.
