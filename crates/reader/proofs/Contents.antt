@@ -8,7 +8,7 @@ use Rattle.words.specs.Choice.{pick}
 use Rattle.words.specs.Bits.{has}
 use Rattle.words.proofs.Words.{has-word}
 use Rattle.text.specs.Lines.{isComment}
-use Rattle.text.specs.Tokens.{Token, tokens}
+use Rattle.text.specs.Tokens.{tokens}
 use Rattle.grammar.specs.Line.{Line, Literal}
 use Rattle.grammar.specs.LineOf.{lineOf}
 use Rattle.grammar.proofs.Names.{EachOfLine}

@@ -1,7 +1,7 @@
 -- An accepted file's record and tables say what the file says. Assumes nothing.
 use mathlib.Core.Path.{_≡_, refl, sym, ap, subst, _∙_}
-use mathlib.Core.List.{List, []}
-use Prim.Native.Nat.{ℕ, zero, suc, _^_, _≤_, _<_}
+use mathlib.Core.List.{List}
+use Prim.Native.Nat.{ℕ, zero, suc, _^_, _<_}
 use native.Mathlib.Nat.{lt-of-lt-of-le}
 use native.Mathlib.Omega.{arith}
 use lib.ListN.{length}
@@ -17,7 +17,7 @@ use Rattle.names.specs.Names.{rowsOf}
 use Rattle.names.proofs.Each.{each-gives}
 use Rattle.names.proofs.Rows.{filled-row}
 use Rattle.store.specs.Lent.{Lent}
-use Rattle.store.specs.Saying.{Said, nothingSaid, someOn, plainAtoms, negatedAtoms}
+use Rattle.store.specs.Saying.{Said, nothingSaid, plainAtoms, negatedAtoms}
 use Rattle.store.specs.Tables.{clauseWords, constraintWords, formulaNodes, caseSaid}
 use Rattle.store.specs.Held.{Long}
 use Rattle.reader.specs.declared.read.Answer.{Answer}
