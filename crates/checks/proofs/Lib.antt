@@ -1,11 +1,9 @@
 -- The laws of this crate, a file for each notion.
--- FirstFailed: checks of which the first that fails decides.
 -- LineNames: the names of a line.
 -- SaidWith: what is said with a line.
 -- TakingChecks: the number of a line's refusal.
 -- TakingNames: the names of a line, and a line that passes its checks.
 -- Passing: lines that pass their checks.
-pub mod FirstFailed
 pub mod LineNames
 pub mod SaidWith
 pub mod TakingChecks

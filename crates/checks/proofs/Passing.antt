@@ -16,7 +16,7 @@ use Rattle.grammar.proofs.Spelling.{no-form-is}
 use Rattle.names.specs.Names.{namesIn, someLong, withNames}
 use Rattle.store.specs.Saying.{Said}
 use Rattle.checks.specs.Checks.{saidWith, formChecks, lineRefusal}
-use Rattle.checks.proofs.FirstFailed.{Passes, none-failed}
+use Rattle.words.proofs.Checks.{Passes, none-failed}
 use Rattle.checks.proofs.SaidWith.{with-names, rowsFit}
 
 -- checks 5 to 10

@@ -1,4 +1,5 @@
 -- What is known of each setting. The walk is defined over any judge and any list of choice counts.
+-- From: document 01, "Causes, settings, explanations" ("Under a setting") and "The question".
 --
 --   Judge            explains, rounds and the query's value, for each setting
 --   judgeOf          the judge of a case

@@ -13,7 +13,8 @@ use mathlib.Core.Option.{Option}
 use Prim.Native.Nat.{ℕ}
 use lib.Dec.{eqb}
 use Rattle.text.specs.Tokens.{Token}
-use Rattle.formulas.specs.Parsing.{Items, withOne, withTwo, closedAmong}
+use Rattle.formulas.specs.Parsing.{Items, closedAmong}
+use Rattle.formulas.proofs.Operands.{withOne, withTwo}
 use Rattle.formulas.specs.Sentence.{Sentence, beginsWithLetter}
 use Rattle.formulas.specs.Items.{prepend, Item, closed, withForm, itemsOf}
 use Rattle.formulas.specs.Keyword.{nodeOf}

@@ -15,7 +15,8 @@ use Rattle.formulas.specs.Items.{prepend, Item, withForm, itemsOf}
 use Rattle.formulas.specs.declared.formula.Parse.{Parse}
 use Rattle.formulas.specs.declared.formula.Parse.the-variants.{NoFormula, Formula}
 use Rattle.formulas.specs.Keyword.{nodeOf}
-use Rattle.formulas.specs.Parsing.{depthOf, sizeOf, FormulaAt, Parsed, closedAmong, Closed}
+use Rattle.formulas.specs.Parsing.{sizeOf, FormulaAt, Parsed, closedAmong, Closed}
+use Rattle.formulas.specs.Sentence.{depthOf}
 use Rattle.formulas.proofs.Sentences.{depth-le-size}
 use Rattle.formulas.proofs.Items.{closed-among, opening-unclosed, word-unclosed, closing-begins, zero-begins}
 use Rattle.formulas.proofs.Items.{operand-begins, second-begins, negation-items, joined-items}

@@ -12,7 +12,8 @@ use native.Mathlib.Omega.{arith}
 use lib.Dec.{eqb}
 use borrow.Author.Tests.{eqb-true, eqb-false}
 use Rattle.words.specs.Choice.{pick}
-use Rattle.formulas.specs.Parsing.{Items, withOne, withTwo}
+use Rattle.formulas.specs.Parsing.{Items}
+use Rattle.formulas.proofs.Operands.{withOne, withTwo}
 use Rattle.formulas.specs.Sentence.{Sentence}
 use Rattle.formulas.specs.Items.{prepend, Item, withForm}
 

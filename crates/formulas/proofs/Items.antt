@@ -9,7 +9,8 @@ use borrow.Author.Tests.{eq-eqb, ne-eqb}
 use lib.Dec.{eqb}
 use Rattle.words.specs.Choice.{pick}
 use Rattle.text.specs.Tokens.{Token}
-use Rattle.formulas.specs.Parsing.{Items, withOne, withSecond, withTwo, beginsFormula, closedAmong}
+use Rattle.formulas.specs.Parsing.{Items, beginsFormula, closedAmong}
+use Rattle.formulas.proofs.Operands.{withOne, withSecond, withTwo}
 use Rattle.formulas.specs.Sentence.{Sentence, beginsWithLetter}
 use Rattle.formulas.specs.Items.{prepend, Item, closed, withForm, itemsOf}
 use Rattle.formulas.specs.Keyword.{nodeOf}

@@ -1,6 +1,7 @@
 -- Theorems: a proof of each claim.
 -- Keywords: the numbers that the words of forms have.
 -- Sentences: names and formulas.
+-- Operands: forms whose operands are the next items.
 -- Items: what a token makes of the items behind it.
 -- Spelling: formulas are read as they are spelled.
 -- Sizes: how many nodes formulas have.
@@ -10,6 +11,7 @@
 pub mod Theorems
 pub mod Keywords
 pub mod Sentences
+pub mod Operands
 pub mod Items
 pub mod Spelling
 pub mod Sizes

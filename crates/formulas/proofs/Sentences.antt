@@ -8,7 +8,8 @@ use lib.ListN.{length, getD}
 use lib.Seq.{slice, slice-cons}
 use Rattle.text.specs.Bytes.{isLetter}
 use Rattle.formulas.specs.Sentence.{Sentence, beginsWithLetter}
-use Rattle.formulas.specs.Parsing.{depthOf, sizeOf}
+use Rattle.formulas.specs.Parsing.{sizeOf}
+use Rattle.formulas.specs.Sentence.{depthOf}
 
 -- a word is a name by its first byte
 pub name-first : (l : List ℕ) (a e : ℕ) → a < e → e ≤ length l → beginsWithLetter (slice a e l) ≡ isLetter (getD l a 0)

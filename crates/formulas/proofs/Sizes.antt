@@ -10,7 +10,8 @@ use lib.ListN.{length, drop, length-drop}
 use Rattle.words.specs.Choice.{pick}
 use Rattle.text.specs.Bytes.{isWordByte}
 use Rattle.text.specs.Tokens.{Token, ended, bracket, tokensFrom, tokens}
-use Rattle.formulas.specs.Parsing.{Items, withOne, withSecond, withTwo, sizeOf}
+use Rattle.formulas.specs.Parsing.{Items, sizeOf}
+use Rattle.formulas.proofs.Operands.{withOne, withSecond, withTwo}
 use Rattle.formulas.specs.Sentence.{Sentence, beginsWithLetter}
 use Rattle.formulas.specs.Items.{prepend, Item, closed, withForm, itemsOf}
 use Rattle.formulas.specs.Keyword.{nodeOf}

@@ -18,7 +18,8 @@ use borrow.Author.Tests.{eqb-true, eqb-false, leb-true, le-leb}
 use Rattle.words.specs.Choice.{pick}
 use Rattle.text.specs.Tokens.{Token}
 use Rattle.text.proofs.ByteLaws.{and-true-both}
-use Rattle.formulas.specs.Parsing.{Items, withOne, withTwo}
+use Rattle.formulas.specs.Parsing.{Items}
+use Rattle.formulas.proofs.Operands.{withOne, withTwo}
 use Rattle.formulas.specs.Sentence.{Sentence, beginsWithLetter, formWords, tokensOf, isSentence}
 use Rattle.formulas.specs.Items.{prepend, Item, withForm, itemsOf}
 use Rattle.formulas.specs.Keyword.{nodeOf}

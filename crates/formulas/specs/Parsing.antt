@@ -1,7 +1,6 @@
 -- What parsing a formula from a place of a line finds, in the code's places.
 --
 --   beginsFormula x      the items begin with a formula
---   depthOf f            a name has depth 1, a form one more than its deepest operand
 --   sizeOf f             the number of nodes of f: its names and its forms
 --   Parsed l at r        r is the formula at place at of the line l, with its depth and the place behind it, or none
 --   Closed l at d r      r is a form of depth d whose closing bracket is at or behind place at, or none
@@ -9,11 +8,11 @@ use mathlib.Core.Path.{_≡_}
 use mathlib.Core.Bool.{Bool, true, false}
 use mathlib.Core.List.{List, [], _∷_}
 use mathlib.Core.Option.{Option}
-use Prim.Native.Nat.{ℕ, _+_, _*_, _≤_, _<_, max}
+use Prim.Native.Nat.{ℕ, _+_, _*_, _≤_, _<_}
 use lib.ListN.{length, drop}
 use Rattle.text.specs.Tokens.{tokens}
-use Rattle.formulas.specs.Sentence.{Sentence}
-use Rattle.formulas.specs.Items.{prepend, Item, closed, withFirst, itemsOf}
+use Rattle.formulas.specs.Sentence.{Sentence, depthOf}
+use Rattle.formulas.specs.Items.{prepend, Item, closed, itemsOf}
 use Rattle.formulas.specs.declared.formula.Parse.{Parse}
 use Rattle.formulas.specs.declared.formula.Parse.the-variants.{NoFormula, Formula}
 
@@ -21,28 +20,11 @@ use Rattle.formulas.specs.declared.formula.Parse.the-variants.{NoFormula
 abbrev pub Items : Type 0
 Items = Option (List Item)
 
--- the form "not", where the next items are its operand and closing bracket
-abbrev pub withOne : List Item → Items
-withOne l = withFirst Option.none (λ f m. closed (Sentence.negation f) m) l
-
--- the form with node k and the first operand f, where the next items are its second operand and closing bracket
-abbrev pub withSecond : ℕ → Sentence → List Item → Items
-withSecond k f l = withFirst Option.none (λ g m. closed (Sentence.joined k f g) m) l
-
--- the form with node k, where the next items are its two operands and closing bracket
-abbrev pub withTwo : ℕ → List Item → Items
-withTwo k l = withFirst Option.none (λ f m. withSecond k f m) l
-
 abbrev pub beginsFormula : Items → Bool
 beginsFormula Option.none = false
 beginsFormula (Option.some []) = false
 beginsFormula (Option.some (Item.closing ∷ l)) = false
 beginsFormula (Option.some (Item.formula f ∷ l)) = true
-
-unfoldable pub depthOf : Sentence → ℕ
-depthOf (Sentence.name w) = 1
-depthOf (Sentence.negation f) = 1 + depthOf f
-depthOf (Sentence.joined k f g) = 1 + max (depthOf f) (depthOf g)
 
 unfoldable pub sizeOf : Sentence → ℕ
 sizeOf (Sentence.name w) = 1

@@ -5,10 +5,11 @@
 --   Sentence             a formula over names: F
 --   formTokens w ts      the tokens of the form with the word w and with the tokens ts behind it
 --   tokensOf f           the tokens of the formula f
+--   depthOf f            a name has depth 1, a form one more than its deepest operand
 --   isSentence f         the names of f are names, and its nodes are those of the words
 use mathlib.Core.Bool.{Bool, false, _&&_}
 use mathlib.Core.List.{List, [], _∷_, _++_}
-use Prim.Native.Nat.{ℕ, _-_}
+use Prim.Native.Nat.{ℕ, _+_, _-_, max}
 use lib.Dec.{leb}
 use lib.ListN.{getD}
 use Rattle.text.specs.Bytes.{isLetter, bytes}
@@ -36,6 +37,11 @@ unfoldable pub tokensOf : Sentence → List Token
 tokensOf (Sentence.name w) = Token.word w ∷ []
 tokensOf (Sentence.negation f) = formTokens (getD formWords 0 []) (tokensOf f)
 tokensOf (Sentence.joined k f g) = formTokens (getD formWords (k - 64) []) (tokensOf f ++ tokensOf g)
+
+unfoldable pub depthOf : Sentence → ℕ
+depthOf (Sentence.name w) = 1
+depthOf (Sentence.negation f) = 1 + depthOf f
+depthOf (Sentence.joined k f g) = 1 + max (depthOf f) (depthOf g)
 
 unfoldable pub isSentence : Sentence → Bool
 isSentence (Sentence.name w) = beginsWithLetter w

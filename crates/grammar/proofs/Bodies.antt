@@ -14,7 +14,8 @@ use lib.ListN.{length, drop, length-append}
 use lib.Dec.{eqb}
 use borrow.Author.Tests.{ne-eqb}
 use Rattle.text.specs.Tokens.{Token, tokens}
-use Rattle.formulas.specs.Parsing.{Items, withTwo}
+use Rattle.formulas.specs.Parsing.{Items}
+use Rattle.formulas.proofs.Operands.{withTwo}
 use Rattle.formulas.specs.Sentence.{Sentence, beginsWithLetter}
 use Rattle.formulas.specs.Items.{prepend, Item, closed, withForm, itemsOf}
 use Rattle.formulas.specs.Keyword.{nodeOf}

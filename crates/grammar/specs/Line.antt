@@ -16,7 +16,7 @@ use Rattle.words.specs.Choice.{pick}
 use Rattle.text.specs.Bytes.{bytes}
 use Rattle.text.specs.Tokens.{Token}
 use Rattle.formulas.specs.Sentence.{beginsWithLetter, Sentence, formTokens, tokensOf, isSentence}
-use Rattle.formulas.specs.Parsing.{depthOf}
+use Rattle.formulas.specs.Sentence.{depthOf}
 
 -- the literal of the name w, negated where the test holds
 pub data Literal : Type 0 where

@@ -12,7 +12,8 @@ use Prim.Native.Nat.{ℕ, _≤_, _<_}
 use lib.ListN.{length, drop}
 use lib.Seq.{slice}
 use Rattle.text.specs.Tokens.{Token, tokens}
-use Rattle.formulas.specs.Parsing.{Items, depthOf}
+use Rattle.formulas.specs.Parsing.{Items}
+use Rattle.formulas.specs.Sentence.{depthOf}
 use Rattle.formulas.specs.Sentence.{Sentence}
 use Rattle.formulas.specs.Items.{prepend, Item, itemsOf}
 use Rattle.grammar.specs.declared.literal.Lit.{Lit}

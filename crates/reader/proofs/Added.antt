@@ -15,7 +15,8 @@ use Rattle.program.specs.Sound.{bare, shaped, fewCauses}
 use Rattle.text.specs.Lines.{lines, isComment}
 use Rattle.text.specs.Tokens.{tokens}
 use Rattle.formulas.specs.Sentence.{Sentence}
-use Rattle.formulas.specs.Parsing.{depthOf, sizeOf}
+use Rattle.formulas.specs.Parsing.{sizeOf}
+use Rattle.formulas.specs.Sentence.{depthOf}
 use Rattle.formulas.proofs.Sentences.{EachName}
 use Rattle.formulas.proofs.Sizes.{tokens-le-bytes}
 use Rattle.grammar.specs.Line.{Line, Literal, isDeep}
@@ -33,7 +34,7 @@ use Rattle.store.proofs.Encoded.{Known, encoded-length, encoded-depth, encoded-
 use Rattle.store.proofs.Literals.{or-atoms-lt, plain-lt, negated-lt, none-bare, body-not-bare}
 use Rattle.checks.specs.Checks.{saidWith, lineRefusal, saidAfter}
 use Rattle.checks.proofs.LineNames.{names-line, names-named}
-use Rattle.checks.proofs.FirstFailed.{none-failed}
+use Rattle.words.proofs.Checks.{none-failed}
 use Rattle.checks.proofs.SaidWith.{rows-said, queries-said}
 use Rattle.checks.proofs.Passing.{FormPasses, line-passes}
 use Rattle.reader.specs.Reading.{Outcome, endChecks, ending, readFile}

@@ -14,7 +14,7 @@ use Rattle.text.specs.Bytes.{isWordByte, isAllowed, allOf, sameBytes}
 use Rattle.text.specs.Lines.{linesFrom, isComment}
 use Rattle.text.specs.Tokens.{tokensFrom}
 use Rattle.table.specs.Filled.{padded}
-use Rattle.formulas.specs.Parsing.{depthOf}
+use Rattle.formulas.specs.Sentence.{depthOf}
 use Rattle.formulas.specs.Keyword.{nodeOf, kindOf}
 use Rattle.formulas.specs.Sentence.{beginsWithLetter, isSentence}
 use Rattle.formulas.specs.Items.{withForm, itemsOf}
@@ -97,7 +97,7 @@ rows = m1 ∷ m4 ∷ []
 -- each row is what reading its file gives
 pub marked-read : map (λ (r : Row). rowOf (r .file)) rows ≡ rows
 unfolding ones onesIn has word nodes headsOf causesAmong fewCauses isWordByte isAllowed allOf sameBytes linesFrom
-    isComment tokensFrom padded namesFrom someLong atomOf withName withNames rowsOf nodeOf kindOf beginsWithLetter depthOf
-    withForm itemsOf literalsOf lineOf someOn plainAtoms negatedAtoms encoded saidBy formRefusal lineRefusal saidAfter
-    clauseWords ending readLines readFile constraintWords formulaNodes isSentence areNamed isLine
+    isComment tokensFrom padded namesFrom someLong atomOf withName withNames rowsOf nodeOf kindOf beginsWithLetter
+    depthOf withForm itemsOf literalsOf lineOf someOn plainAtoms negatedAtoms encoded saidBy formRefusal lineRefusal
+    saidAfter clauseWords ending readLines readFile constraintWords formulaNodes isSentence areNamed isLine
 marked-read = refl

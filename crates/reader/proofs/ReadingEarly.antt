@@ -13,7 +13,7 @@ use Rattle.program.proofs.Soundness.{full-clauses, full-constraints, full-formu
 use Rattle.store.specs.Lent.{Lent}
 use Rattle.store.specs.Tables.{formulaNodes}
 use Rattle.store.specs.Held.{Long}
-use Rattle.checks.proofs.FirstFailed.{none-failed}
+use Rattle.words.proofs.Checks.{none-failed}
 use Rattle.reader.specs.declared.read.Answer.{Answer}
 use Rattle.reader.specs.Operation.{tablesFit, earlyRefusal, ReadAs}
 use Rattle.reader.specs.Steps.{refusedAt, LinesRead}

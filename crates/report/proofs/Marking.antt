@@ -18,7 +18,7 @@ use Rattle.text.specs.Lines.{linesFrom, isComment}
 use Rattle.text.specs.Tokens.{tokensFrom}
 use Rattle.table.specs.Filled.{padded}
 use Rattle.names.specs.Names.{namesFrom, someLong, atomOf, withName, withNames, rowsOf}
-use Rattle.formulas.specs.Parsing.{depthOf}
+use Rattle.formulas.specs.Sentence.{depthOf}
 use Rattle.formulas.specs.Keyword.{nodeOf, kindOf}
 use Rattle.formulas.specs.Sentence.{beginsWithLetter, isSentence}
 use Rattle.formulas.specs.Items.{withForm, itemsOf}

@@ -6,11 +6,10 @@
 --   refusedWith n     the answer of the refusal n
 --   SettledOne        the answer, part by part
 use mathlib.Core.Path.{_≡_}
-use mathlib.Core.Bool.{Bool}
 use mathlib.Core.List.{List, [], _∷_}
 use Prim.Native.Nat.{ℕ}
 use lib.Dec.{ltb}
-use Rattle.words.specs.Choice.{pick, unlessRefused, check, firstFailed}
+use Rattle.words.specs.Choice.{unlessRefused, check, firstFailed}
 use Rattle.program.specs.declared.case.Case.{Case}
 use Rattle.program.specs.Case.{tablesFull}
 use Rattle.program.specs.Program.{Clause, programWith}
@@ -19,10 +18,6 @@ use Rattle.program.specs.Setting.{settingsOf, additionsOf}
 use Rattle.program.specs.Sound.{sound}
 use Rattle.settle.specs.declared.operation.Answer.{Answer}
 use Rattle.settle.specs.Rounds.{settled}
-
--- x where the test holds, otherwise the number of a refusal
-abbrev pub unless : Bool → ℕ → ℕ → ℕ
-unless b n x = pick b x n
 
 unfoldable pub settleRefusal : Case → List ℕ → List ℕ → List ℕ → ℕ → ℕ
 settleRefusal c cl co fo s =

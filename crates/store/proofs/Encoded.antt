@@ -10,7 +10,8 @@ use Rattle.logic.specs.Formula.{depth, over}
 use Rattle.logic.specs.Nodes.{nodes, joined}
 use Rattle.logic.proofs.Spelling.{joined-over, joined-depth}
 use Rattle.formulas.specs.Sentence.{Sentence}
-use Rattle.formulas.specs.Parsing.{depthOf, sizeOf}
+use Rattle.formulas.specs.Parsing.{sizeOf}
+use Rattle.formulas.specs.Sentence.{depthOf}
 use Rattle.formulas.proofs.Sentences.{EachName}
 use Rattle.names.specs.Names.{atomOf}
 use Rattle.store.specs.Saying.{encoded}

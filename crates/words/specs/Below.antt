@@ -1,4 +1,5 @@
 -- Tests over the numbers below n.
+-- From: document 01, "Interpretations and the step" ("the least k") and "Case tables and sound cases" ("every").
 --
 --   any n p       some number below n passes p
 --   every n p     every number below n passes p

@@ -1,4 +1,5 @@
 -- Choices by a test, and by the number of a refusal, 0 where nothing is refused.
+-- From: document 01, "What each operation refuses" (refusals by number, in their order).
 --
 --   pick t x y             x where the test t holds, otherwise y
 --   consIf t x l           x in front of l where the test t holds, otherwise l
