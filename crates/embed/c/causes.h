@@ -50,8 +50,8 @@ enum {
 enum {
     CAUSES_READ_STACK = 32768,
     CAUSES_SETTLE_STACK = 32768,
-    CAUSES_QUESTION_STACK = 98304,
-    CAUSES_REPORT_STACK = 196608
+    CAUSES_QUESTION_STACK = 49152,
+    CAUSES_REPORT_STACK = 131072
 };
 
 /* Words of a case record: the counts of atoms, clauses, constraints and formula nodes, the plain and the negated

@@ -7,7 +7,7 @@ pub const READ: usize = 32_768;
 pub const SETTLE: usize = 32_768;
 
 /// For the question.
-pub const QUESTION: usize = 98_304;
+pub const QUESTION: usize = 49_152;
 
 /// For the report.
-pub const REPORT: usize = 196_608;
+pub const REPORT: usize = 131_072;
