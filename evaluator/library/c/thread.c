@@ -2,7 +2,8 @@
  *
  *   thread read|settle|question|report [BYTES]
  *
- * The status is 0 if the call is answered. BYTES is another size, to find the least with which the call ends. */
+ * The status is 0 if the call is answered, or ends where the file is one that reading refuses. BYTES is another size, to
+ * find the least with which the call ends. */
 #include "causes_case.h"
 
 #include <pthread.h>
@@ -67,15 +68,13 @@ static int in_thread(void *(*run)(void *), size_t bytes)
 int main(int count, char **words)
 {
     size_t i;
+    int accepted;
     file_bytes = fread(file, 1, sizeof file, stdin);
-    if (causes_case_read(&lent, file, file_bytes, NULL) != 0) {
-        fprintf(stderr, "thread: the file is refused\n");
-        return 2;
-    }
+    accepted = causes_case_read(&lent, file, file_bytes, NULL) == 0;
     for (i = 0; i < sizeof operations / sizeof *operations; i++)
         if (count > 1 && strcmp(words[1], operations[i].name) == 0) {
             size_t bytes = count > 2 ? strtoul(words[2], NULL, 10) : operations[i].bytes;
-            return in_thread(operations[i].run, bytes) && refusal == 0 ? 0 : 1;
+            return in_thread(operations[i].run, bytes) && (refusal == 0 || !accepted) ? 0 : 1;
         }
     fprintf(stderr, "thread: read|settle|question|report [BYTES]\n");
     return 2;
