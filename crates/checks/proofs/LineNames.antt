@@ -11,13 +11,14 @@ use Rattle.text.specs.Bytes.{isWordByte, allOf}
 use Rattle.text.specs.Tokens.{Token, tokens}
 use Rattle.text.proofs.Words.{WordBytes, tokens-word-bytes}
 use Rattle.formulas.specs.Parsing.{Items}
-use Rattle.formulas.specs.Sentence.{Sentence, beginsWithLetter}
+use Rattle.text.specs.Words.{beginsWithLetter, namesFrom, namesIn}
+use Rattle.formulas.specs.Sentence.{Sentence}
 use Rattle.formulas.specs.Items.{prepend, Item, withForm, itemsOf}
 use Rattle.formulas.specs.Keyword.{nodeOf, kindOf}
 use Rattle.formulas.proofs.Items.{EachWord}
 use Rattle.grammar.specs.LineOf.{withItems, lineOf, isNoForm}
 use Rattle.grammar.proofs.Names.{EachOfLine, line-names}
-use Rattle.names.specs.Names.{namesFrom, namesIn, someLong}
+use Rattle.names.specs.Names.{someLong}
 use Rattle.names.proofs.Each.{Each, each-both, each-gives}
 use Rattle.names.proofs.LineNames.{some-long-none}
 use Rattle.checks.specs.Naming.{IsName}

@@ -13,7 +13,8 @@ use Rattle.text.specs.Tokens.{Token, tokens}
 use Rattle.grammar.specs.Line.{isDeep}
 use Rattle.grammar.specs.LineOf.{lineOf, isNoForm}
 use Rattle.grammar.proofs.Spelling.{no-form-is}
-use Rattle.names.specs.Names.{namesIn, someLong, withNames}
+use Rattle.text.specs.Words.{namesIn}
+use Rattle.names.specs.Names.{someLong, withNames}
 use Rattle.store.specs.Saying.{Said}
 use Rattle.checks.specs.Checks.{saidWith, formChecks, lineRefusal}
 use Rattle.words.proofs.Checks.{Passes, none-failed}

@@ -10,7 +10,8 @@ use borrow.Author.Tests.{leb-true, leb-false, lt-leb, le-leb}
 use Rattle.text.specs.Tokens.{Token}
 use Rattle.grammar.specs.Line.{Line}
 use Rattle.grammar.specs.LineOf.{lineOf}
-use Rattle.names.specs.Names.{namesIn, withNames}
+use Rattle.text.specs.Words.{namesIn}
+use Rattle.names.specs.Names.{withNames}
 use Rattle.store.specs.Saying.{Said, renamed, saidBy}
 use Rattle.store.specs.Checking.{isOneTooMany, isSecondQuery}
 use Rattle.checks.specs.Checks.{saidWith}

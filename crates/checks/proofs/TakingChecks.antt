@@ -14,7 +14,8 @@ use Rattle.text.specs.Tokens.{Token, tokens}
 use Rattle.grammar.specs.Line.{Line, isLine, isDeep}
 use Rattle.grammar.specs.LineOf.{lineOf, isNoForm}
 use Rattle.grammar.proofs.Spelling.{no-form-is}
-use Rattle.names.specs.Names.{namesIn, someLong, withNames}
+use Rattle.text.specs.Words.{namesIn}
+use Rattle.names.specs.Names.{someLong, withNames}
 use Rattle.store.specs.Lent.{Lent}
 use Rattle.store.specs.Saying.{Said, renamed}
 use Rattle.store.specs.Checking.{isOneTooMany, isSecondQuery}

@@ -15,7 +15,8 @@ use Rattle.grammar.specs.Line.{Line, Literal, isDeep}
 use Rattle.grammar.specs.LineOf.{lineOf, isNoForm}
 use Rattle.grammar.specs.Parsing.{FormFound}
 use Rattle.grammar.proofs.Names.{EachLiteral, EachOfLine}
-use Rattle.names.specs.Names.{namesIn, someLong, atomOf, withNames}
+use Rattle.text.specs.Words.{namesIn}
+use Rattle.names.specs.Names.{someLong, atomOf, withNames}
 use Rattle.names.specs.Held.{LineInterned}
 use Rattle.names.proofs.Each.{each-both, each-gives}
 use Rattle.names.proofs.Adding.{each-found}

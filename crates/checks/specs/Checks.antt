@@ -17,7 +17,8 @@ use Rattle.text.specs.Lines.{isComment}
 use Rattle.text.specs.Tokens.{Token, tokens}
 use Rattle.grammar.specs.Line.{isLine, isDeep}
 use Rattle.grammar.specs.LineOf.{lineOf}
-use Rattle.names.specs.Names.{namesIn, someLong, withNames}
+use Rattle.text.specs.Words.{namesIn}
+use Rattle.names.specs.Names.{someLong, withNames}
 use Rattle.store.specs.Saying.{Said, renamed, saidBy}
 
 abbrev pub saidWith : Said → List Token → Said

@@ -6,7 +6,7 @@ use mathlib.Core.List.{List}
 use Prim.Native.Nat.{ℕ, _≤_}
 use lib.ListN.{length}
 use Rattle.text.specs.Bytes.{isWordByte, allOf}
-use Rattle.formulas.specs.Sentence.{beginsWithLetter}
+use Rattle.text.specs.Words.{beginsWithLetter}
 
 -- a name as document 01 words it: a letter, then letters, digits or `-`, 16 bytes at most
 pub record IsName (w : List ℕ) : Type 0 where

@@ -10,7 +10,8 @@ use Rattle.text.specs.Tokens.{tokens}
 use Rattle.text.specs.declared.tokens.Next.{Next}
 use Rattle.text.specs.declared.tokens.Next.the-variants.{End, Open, Close, Word}
 use Rattle.text.specs.Scanning.{Found}
-use Rattle.formulas.specs.Sentence.{Sentence, beginsWithLetter}
+use Rattle.text.specs.Words.{beginsWithLetter}
+use Rattle.formulas.specs.Sentence.{Sentence}
 use Rattle.formulas.specs.Items.{prepend, Item, withForm, itemsOf}
 use Rattle.formulas.specs.declared.formula.Parse.{Parse}
 use Rattle.formulas.specs.declared.formula.Parse.the-variants.{NoFormula, Formula}

@@ -1,20 +1,11 @@
--- Names and formulas: what a name begins with, how a formula's depth, its nodes and its tokens bound each other, and
+-- Formulas: how a formula's depth, its nodes and its tokens bound each other, and
 -- what holds of each name of a formula. Assumes nothing.
-use mathlib.Core.Path.{_≡_}
 use mathlib.Core.List.{List}
-use Prim.Native.Nat.{ℕ, _+_, _*_, _≤_, _<_}
+use Prim.Native.Nat.{ℕ, _+_, _*_, _≤_}
 use native.Mathlib.Omega.{arith}
-use lib.ListN.{length, getD}
-use lib.Seq.{slice, slice-cons}
-use Rattle.text.specs.Bytes.{isLetter}
-use Rattle.formulas.specs.Sentence.{Sentence, beginsWithLetter}
+use Rattle.formulas.specs.Sentence.{Sentence}
 use Rattle.formulas.specs.Parsing.{sizeOf}
 use Rattle.formulas.specs.Sentence.{depthOf}
-
--- a word is a name by its first byte
-pub name-first : (l : List ℕ) (a e : ℕ) → a < e → e ≤ length l → beginsWithLetter (slice a e l) ≡ isLetter (getD l a 0)
-unfolding beginsWithLetter
-name-first l a e h k = rw (slice-cons a e l 0 h k)
 
 pub depth-le-size : (f : Sentence) → depthOf f ≤ sizeOf f
 unfolding depthOf sizeOf

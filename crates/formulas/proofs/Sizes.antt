@@ -12,7 +12,8 @@ use Rattle.text.specs.Bytes.{isWordByte}
 use Rattle.text.specs.Tokens.{Token, ended, bracket, tokensFrom, tokens}
 use Rattle.formulas.specs.Parsing.{Items, sizeOf}
 use Rattle.formulas.proofs.Operands.{withOne, withSecond, withTwo}
-use Rattle.formulas.specs.Sentence.{Sentence, beginsWithLetter}
+use Rattle.text.specs.Words.{beginsWithLetter}
+use Rattle.formulas.specs.Sentence.{Sentence}
 use Rattle.formulas.specs.Items.{prepend, Item, closed, withForm, itemsOf}
 use Rattle.formulas.specs.Keyword.{nodeOf}
 use Rattle.formulas.proofs.Sentences.{tokenCount, size-le-tokens}

@@ -20,7 +20,8 @@ use Rattle.text.specs.Tokens.{Token}
 use Rattle.text.proofs.ByteLaws.{and-true-both}
 use Rattle.formulas.specs.Parsing.{Items}
 use Rattle.formulas.proofs.Operands.{withOne, withTwo}
-use Rattle.formulas.specs.Sentence.{Sentence, beginsWithLetter, formWords, tokensOf, isSentence}
+use Rattle.text.specs.Words.{beginsWithLetter}
+use Rattle.formulas.specs.Sentence.{Sentence, formWords, tokensOf, isSentence}
 use Rattle.formulas.specs.Items.{prepend, Item, withForm, itemsOf}
 use Rattle.formulas.specs.Keyword.{nodeOf}
 use Rattle.formulas.proofs.Keywords.{WordOf, node-word, word-node}

@@ -10,7 +10,8 @@ use lib.Dec.{eqb}
 use Rattle.words.specs.Choice.{pick}
 use Rattle.text.specs.Tokens.{Token}
 use Rattle.formulas.specs.Keyword.{nodeOf}
-use Rattle.formulas.specs.Sentence.{beginsWithLetter, Sentence}
+use Rattle.text.specs.Words.{beginsWithLetter}
+use Rattle.formulas.specs.Sentence.{Sentence}
 
 -- what tokens are read as, one after the other: formulas, and the closing brackets of forms around them
 pub data Item : Type 0 where

@@ -1,23 +1,19 @@
 -- Formulas over names, and how a line spells them.
 -- From: document 01, "The file" ("F is N, `(not F)`, or `(and F F)`, likewise or, then, same").
 --
---   beginsWithLetter w   w begins with a letter; the rest of a word is letters, digits and `-` anyway
 --   Sentence             a formula over names: F
 --   formTokens w ts      the tokens of the form with the word w and with the tokens ts behind it
 --   tokensOf f           the tokens of the formula f
 --   depthOf f            a name has depth 1, a form one more than its deepest operand
 --   isSentence f         the names of f are names, and its nodes are those of the words
-use mathlib.Core.Bool.{Bool, false, _&&_}
+use mathlib.Core.Bool.{Bool, _&&_}
 use mathlib.Core.List.{List, [], _∷_, _++_}
 use Prim.Native.Nat.{ℕ, _+_, _-_, max}
 use lib.Dec.{leb}
 use lib.ListN.{getD}
-use Rattle.text.specs.Bytes.{isLetter, bytes}
+use Rattle.text.specs.Bytes.{bytes}
 use Rattle.text.specs.Tokens.{Token}
-
-unfoldable pub beginsWithLetter : List ℕ → Bool
-beginsWithLetter [] = false
-beginsWithLetter (b ∷ w) = isLetter b
+use Rattle.text.specs.Words.{beginsWithLetter}
 
 -- joined k f g is the form with the node k: 65 and, 66 or, 67 then, 68 same
 pub data Sentence : Type 0 where

@@ -1,11 +1,9 @@
 // Formulas in a line.
 ghost use mathlib.Core.Path.{_≡_};
-ghost use Prim.Native.Nat.{_≤_, _<_, max};
-ghost use lib.ListN.{length};
-ghost use lib.Seq.{slice};
-ghost use Rattle.formulas.specs.Sentence.{beginsWithLetter};
+ghost use Prim.Native.Nat.{max};
 ghost use Rattle.formulas.specs.Parsing.{Parsed, Closed};
 use crate::keyword::node_of;
+use text::name::is_name;
 use text::tokens::Next;
 use text::tokens::token;
 
@@ -13,18 +11,6 @@ use text::tokens::token;
 pub enum Parse {
     NoFormula,
     Formula(usize, usize),
-}
-
-// Whether the word from a to e is a name.
-pub fn is_name(l: &[u8], a: usize, e: usize) -> bool
-    requires { ⌜ (a < e) × (e ≤ length (now l)) ⌝ }
-    ensures { λ r. ⌜ r ≡ beginsWithLetter (slice a e (now (l .entry))) ⌝ }
-{
-    let b = l[a];
-    if b < 97 {
-        return false;
-    }
-    b <= 122
 }
 
 fn greater_of(a: usize, b: usize) -> usize

@@ -16,7 +16,8 @@ use borrow.Author.Tests.{ne-eqb}
 use Rattle.text.specs.Tokens.{Token, tokens}
 use Rattle.formulas.specs.Parsing.{Items}
 use Rattle.formulas.proofs.Operands.{withTwo}
-use Rattle.formulas.specs.Sentence.{Sentence, beginsWithLetter}
+use Rattle.text.specs.Words.{beginsWithLetter}
+use Rattle.formulas.specs.Sentence.{Sentence}
 use Rattle.formulas.specs.Items.{prepend, Item, closed, withForm, itemsOf}
 use Rattle.formulas.specs.Keyword.{nodeOf}
 use Rattle.formulas.proofs.Items.{picked-items, negation-items}

@@ -15,7 +15,8 @@ use lib.ListN.{length, getD}
 use Rattle.words.specs.Choice.{pick}
 use Rattle.text.specs.Bytes.{bytes}
 use Rattle.text.specs.Tokens.{Token}
-use Rattle.formulas.specs.Sentence.{beginsWithLetter, Sentence, formTokens, tokensOf, isSentence}
+use Rattle.text.specs.Words.{beginsWithLetter}
+use Rattle.formulas.specs.Sentence.{Sentence, formTokens, tokensOf, isSentence}
 use Rattle.formulas.specs.Sentence.{depthOf}
 
 -- the literal of the name w, negated where the test holds

@@ -7,8 +7,8 @@ use crate::literal::Run;
 use crate::literal::body;
 use formulas::formula::Parse;
 use formulas::formula::formula_at;
-use formulas::formula::is_name;
 use formulas::keyword::kind_of;
+use text::name::is_name;
 use text::tokens::Next;
 use text::tokens::token;
 

@@ -2,8 +2,8 @@
 ghost use Prim.Native.Nat.{_≤_};
 ghost use lib.ListN.{length};
 ghost use Rattle.grammar.specs.Parsing.{LiteralFound, BodyFound, NegationFound};
-use formulas::formula::is_name;
 use formulas::keyword::node_of;
+use text::name::is_name;
 use text::tokens::Next;
 use text::tokens::token;
 

@@ -9,6 +9,7 @@ use native.Mathlib.Omega.{arith}
 use lib.ListN.{length, drop, getD, drop-of-length-le}
 use lib.Seq.{drop-cons}
 use Rattle.text.specs.Bytes.{sameBytes}
+use Rattle.text.specs.Words.{placeOf}
 use Rattle.text.proofs.Same.{same-refl, same-eq}
 use Rattle.names.specs.Names.{atomOf}
 
@@ -20,15 +21,15 @@ by-test false f g = g refl
 -- the first name is w, or is another
 module _ (n w : List ℕ) (ns : List (List ℕ)) where
   pub atom-here : sameBytes n w ≡ true → atomOf (n ∷ ns) w ≡ 0
-  unfolding atomOf
+  unfolding placeOf
   atom-here e = rw e
 
   pub atom-later : sameBytes n w ≡ false → atomOf (n ∷ ns) w ≡ suc (atomOf ns w)
-  unfolding atomOf
+  unfolding placeOf
   atom-later e = rw e
 
 pub atom-none : (w : List ℕ) → atomOf [] w ≡ 0
-unfolding atomOf
+unfolding placeOf
 atom-none w = refl
 
 pub atom-le : (ns : List (List ℕ)) (w : List ℕ) → atomOf ns w ≤ length ns

@@ -9,7 +9,8 @@ use lib.ListN.{length, length-append}
 use lib.Seq.{sets}
 use Rattle.text.specs.Tokens.{tokens}
 use Rattle.table.specs.Filled.{padded}
-use Rattle.names.specs.Names.{atomOf, withName, withNames, namesIn, someLong}
+use Rattle.text.specs.Words.{namesIn}
+use Rattle.names.specs.Names.{atomOf, withName, withNames, someLong}
 use Rattle.names.specs.Held.{Named, Holds, Interned, LineInterned}
 use Rattle.names.proofs.Adding.{with-name-known, with-name-new, with-names-length}
 use Rattle.names.proofs.Rows.{held-push}

@@ -16,7 +16,8 @@ use Rattle.text.specs.declared.tokens.Next.{Next}
 use Rattle.text.specs.declared.tokens.Next.the-variants.{End, Open, Close, Word}
 use Rattle.text.proofs.ByteLaws.{all-head, all-tail, word-byte-not-zero}
 use Rattle.text.proofs.Words.{first-word-bytes}
-use Rattle.names.specs.Names.{namesFrom, someLong}
+use Rattle.text.specs.Words.{namesFrom}
+use Rattle.names.specs.Names.{someLong}
 use Rattle.names.specs.Held.{NoZero, Named}
 use Rattle.names.proofs.Atoms.{by-test}
 

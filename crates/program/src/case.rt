@@ -23,12 +23,14 @@ impl Case {
 
     pub const CAUSES: u32 = 10;
 
-    // Sizes of the lent tables: words of clauses, words of constraints, bytes of the formula.
+    // Sizes of the lent tables: words of clauses, words of constraints, bytes of the formula and of the names.
     pub const CLAUSE_WORDS: usize = 768;
 
     pub const CONSTRAINT_WORDS: usize = 64;
 
     pub const FORMULA_BYTES: usize = 128;
+
+    pub const NAME_BYTES: usize = 1024;
 }
 
 // Whether the lent tables have their full sizes.

@@ -23,7 +23,8 @@ use Rattle.grammar.specs.Line.{Line, Literal, isDeep}
 use Rattle.grammar.specs.LineOf.{lineOf}
 use Rattle.grammar.proofs.Names.{EachLiteral, EachOfLine}
 use Rattle.grammar.proofs.Shapes.{Bodied, ClauseShaped, Shaped, line-shaped}
-use Rattle.names.specs.Names.{namesIn, withNames}
+use Rattle.text.specs.Words.{namesIn}
+use Rattle.names.specs.Names.{withNames}
 use Rattle.names.proofs.Adding.{each-found}
 use Rattle.store.specs.Saying.{ClauseRow, ConstraintRow, Said, nothingSaid, plainAtoms, negatedAtoms, encoded}
 use Rattle.store.specs.Saying.{clauseRow, constraintRow, renamed, withClause, withConstraint, withObserved, withQuery}

@@ -12,7 +12,8 @@ use Rattle.text.specs.Tokens.{tokens}
 use Rattle.grammar.specs.Line.{Line, Literal}
 use Rattle.grammar.specs.LineOf.{lineOf}
 use Rattle.grammar.proofs.Names.{EachOfLine}
-use Rattle.names.specs.Names.{namesIn, atomOf, withNames}
+use Rattle.text.specs.Words.{namesIn}
+use Rattle.names.specs.Names.{atomOf, withNames}
 use Rattle.names.proofs.Adding.{with-names-append, with-names-atom, each-found}
 use Rattle.store.specs.Saying.{Said, someOn, plainAtoms, negatedAtoms, renamed, saidBy}
 use Rattle.store.proofs.Encoded.{Known}

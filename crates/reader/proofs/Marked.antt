@@ -16,11 +16,12 @@ use Rattle.text.specs.Tokens.{tokensFrom}
 use Rattle.table.specs.Filled.{padded}
 use Rattle.formulas.specs.Sentence.{depthOf}
 use Rattle.formulas.specs.Keyword.{nodeOf, kindOf}
-use Rattle.formulas.specs.Sentence.{beginsWithLetter, isSentence}
+use Rattle.text.specs.Words.{beginsWithLetter, namesFrom, placeOf}
+use Rattle.formulas.specs.Sentence.{isSentence}
 use Rattle.formulas.specs.Items.{withForm, itemsOf}
 use Rattle.grammar.specs.Line.{areNamed, isLine}
 use Rattle.grammar.specs.LineOf.{literalsOf, lineOf}
-use Rattle.names.specs.Names.{namesFrom, someLong, atomOf, withName, withNames, rowsOf}
+use Rattle.names.specs.Names.{someLong, withName, withNames, rowsOf}
 use Rattle.store.specs.Saying.{someOn, plainAtoms, negatedAtoms, encoded, saidBy}
 use Rattle.store.specs.Tables.{clauseWords, constraintWords, formulaNodes, caseSaid}
 use Rattle.checks.specs.Checks.{formRefusal, lineRefusal, saidAfter}
@@ -97,7 +98,7 @@ rows = m1 ∷ m4 ∷ []
 -- each row is what reading its file gives
 pub marked-read : map (λ (r : Row). rowOf (r .file)) rows ≡ rows
 unfolding ones onesIn has word nodes headsOf causesAmong fewCauses isWordByte isAllowed allOf sameBytes linesFrom
-    isComment tokensFrom padded namesFrom someLong atomOf withName withNames rowsOf nodeOf kindOf beginsWithLetter
+    isComment tokensFrom padded namesFrom someLong placeOf withName withNames rowsOf nodeOf kindOf beginsWithLetter
     depthOf withForm itemsOf literalsOf lineOf someOn plainAtoms negatedAtoms encoded saidBy formRefusal lineRefusal
     saidAfter clauseWords ending readLines readFile constraintWords formulaNodes isSentence areNamed isLine
 marked-read = refl

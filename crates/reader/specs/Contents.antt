@@ -27,7 +27,8 @@ use Rattle.text.specs.Tokens.{tokens}
 use Rattle.table.specs.Filled.{padded}
 use Rattle.grammar.specs.Line.{Line, Literal}
 use Rattle.grammar.specs.LineOf.{lineOf}
-use Rattle.names.specs.Names.{namesIn, atomOf, withNames}
+use Rattle.text.specs.Words.{namesIn}
+use Rattle.names.specs.Names.{atomOf, withNames}
 use Rattle.store.specs.Lent.{Lent}
 use Rattle.store.specs.Saying.{plainAtoms, negatedAtoms, encoded}
 

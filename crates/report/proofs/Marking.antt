@@ -17,10 +17,11 @@ use Rattle.text.specs.Bytes.{isWordByte, isAllowed, allOf, sameBytes}
 use Rattle.text.specs.Lines.{linesFrom, isComment}
 use Rattle.text.specs.Tokens.{tokensFrom}
 use Rattle.table.specs.Filled.{padded}
-use Rattle.names.specs.Names.{namesFrom, someLong, atomOf, withName, withNames, rowsOf}
+use Rattle.names.specs.Names.{someLong, withName, withNames, rowsOf}
 use Rattle.formulas.specs.Sentence.{depthOf}
 use Rattle.formulas.specs.Keyword.{nodeOf, kindOf}
-use Rattle.formulas.specs.Sentence.{beginsWithLetter, isSentence}
+use Rattle.text.specs.Words.{beginsWithLetter, namesFrom, placeOf}
+use Rattle.formulas.specs.Sentence.{isSentence}
 use Rattle.formulas.specs.Items.{withForm, itemsOf}
 use Rattle.grammar.specs.Line.{areNamed, isLine}
 use Rattle.grammar.specs.LineOf.{literalsOf, lineOf}
@@ -35,7 +36,7 @@ unfolding ones onesIn has word valueOf literalsBelow nodes withNode spelled form
     headsOf causesAmong causesOf atomsFrom choicesFor product digits digitOf settingsOf additionsOf fewCauses bodiesOf
     someTrue allFalse nextValue step rounds roundCount settled observedTrue noneBroken explainsUnder setExplains
     subsetOf properOf someProper minimal minimalsBelow roundsBelow trueInAll falseInAll verdictOf isWordByte isAllowed
-    allOf sameBytes linesFrom isComment tokensFrom padded namesFrom someLong atomOf withName withNames rowsOf nodeOf
+    allOf sameBytes linesFrom isComment tokensFrom padded namesFrom someLong placeOf withName withNames rowsOf nodeOf
     kindOf beginsWithLetter depthOf withForm itemsOf literalsOf lineOf someOn plainAtoms negatedAtoms encoded saidBy
     formRefusal lineRefusal saidAfter clauseWords ending readLines readFile constraintWords formulaNodes isSentence
     areNamed isLine

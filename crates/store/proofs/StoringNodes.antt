@@ -17,7 +17,8 @@ use Rattle.text.specs.Scanning.{Found}
 use Rattle.table.specs.Filled.{filled}
 use Rattle.table.proofs.Filled.{filled-length, filled-push}
 use Rattle.formulas.specs.declared.formula.Parse.the-variants.{NoFormula}
-use Rattle.formulas.specs.Sentence.{Sentence, beginsWithLetter}
+use Rattle.text.specs.Words.{beginsWithLetter}
+use Rattle.formulas.specs.Sentence.{Sentence}
 use Rattle.formulas.specs.Items.{Item, itemsOf}
 use Rattle.formulas.specs.Parsing.{beginsFormula, Parsed, closedAmong}
 use Rattle.formulas.proofs.Keywords.{NodeNumber}

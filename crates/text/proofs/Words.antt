@@ -1,14 +1,17 @@
--- What the words of a line are made of: at least one byte, and bytes that stand in words only. Assumes nothing.
+-- What the words of a line are made of: at least one byte, and bytes that stand in words only; and what a name begins
+-- with. Assumes nothing.
 use mathlib.Core.Path.{_≡_, refl, subst}
 use mathlib.Core.Bool.{Bool, true, false}
 use mathlib.Core.List.{List, [], _∷_, _++_}
-use Prim.Native.Nat.{ℕ, _<_}
+use Prim.Native.Nat.{ℕ, _≤_, _<_}
 use native.Mathlib.Omega.{arith}
 use lib.Dec.{eqb}
-use lib.ListN.{length}
+use lib.ListN.{length, getD}
+use lib.Seq.{slice, slice-cons}
 use Rattle.words.specs.Choice.{pick}
-use Rattle.text.specs.Bytes.{isWordByte, allOf}
+use Rattle.text.specs.Bytes.{isLetter, isWordByte, allOf}
 use Rattle.text.specs.Tokens.{Token, ended, bracket, tokensFrom, tokens}
+use Rattle.text.specs.Words.{beginsWithLetter}
 use Rattle.text.proofs.ByteLaws.{all-push}
 
 -- a word that holds a byte, and only bytes that stand in words
@@ -50,3 +53,8 @@ tokens-word-bytes l = tokens-from-bytes [] l refl
 -- the first word of a line, or of what is left of it
 pub first-word-bytes : (l w : List ℕ) (ts : List Token) → tokens l ≡ Token.word w ∷ ts → IsWord w
 first-word-bytes l w ts e = subst WordBytes e (tokens-word-bytes l) .0
+
+-- a word is a name by its first byte
+pub name-first : (l : List ℕ) (a e : ℕ) → a < e → e ≤ length l → beginsWithLetter (slice a e l) ≡ isLetter (getD l a 0)
+unfolding beginsWithLetter
+name-first l a e h k = rw (slice-cons a e l 0 h k)

@@ -2,8 +2,10 @@
 -- Bytes: which bytes stand in words, and which a line may have.
 -- Lines: the lines of a file.
 -- Tokens: the words and brackets of a line.
+-- Words: names among the words of a line, and the place of a word among others.
 -- Scanning: what scanning from a place finds.
 pub mod Bytes
 pub mod Lines
 pub mod Tokens
+pub mod Words
 pub mod Scanning

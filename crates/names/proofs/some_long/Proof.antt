@@ -9,7 +9,8 @@ use lib.ListN.{length}
 use lib.Seq.{slice, length-slice}
 use Rattle.text.specs.Tokens.{tokens}
 use Rattle.text.specs.Scanning.{Inside}
-use Rattle.names.specs.Names.{namesIn, someLong}
+use Rattle.text.specs.Words.{namesIn}
+use Rattle.names.specs.Names.{someLong}
 use Rattle.names.proofs.LineNames.{some-long-here, some-long-later, namesLeft, left-end, left-open, left-close}
 use Rattle.names.proofs.LineNames.{left-form, left-name}
 use Rattle.names.proofs.some_long.Statement.{statement}

@@ -7,7 +7,8 @@ use borrow.Author.Needs.{needs}
 use lib.ListN.{length}
 use Rattle.text.specs.Tokens.{tokens}
 use Rattle.grammar.specs.LineOf.{lineOf}
-use Rattle.names.specs.Names.{namesIn, withNames}
+use Rattle.text.specs.Words.{namesIn}
+use Rattle.names.specs.Names.{withNames}
 use Rattle.store.specs.Lent.{lent}
 use Rattle.store.proofs.TakingHeld.{held-spoilt, held-atoms, named-spoilt}
 use Rattle.store.proofs.TakingForms.{parts-inside}

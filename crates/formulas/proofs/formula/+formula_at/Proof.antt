@@ -20,7 +20,7 @@ use Rattle.formulas.proofs.formula.formula_at.Kinds as formula-at-kinds
 use Rattle.formulas.proofs.formula.+formula_at.Lts-formula_at as formula-at-lts
 use Rattle.formulas.proofs.formula.closed_form.Reads as closed-form-reads
 use Rattle.formulas.proofs.formula.greater_of.Reads as greater-of-reads
-use Rattle.formulas.proofs.formula.is_name.Reads as is-name-reads
+use Rattle.text.proofs.name.is_name.Reads as is-name-reads
 use Rattle.formulas.proofs.keyword.node_of.Reads as node-of-reads
 use Rattle.text.proofs.tokens.token.Reads as token-reads
 use Rattle.formulas.proofs.formula.+formula_at.{statement}

@@ -1,10 +1,10 @@
--- `formula::is_name` meets its contract, by the word's first byte. Assumes nothing.
+-- `name::is_name` meets its contract, by the word's first byte. Assumes nothing.
 use borrow.Author.Needs.{needs}
 use borrow.Author.Tests.{le-leb, lt-leb}
 use mathlib.Core.Path.{sym, _∙_}
-use Rattle.formulas.proofs.Sentences.{name-first}
-use Rattle.formulas.proofs.formula.is_name.Statement.{statement}
-use Rattle.formulas.proofs.formula.is_name.Tie as tie
+use Rattle.text.proofs.Words.{name-first}
+use Rattle.text.proofs.name.is_name.Statement.{statement}
+use Rattle.text.proofs.name.is_name.Tie as tie
 
 shared-slice-read-b : tie.Need-shared-slice-read-b
 shared-slice-read-b c = search needs
