@@ -2,8 +2,10 @@
 -- Bytes: which bytes stand in words, and which a line may have.
 -- Lines: the lines of a file.
 -- Tokens: the words and brackets of a line.
+-- Numbers: the number that digits stand for.
 -- Scanning: what scanning from a place finds.
 pub mod Bytes
 pub mod Lines
 pub mod Tokens
+pub mod Numbers
 pub mod Scanning
