@@ -5,9 +5,11 @@
 -- LineLaws: the lines of a file.
 -- TokenLaws: the words and brackets of a line.
 -- Words: what the words of a line are made of.
+-- NumberLaws: the number that digits stand for.
 pub mod Slices
 pub mod ByteLaws
 pub mod Same
 pub mod LineLaws
 pub mod TokenLaws
 pub mod Words
+pub mod NumberLaws

@@ -29,7 +29,7 @@ use Rattle.store.specs.Saying.{someOn, plainAtoms, negatedAtoms, encoded, saidB
 use Rattle.store.specs.Tables.{clauseWords, constraintWords, formulaNodes}
 use Rattle.checks.specs.Checks.{formRefusal, lineRefusal, saidAfter}
 use Rattle.reader.specs.Reading.{ending, readLines, readFile}
-use Rattle.report.specs.Marked.{MarkedRows}
+use Rattle.marked.specs.Marked.{MarkedRows}
 
 pub marked-rows : MarkedRows
 unfolding ones onesIn has word valueOf literalsBelow nodes withNode spelled formulaOf clauseAt clausesOf addedBelow
