@@ -7,7 +7,7 @@ use native.Mathlib.Numerals.{add-one}
 use native.Mathlib.Omega.{arith}
 use lib.ListN.{length, take, drop, getD, drop-of-length-le, length-append}
 use lib.Seq.{drop-cons, getD-take, length-take-le}
-use Rattle.question.specs.declared.verdict.Verdict.{Verdict}
+use Rattle.verdict.specs.declared.verdict.Verdict.{Verdict}
 use Rattle.output.specs.Decimal.{decimal}
 use Rattle.output.specs.Writing.{Writes, Room}
 use Rattle.output.proofs.Laying.{writes-append}
