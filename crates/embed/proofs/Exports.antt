@@ -8,9 +8,9 @@ use Rattle.program.specs.declared.case.Case.{Case}
 use Rattle.settle.specs.declared.operation.Answer as settled
 use Rattle.settle.specs.Operation.{SettledOne}
 use Rattle.question.specs.declared.operation.Answer as asked
-use Rattle.question.specs.declared.verdict.Verdict.{Verdict}
+use Rattle.verdict.specs.declared.verdict.Verdict.{Verdict}
 use Rattle.question.specs.Operation.{Asked}
-use Rattle.question.specs.Walk.{verdictNumber}
+use Rattle.verdict.specs.Walk.{verdictNumber}
 use Rattle.embed.specs.Words.{caseIn}
 use Rattle.embed.specs.Operation.{SettleOut, QuestionOut}
 

@@ -12,7 +12,7 @@ use Rattle.settle.specs.Step.{bodiesOf, someTrue, allFalse, nextValue, step}
 use Rattle.settle.specs.Rounds.{rounds, roundCount, settled}
 use Rattle.explanation.specs.Explanation.{observedTrue, noneBroken, explainsUnder, setExplains}
 use Rattle.explanation.specs.Subset.{subsetOf, properOf, someProper, minimal}
-use Rattle.question.specs.Walk.{minimalsBelow, roundsBelow, trueInAll, falseInAll, verdictOf}
+use Rattle.verdict.specs.Walk.{minimalsBelow, roundsBelow, trueInAll, falseInAll, verdictOf}
 use Rattle.text.specs.Bytes.{isWordByte, isAllowed, allOf, sameBytes}
 use Rattle.text.specs.Lines.{linesFrom, isComment}
 use Rattle.text.specs.Tokens.{tokensFrom}

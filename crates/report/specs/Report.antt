@@ -14,9 +14,9 @@ use lib.Dec.{ltb}
 use lib.ListN.{length, getD, take}
 use Rattle.table.specs.Filled.{padded}
 use Rattle.program.specs.Cause.{causesOf}
-use Rattle.question.specs.declared.verdict.Verdict.{Verdict}
+use Rattle.verdict.specs.declared.verdict.Verdict.{Verdict}
 use Rattle.explanation.specs.Judge.{Judge, judgeOf}
-use Rattle.question.specs.Walk.{roundsBelow, verdictOf}
+use Rattle.verdict.specs.Walk.{roundsBelow, verdictOf}
 use Rattle.question.specs.Operation.{settingsIn, minimalsIn}
 use Rattle.store.specs.Saying.{Said}
 use Rattle.store.specs.Tables.{clauseWords, constraintWords, formulaNodes, caseSaid}

@@ -15,7 +15,7 @@ use output::put;
 use output::put_decimal;
 use output::put_name;
 use output::put_text;
-use question::verdict::Verdict;
+use verdict::verdict::Verdict;
 
 // Writes the line of a verdict.
 fn verdict_line(out: &mut [u8], at: usize, v: Verdict) -> usize

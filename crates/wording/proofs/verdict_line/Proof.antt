@@ -1,6 +1,6 @@
 -- `wording::verdict_line` meets its contract, verdict by verdict. Assumes nothing.
 use borrow.Author.Needs.{needs}
-use Rattle.question.specs.declared.verdict.Verdict.the-variants.{Unexplained, Follows, Denied, Open}
+use Rattle.verdict.specs.declared.verdict.Verdict.the-variants.{Unexplained, Follows, Denied, Open}
 use Rattle.wording.proofs.Lines.{verdict-room, verdict-written}
 use Rattle.wording.proofs.verdict_line.Statement.{statement}
 use Rattle.wording.proofs.verdict_line.Tie as tie
