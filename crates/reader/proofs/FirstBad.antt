@@ -3,7 +3,7 @@
 use mathlib.Core.Path.{_≡_, refl, sym, ap, _∙_}
 use mathlib.Core.Bool.{true}
 use mathlib.Core.List.{List, [], _∷_}
-use mathlib.Core.Logic.{_⊎_, inl, inr}
+use mathlib.Core.Logic.{_⊎_, inl, inr, ⊎-elim}
 use Prim.Native.Nat.{ℕ, zero, suc, _+_}
 use native.Mathlib.Nat.{not-suc-le-zero, le-of-suc-le-suc}
 use native.Mathlib.Omega.{arith}
@@ -11,11 +11,12 @@ use lib.Dec.{eqb}
 use lib.ListN.{take}
 use borrow.Author.Tests.{eqb-true, eq-eqb}
 use Rattle.words.proofs.Tests.{and-true-l, and-true-r}
-use Rattle.store.specs.Saying.{Said}
+use Rattle.text.specs.Lines.{lines}
+use Rattle.store.specs.Saying.{Said, nothingSaid}
 use Rattle.checks.specs.Checks.{lineRefusal, saidAfter}
-use Rattle.reader.specs.Reading.{Outcome, orElse, endRefusal, ending, readLines}
-use Rattle.reader.specs.Claims.{saidThrough, allPass, BadAt}
-use Rattle.reader.proofs.ReadingLines.{lines-go, lines-stop}
+use Rattle.reader.specs.Reading.{Outcome, orElse, endRefusal, ending, readLines, readFile}
+use Rattle.reader.specs.Claims.{saidThrough, allPass, BadAt, FirstBad}
+use Rattle.reader.proofs.TakingLines.{lines-go, lines-stop}
 
 -- a line in front of others: it passes, or it is the bad one
 module _ (l : List ℕ) (ls : List (List ℕ)) (st : Said) where
@@ -62,7 +63,7 @@ bad-behind l ls st n k b =
 
 -- Both ways
 
-pub all-read : (ls : List (List ℕ)) (st : Said) (k : ℕ) → allPass ls st ≡ true
+all-read : (ls : List (List ℕ)) (st : Said) (k : ℕ) → allPass ls st ≡ true
     → readLines ls st k ≡ ending (saidThrough ls st)
 unfolding readLines saidThrough
 all-read [] st k h = refl
@@ -70,7 +71,7 @@ all-read (l ∷ ls) st k h =
     let p = first-passes l ls st h in
     lines-go l ls st k (p .0) ∙ all-read ls (saidAfter st l) (k + 1) (p .1)
 
-pub bad-read : (ls : List (List ℕ)) (st : Said) (n j k : ℕ) → BadAt ls st n j
+bad-read : (ls : List (List ℕ)) (st : Said) (n j k : ℕ) → BadAt ls st n j
     → readLines ls st k ≡ Outcome.refused n (j + k)
 bad-read [] st n j k b = absurd (not-suc-le-zero (b .there))
 bad-read (l ∷ ls) st n zero k b =
@@ -83,10 +84,10 @@ bad-read (l ∷ ls) st n (suc j) k b =
     lines-go l ls st k (p .0) ∙ bad-read ls (saidAfter st l) n j (k + 1) (p .1) ∙ ap (Outcome.refused n) s
 
 -- all of the lines pass, or one is the first bad one
-abbrev pub AllOrBad : List (List ℕ) → Said → Type 0
+abbrev AllOrBad : List (List ℕ) → Said → Type 0
 AllOrBad ls st = (allPass ls st ≡ true) ⊎ ((n : ℕ) × (k : ℕ) × BadAt ls st n k)
 
-pub all-or-bad : (ls : List (List ℕ)) (st : Said) → AllOrBad ls st
+all-or-bad : (ls : List (List ℕ)) (st : Said) → AllOrBad ls st
 unfolding allPass
 all-or-bad [] st = inl refl
 all-or-bad (l ∷ ls) st = go (lineRefusal st l) refl (all-or-bad ls (saidAfter st l))
@@ -96,26 +97,54 @@ all-or-bad (l ∷ ls) st = go (lineRefusal st l) refl (all-or-bad ls (saidAfter 
     go zero e (inr b) = inr (b .0, suc (b .1), bad-later l ls st (b .0) (b .1) e (b .2))
     go (suc n) e h = inr (suc n, 0, bad-here l ls st n e)
 
+-- A file
+
+pub file-passes : (f : List ℕ) → allPass (lines f) nothingSaid ≡ true
+    → readFile f ≡ ending (saidThrough (lines f) nothingSaid)
+unfolding readFile
+file-passes f h = all-read (lines f) nothingSaid 1 h
+
+pub file-bad : (f : List ℕ) (n k : ℕ) → FirstBad f n k → readFile f ≡ Outcome.refused n (suc k)
+unfolding readFile
+file-bad f n k b =
+    let s : k + 1 ≡ suc k = omega arith in
+    bad-read (lines f) nothingSaid n k 1 b ∙ ap (Outcome.refused n) s
+
+-- all lines of a file pass and the end decides, or the first bad one does
+pub read-cases : {P : Type 0} (f : List ℕ) (o : Outcome) → readFile f ≡ o
+    → (allPass (lines f) nothingSaid ≡ true → ending (saidThrough (lines f) nothingSaid) ≡ o → P)
+    → ((n k : ℕ) → FirstBad f n k → Outcome.refused n (suc k) ≡ o → P) → P
+read-cases f o e p q =
+    ⊎-elim (λ h. p h (sym (file-passes f h) ∙ e))
+    (λ b. q (b .0) (b .1) (b .2) (sym (file-bad f (b .0) (b .1) (b .2)) ∙ e)) (all-or-bad (lines f) nothingSaid)
+
 -- The end
 
 -- a line is refused, or passes and the rest decides
-pub or-else-cases : {P : Type 0} (r k : ℕ) (rest o : Outcome) → orElse r k rest ≡ o → (r ≡ 0 → rest ≡ o → P)
+or-else-cases : {P : Type 0} (r k : ℕ) (rest o : Outcome) → orElse r k rest ≡ o → (r ≡ 0 → rest ≡ o → P)
     → ((n : ℕ) → r ≡ suc n → Outcome.refused (suc n) k ≡ o → P) → P
 or-else-cases zero k rest o e f g = f refl e
 or-else-cases (suc n) k rest o e f g = g n refl e
+
+-- a case is no refusal
+case-refused : (st : Said) (n k : ℕ) → Outcome.case st ≡ Outcome.refused n k → ⊥
+case-refused st n k e = let z : _≡_ {A = ℕ} 0 1 = cc in omega arith
 
 -- an accepted end says what was read, and none of its checks fails
 pub ending-said : (st s : Said) → ending st ≡ Outcome.case s → (endRefusal st ≡ 0) × (st ≡ s)
 unfolding ending
 ending-said st s e =
-    or-else-cases (endRefusal st) 0 _ _ e
-    (λ q d. (q, cc))
-    (λ n q d. let z : _≡_ {A = ℕ} 0 1 = cc in absurd (omega arith))
+    or-else-cases (endRefusal st) 0 _ _ e (λ q d. (q, cc)) (λ n q d. absurd (case-refused s _ _ (sym d)))
 
 -- a refusal after the last line has line 0
 pub ending-line : (st : Said) (n k : ℕ) → ending st ≡ Outcome.refused n k → k ≡ 0
 unfolding ending
 ending-line st n k e =
-    or-else-cases (endRefusal st) 0 _ _ e
-    (λ q d. let z : _≡_ {A = ℕ} 0 1 = cc in absurd (omega arith))
-    (λ m q d. cc)
+    or-else-cases (endRefusal st) 0 _ _ e (λ q d. absurd (case-refused st n k d)) (λ m q d. cc)
+
+-- all lines of an accepted file pass, what they say is what was read, and no check of the end fails
+pub accepted-through : (f : List ℕ) (st : Said) → readFile f ≡ Outcome.case st
+    → (allPass (lines f) nothingSaid ≡ true) × (endRefusal st ≡ 0) × (saidThrough (lines f) nothingSaid ≡ st)
+accepted-through f st e =
+    read-cases f _ e (λ h d. let p = ending-said _ st d in (h, rw (p .1) at (p .0), p .1))
+    (λ n k b d. absurd (case-refused st n (suc k) (sym d)))

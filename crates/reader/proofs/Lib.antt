@@ -1,29 +1,25 @@
 -- The laws of this crate, a file for each notion.
--- ReadingLines: reading line by line.
--- ReadingEnds: the end of reading, the checks 11 and 12.
--- ReadingEarly: the early refusals 1 and 2.
--- Cases: what makes a case sound.
--- FirstBad: the first bad line.
--- Numbered: the number of a refusal is never 0.
--- Right: what was read is right.
--- Added: what was read stays right.
--- Sound: a right reading is a sound case.
--- Unpacking: what is taken back from filled tables.
--- Contents: what was read is what the lines say.
--- Says: an accepted file's record and tables say what the file says.
+-- EarlyRefusals: the early refusals 1 and 2.
+-- TakingLines: the lines taken one after the other.
+-- FilledTables: what filled tables hold.
+-- EndChecks: the end of reading, the checks 11 and 12.
+-- FirstBad: all lines pass, or the first bad one decides.
+-- RefusalNumbers: the number of a refusal is never 0.
+-- WellFormed: what it is for what was read to be well formed.
+-- WellFormedLines: lines that pass keep it so.
+-- Sound: what was read of an accepted file is a sound case.
+-- LinesSay: what was read is what the lines say.
+-- FileSays: an accepted file's record and tables say what the file says.
 -- Theorems: a proof of each claim of specs/Claims.antt.
--- Marked: M1 and M4, from their bytes to the record and the tables.
-pub mod ReadingLines
-pub mod ReadingEnds
-pub mod ReadingEarly
-pub mod Cases
+pub mod EarlyRefusals
+pub mod TakingLines
+pub mod FilledTables
+pub mod EndChecks
 pub mod FirstBad
-pub mod Numbered
-pub mod Right
-pub mod Added
+pub mod RefusalNumbers
+pub mod WellFormed
+pub mod WellFormedLines
 pub mod Sound
-pub mod Unpacking
-pub mod Contents
-pub mod Says
+pub mod LinesSay
+pub mod FileSays
 pub mod Theorems
-pub mod Marked

@@ -16,6 +16,7 @@ use Rattle.program.specs.Cause.{causesAmong}
 use Rattle.program.specs.Sound.{sound}
 use Rattle.program.proofs.Causes.{causes-of}
 use Rattle.program.proofs.Soundness.{clauses-held, sound-full, sound-limits}
+use Rattle.program.proofs.MakingSound.{tables-full}
 use Rattle.names.specs.Names.{rowsOf}
 use Rattle.names.specs.Row.{nameIn}
 use Rattle.question.specs.declared.operation.Answer as question
@@ -26,9 +27,8 @@ use Rattle.store.specs.Saying.{Said}
 use Rattle.store.specs.Tables.{clauseWords, constraintWords, caseSaid}
 use Rattle.reader.specs.Reading.{Outcome, refusalOf, lineOfRefusal, readFile}
 use Rattle.reader.specs.Operation.{earlyRefusal, ReadAs}
-use Rattle.reader.proofs.Cases.{tables-full}
-use Rattle.reader.proofs.ReadingEarly.{Full, early-none, early-file-long}
-use Rattle.reader.proofs.Numbered.{Numbered, file-numbered}
+use Rattle.reader.proofs.EarlyRefusals.{Full, early-none, early-file-long}
+use Rattle.reader.proofs.RefusalNumbers.{Numbered, file-numbered}
 use Rattle.output.specs.declared.Answer as output
 use Rattle.output.specs.Writing.{Room}
 use Rattle.wording.specs.Text.{answerText, refusalText}

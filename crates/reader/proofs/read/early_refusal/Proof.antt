@@ -4,7 +4,7 @@ use mathlib.Core.Bool.{true}
 use borrow.Author.Needs.{needs}
 use borrow.Author.Tests.{not-true, not-false}
 use Rattle.program.specs.Case.{tablesFull}
-use Rattle.reader.proofs.ReadingEarly.{early-table-short, early-names-short, early-file-long, early-none}
+use Rattle.reader.proofs.EarlyRefusals.{early-table-short, early-names-short, early-file-long, early-none}
 use Rattle.reader.proofs.read.early_refusal.Statement.{statement}
 use Rattle.reader.proofs.read.early_refusal.Tie as tie
 

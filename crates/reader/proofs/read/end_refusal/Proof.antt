@@ -1,7 +1,7 @@
 -- `read::end_refusal` meets its contract: a law for each way through the tests. Assumes nothing.
 use mathlib.Core.Path.{sym, _∙_}
 use borrow.Author.Tests.{not-true, not-false}
-use Rattle.reader.proofs.ReadingEnds.{end-eleven, end-twelve, end-none}
+use Rattle.reader.proofs.EndChecks.{end-eleven, end-twelve, end-none}
 use Rattle.reader.proofs.read.end_refusal.Statement.{statement}
 use Rattle.reader.proofs.read.end_refusal.Tie as tie
 

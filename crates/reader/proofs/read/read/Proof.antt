@@ -5,8 +5,8 @@ use mathlib.Core.List.{List}
 use Prim.Native.Nat.{ℕ}
 use borrow.Author.Needs.{needs}
 use Rattle.store.specs.Lent.{Lent, lent}
-use Rattle.reader.proofs.ReadingEnds.{lines-read-lengths}
-use Rattle.reader.proofs.ReadingEarly.{read-refused, early-passed, read-through}
+use Rattle.reader.proofs.EndChecks.{lines-read-lengths}
+use Rattle.reader.proofs.EarlyRefusals.{read-refused, early-passed, read-through}
 use Rattle.reader.proofs.read.read.Statement.{statement}
 use Rattle.reader.proofs.read.read.Tie as tie
 

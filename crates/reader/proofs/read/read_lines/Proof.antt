@@ -6,8 +6,8 @@ use native.Mathlib.Omega.{arith}
 use lib.ListN.{length}
 use borrow.Author.Needs.{needs}
 use Rattle.store.specs.Lent.{Lent, lent}
-use Rattle.reader.proofs.ReadingLines.{LinesTaken, no-lines-taken, line-taken, line-refused, line-refused-long}
-use Rattle.reader.proofs.ReadingEnds.{lines-read-lengths, refused-read, causes-countable, read-ended, read-case}
+use Rattle.reader.proofs.TakingLines.{LinesTaken, no-lines-taken, line-taken, line-refused, line-refused-long}
+use Rattle.reader.proofs.EndChecks.{lines-read-lengths, refused-read, causes-countable, read-ended, read-case}
 use Rattle.reader.proofs.read.read_lines.Statement.{statement}
 use Rattle.reader.proofs.read.read_lines.Tie as tie
 

@@ -1,6 +1,6 @@
 -- `reader::zero` meets its contract: each table is zeroed in its size. Assumes nothing.
 use native.Mathlib.Omega.{arith}
-use Rattle.reader.proofs.ReadingLines.{zeroed-lengths}
+use Rattle.reader.proofs.TakingLines.{zeroed-lengths}
 use Rattle.reader.proofs.read.zero.Statement.{statement}
 use Rattle.reader.proofs.read.zero.Tie as tie
 

@@ -3,24 +3,17 @@
 use mathlib.Core.Path.{_≡_, refl, sym, ap, _∙_}
 use mathlib.Core.Bool.{true, false}
 use mathlib.Core.List.{List, [], _∷_}
-use Prim.Native.Nat.{ℕ, zero, suc, _*_, _%_, _≤_, _<_}
+use Prim.Native.Nat.{ℕ, zero, suc, _≤_, _<_}
 use native.Mathlib.Omega.{arith}
-use lib.Count.{ones}
-use lib.Dec.{eqb, leb}
+use lib.Dec.{leb}
 use lib.ListN.{length}
 use borrow.Author.Tests.{le-leb}
-use Rattle.words.proofs.Below.{any-ext}
-use Rattle.words.proofs.Bits.{has-ext}
 use Rattle.logic.specs.Formula.{Formula}
 use Rattle.program.specs.declared.case.Case.{Case}
-use Rattle.program.specs.Case.{headAt}
-use Rattle.program.specs.Program.{headsOf}
-use Rattle.program.specs.Cause.{causesAmong}
 use Rattle.program.specs.Sound.{fewCauses}
-use Rattle.program.proofs.Heads.{heads-lt, heads-has}
 use Rattle.text.proofs.LineLaws.{lines-none}
 use Rattle.table.specs.Filled.{filled}
-use Rattle.table.proofs.Filled.{filled-at, filled-again, filled-length}
+use Rattle.table.proofs.Filled.{filled-again, filled-length}
 use Rattle.names.specs.Names.{rowsOf}
 use Rattle.store.specs.Lent.{Lent}
 use Rattle.store.specs.Saying.{Said}
@@ -31,24 +24,8 @@ use Rattle.store.proofs.TakingHeld.{held-spoilt}
 use Rattle.reader.specs.declared.read.Answer.{Answer}
 use Rattle.reader.specs.Reading.{Outcome, saidIn, orElse, endRefusal, ending, readLines, readFile}
 use Rattle.reader.specs.Steps.{endRefusalIn, Countable, Zeroed, refusedAt, LinesRead}
-use Rattle.reader.proofs.ReadingLines.{or-else-refused, SameLengths, LinesTaken}
-
--- the first n heads decide headsOf
-pub heads-ext : (cl cm : List ℕ) (n : ℕ) → ((k : ℕ) → k < n → headAt cl k ≡ headAt cm k) → headsOf cl n ≡ headsOf cm n
-heads-ext cl cm n e =
-    has-ext 64 (headsOf cl n) (headsOf cm n) (heads-lt cl n) (heads-lt cm n)
-    (λ a l. heads-has cl n a l
-    ∙ any-ext n (λ k. eqb a (headAt cl k)) (λ k. eqb a (headAt cm k)) (λ k m. ap (eqb a) (e k m))
-    ∙ sym (heads-has cm n a l))
-
--- the causes of a table are those of the words that it is filled with
-pub few-causes-filled : (n m : ℕ) (ws old : List ℕ) → m ≤ 256 → 768 ≤ length old
-    → fewCauses n (filled 768 ws old) m ≡ fewCauses n ws m
-unfolding fewCauses
-few-causes-filled n m ws old h l =
-    ap (λ (x : ℕ). leb (ones (causesAmong n x)) 10)
-    (heads-ext (filled 768 ws old) ws m
-    (λ k b. ap (λ (x : ℕ). x % 64) (filled-at 768 ws old (3 * k) (omega arith) l)))
+use Rattle.reader.proofs.FilledTables.{few-causes-filled}
+use Rattle.reader.proofs.TakingLines.{or-else-refused, SameLengths, LinesTaken}
 
 -- the checks 11 and 12
 
@@ -151,8 +128,7 @@ module _ (f : List ℕ) (old t : Lent) (c : Case) (at line : ℕ) (i : LinesTake
   few-is =
       let k : 768 ≤ length (old .clauses) = omega (arith, i .same .clauses-same, i .long .clauses-long) in
       rw (i .held .case-is, i .held .clauses-are)
-      (few-causes-filled (length (i .said .names)) (length (i .said .clauses)) (clauseWords (i .said .clauses))
-      (old .clauses) (i .held .limits .clauses-few) k)
+      (few-causes-filled (i .said .clauses) (old .clauses) k (i .held .limits .clauses-few) (length (i .said .names)))
 
   end-is : endRefusalIn c (t .clauses) ≡ endRefusal (i .said)
   end-is = rw (query-is, few-is)

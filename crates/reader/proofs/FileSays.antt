@@ -1,0 +1,136 @@
+-- An accepted file's record and tables say what the file says. Assumes nothing.
+use mathlib.Core.Path.{_≡_, refl, sym, ap, _∙_}
+use mathlib.Core.List.{List, [], _∷_}
+use Prim.Native.Nat.{ℕ, zero, suc, _^_, _<_}
+use native.Mathlib.Nat.{lt-of-lt-of-le}
+use native.Mathlib.Omega.{arith}
+use lib.ListN.{length, take}
+use lib.Pow.{pow-mono}
+use Rattle.words.specs.Choice.{unlessRefused}
+use Rattle.words.proofs.Words.{is-word}
+use Rattle.logic.specs.Formula.{Formula}
+use Rattle.logic.specs.Nodes.{formulaOf}
+use Rattle.logic.proofs.Spelled.{one-formula-unique}
+use Rattle.program.specs.declared.case.Case.{Case}
+use Rattle.program.specs.Case.{clauseSize, constraintSize, formulaSize, nameSize}
+use Rattle.program.specs.Program.{clausesOf}
+use Rattle.text.specs.Lines.{lines}
+use Rattle.table.specs.Filled.{filled}
+use Rattle.names.specs.Names.{rowsOf}
+use Rattle.names.proofs.Each.{Each, each-gives}
+use Rattle.names.proofs.Rows.{filled-row}
+use Rattle.store.specs.Lent.{Lent}
+use Rattle.store.specs.Saying.{ClauseRow, Said, nothingSaid, plainAtoms, negatedAtoms}
+use Rattle.store.specs.Tables.{clauseWords, constraintWords, formulaNodes, caseSaid}
+use Rattle.store.specs.Held.{Long}
+use Rattle.reader.specs.declared.read.Answer.{Answer}
+use Rattle.reader.specs.Reading.{Outcome, refusalOf, readFile}
+use Rattle.reader.specs.Operation.{earlyRefusal, ReadAs}
+use Rattle.reader.specs.Contents.{fileNames, noContent, fileContent, constraintsOf, Says}
+use Rattle.reader.proofs.EarlyRefusals.{early-passed}
+use Rattle.reader.proofs.RefusalNumbers.{Numbered, file-numbered}
+use Rattle.reader.proofs.FirstBad.{accepted-through}
+use Rattle.reader.proofs.WellFormedLines.{Ended, accepted-formed}
+use Rattle.reader.proofs.FilledTables.{filled-own, clauses-filled, constraints-filled}
+use Rattle.reader.proofs.LinesSay.{through-names, Saying, nothing-saying, through-saying}
+
+-- What was read of an accepted file
+
+module _ (f : List ℕ) (st : Said) (e : readFile f ≡ Outcome.case st) where
+  ended : Ended st
+  ended = accepted-formed f st e
+
+  names-read : st .names ≡ fileNames f
+  names-read = rw (accepted-through f st e .2) at (through-names (lines f) nothingSaid)
+
+  content-read : Saying (fileNames f) st (fileContent f)
+  content-read =
+      rw (accepted-through f st e .2) at
+      (through-saying (fileNames f) (lines f) nothingSaid noContent (nothing-saying (fileNames f)) refl)
+
+  -- a word of the atoms
+  below-word : (w : ℕ) → w < 2 ^ length (st .names) → w < 2 ^ 64
+  below-word w h = lt-of-lt-of-le h (pow-mono (ended .formed .names .rows .few))
+
+  plain-read : st .plain ≡ plainAtoms (fileNames f) (fileContent f .observed)
+  unfolding plainAtoms
+  plain-read =
+      is-word 64 (st .plain) _ (below-word _ (ended .formed .observed .plain-lt))
+      (content-read .plain-are)
+
+  negated-read : st .negated ≡ negatedAtoms (fileNames f) (fileContent f .observed)
+  unfolding negatedAtoms
+  negated-read =
+      is-word 64 (st .negated) _ (below-word _ (ended .formed .observed .negated-lt))
+      (content-read .negated-are)
+
+  small : Each (λ (x : ClauseRow). x .head < 64) (st .clauses)
+  small =
+      let n = ended .formed .names .rows .few in
+      each-gives _ _ (λ x q. omega (arith, q .head-lt)) (st .clauses) (ended .formed .clauses .each)
+
+  query-read : (formulaOf (formulaNodes (st .queries)) ∷ []) ≡ fileContent f .queries
+  query-read =
+      let q = ended .query in
+      ap (λ (g : Formula). g ∷ []) (one-formula-unique _ _ (q .formula) (ended .formed .names .rows .few) (q .spells))
+      ∙ q .only ∙ content-read .queries-are
+
+  -- The record c, and the tables u filled over t
+
+  module _ (c : Case) (t u : Lent) (long : Long t) (found : c ≡ caseSaid st)
+      (cl : u .clauses ≡ filled clauseSize (clauseWords (st .clauses)) (t .clauses))
+      (co : u .constraints ≡ filled constraintSize (constraintWords (st .constraints)) (t .constraints))
+      (fo : u .formula ≡ filled formulaSize (formulaNodes (st .queries)) (t .formula))
+      (na : u .names ≡ filled nameSize (rowsOf (st .names)) (t .names)) where
+    clauses-said : clausesOf (u .clauses) (c .clauses) ≡ fileContent f .clauses
+    clauses-said =
+        rw (cl, found)
+        (clauses-filled (st .clauses) (t .clauses) (long .clauses-long) (ended .formed .clauses .few) small)
+        ∙ content-read .clauses-are
+
+    constraints-said : constraintsOf (u .constraints) (c .constraints) ≡ fileContent f .constraints
+    constraints-said =
+        rw (co, found)
+        (constraints-filled (st .constraints) (t .constraints) (long .constraints-long)
+        (ended .formed .constraints .few))
+        ∙ content-read .constraints-are
+
+    nodes-said : take (c .nodes) (u .formula) ≡ formulaNodes (st .queries)
+    nodes-said =
+        rw (fo, found)
+        (filled-own formulaSize (formulaNodes (st .queries)) (t .formula) (ended .query .nodes-few)
+        (long .formula-long))
+
+    pub says : Says f c u
+    says = record {
+      atoms-are = rw found (ap length names-read);
+      names-are = λ a h.
+          rw (na, ← names-read)
+          (filled-row (st .names) (t .names) a (long .names-long) (ended .formed .names .rows .few) (rw found at h));
+      clauses-are = clauses-said;
+      constraints-are = constraints-said;
+      plain-are = rw found plain-read;
+      negated-are = rw found negated-read;
+      query-is = rw nodes-said query-read;
+    }
+
+-- The answer of reading
+
+-- an outcome that is not refused is a case
+not-refused : (o : Outcome) → Numbered o → refusalOf o ≡ 0 → (st : Said) × (o ≡ Outcome.case st)
+not-refused (Outcome.case st) h e = (st, refl)
+not-refused (Outcome.refused n k) h e = absurd (h e)
+
+not-early : (n m : ℕ) → unlessRefused n m n ≡ 0 → (n ≡ 0) × (m ≡ 0)
+not-early zero m e = (refl, e)
+not-early (suc n) m e = absurd (omega arith)
+
+pub answer-says : (f : List ℕ) (t u : Lent) (r : Answer) → ReadAs f t u r → r .refusal ≡ 0 → Says f (r .found) u
+answer-says f t u r h z =
+    let p = not-early (earlyRefusal f t) (refusalOf (readFile f)) (sym (h .refusal-is) ∙ z) in
+    let a = not-refused (readFile f) (file-numbered f) (p .1) in
+    let early = p .0 in
+    let said = a .1 in
+    says f (a .0) said (r .found) t u (early-passed f t early .0)
+    (rw (early, said) at (h .case-is)) (rw (early, said) at (h .clauses-are)) (rw (early, said) at (h .constraints-are))
+    (rw (early, said) at (h .formula-is)) (rw (early, said) at (h .names-are))

@@ -1,0 +1,144 @@
+-- What filled tables hold, row by row, and the clauses and the bodies of constraints that are taken back from them.
+--
+--   rowClause r     the clause that a row is
+--   rowBody r       the body that a constraint's row is
+--   ClauseIs ..     the three words of clause k of a table are a row's; ConstraintIs is alike
+-- Assumes nothing.
+use mathlib.Core.Path.{_≡_, refl, ap, _∙_}
+use mathlib.Core.List.{List, [], _∷_, _++_, map, map-append}
+use Prim.Native.Nat.{ℕ, zero, suc, _+_, _*_, _/_, _%_, _≤_, _<_}
+use native.Mathlib.Omega.{arith}
+use lib.ListN.{length, getD, take, drop}
+use lib.Seq.{take-suc, take-length, length-take-le, getD-take, getD-drop, drop-cons, ext-getD}
+use Rattle.logic.specs.Formula.{Formula, body}
+use Rattle.program.specs.Case.{clauseSize, constraintSize, plainAt, negatedAt, forbidden, forbiddenNot}
+use Rattle.program.specs.Program.{Clause, clause, byKind, clauseAt, clausesOf}
+use Rattle.program.specs.Sound.{fewCauses}
+use Rattle.program.proofs.MakingSound.{few-causes-ext}
+use Rattle.table.specs.Filled.{filled}
+use Rattle.table.proofs.Filled.{filled-length, filled-at}
+use Rattle.names.proofs.Each.{Each, each-at}
+use Rattle.store.specs.Saying.{ClauseRow, ConstraintRow}
+use Rattle.store.specs.Tables.{clauseWords, constraintWords}
+use Rattle.store.specs.Taking.{rowWith, pairWith}
+use Rattle.reader.specs.Contents.{constraintsOf}
+
+abbrev pub rowClause : ClauseRow → Clause
+rowClause r = clause (r .head) (byKind (r .kind) (body (r .plain) (r .negated)))
+
+abbrev pub rowBody : ConstraintRow → Formula
+rowBody r = body (r .plain) (r .negated)
+
+abbrev pub noRow : ClauseRow
+noRow = rowWith 0 0 0 0
+
+abbrev pub noPair : ConstraintRow
+noPair = pairWith 0 0
+
+-- Plain lists
+
+-- the entries of l, where they fit
+pub filled-own : (n : ℕ) (l old : List ℕ) → length l ≤ n → n ≤ length old → take (length l) (filled n l old) ≡ l
+filled-own n l old h k =
+    let e : length (take (length l) (filled n l old)) ≡ length l =
+    length-take-le (length l) (filled n l old) (omega (arith, filled-length n l old))
+    in
+    ext-getD 0 _ l e
+    (λ i m. getD-take (length l) (filled n l old) i 0 (omega arith) ∙ filled-at n l old i (omega arith) k)
+
+-- a list that grows by f k is the list of the entries of l, where f k is that of the k-th
+module _ {A B : Type 0} (l : List A) (d : A) (h : A → B) (g : ℕ → List B) (f : ℕ → B) (none : g 0 ≡ [])
+    (more : (k : ℕ) → g (suc k) ≡ g k ++ (f k ∷ [])) (same : (k : ℕ) → k < length l → f k ≡ h (getD l k d)) where
+  grown-first : (k : ℕ) → k ≤ length l → g k ≡ map h (take k l)
+  grown-first zero m = none
+  grown-first (suc k) m =
+      more k ∙ rw (take-suc l k d m, map-append, grown-first k (omega arith), same k m)
+
+  grown-all : g (length l) ≡ map h l
+  grown-all = grown-first (length l) (omega arith) ∙ ap (map h) (take-length l)
+
+-- Clauses
+
+pub record ClauseIs (cl : List ℕ) (k : ℕ) (r : ClauseRow) : Type 0 where
+  pub first-is : getD cl (3 * k) 0 ≡ r .head + 64 * r .kind
+  pub plain-is : plainAt cl k ≡ r .plain
+  pub negated-is : negatedAt cl k ≡ r .negated
+
+clauses-from : (cs : List ClauseRow) (k : ℕ) → drop (3 * k) (clauseWords cs) ≡ clauseWords (drop k cs)
+unfolding clauseWords
+clauses-from cs zero = refl
+clauses-from [] (suc k) = let e : 3 * suc k ≡ suc (suc (suc (3 * k))) = omega arith in rw e
+clauses-from (c ∷ cs) (suc k) =
+    let e : 3 * suc k ≡ suc (suc (suc (3 * k))) = omega arith in
+    rw e (clauses-from cs k)
+
+module _ (cs : List ClauseRow) (old : List ℕ) (long : clauseSize ≤ length old) (few : length cs ≤ 256) where
+  abbrev cl : List ℕ
+  cl = filled clauseSize (clauseWords cs) old
+
+  clause-word : (k j i : ℕ) → k < length cs → j < 3 → i ≡ 3 * k + j
+      → getD cl i 0 ≡ getD (clauseWords (getD cs k noRow ∷ drop (suc k) cs)) j 0
+  clause-word k j i l m e =
+      filled-at clauseSize (clauseWords cs) old i (omega arith) long
+      ∙ rw (e, ← getD-drop (3 * k) (clauseWords cs) j 0, clauses-from cs k, drop-cons cs k noRow l)
+
+  pub clause-is : (k : ℕ) → k < length cs → ClauseIs cl k (getD cs k noRow)
+  unfolding clauseWords
+  clause-is k l = record {
+    first-is = clause-word k 0 _ l (omega arith) (omega arith);
+    plain-is = clause-word k 1 _ l (omega arith) (omega arith);
+    negated-is = clause-word k 2 _ l (omega arith) (omega arith);
+  }
+
+  -- the causes of the table are those of the words that it is filled with
+  pub few-causes-filled : (n : ℕ) → fewCauses n cl (length cs) ≡ fewCauses n (clauseWords cs) (length cs)
+  few-causes-filled n =
+      few-causes-ext cl (clauseWords cs) (length cs)
+      (λ k l. filled-at clauseSize (clauseWords cs) old (3 * k) (omega arith) long) n
+
+  pub clauses-filled : Each (λ (r : ClauseRow). r .head < 64) cs → clausesOf cl (length cs) ≡ map rowClause cs
+  unfolding clausesOf clauseAt
+  clauses-filled small = grown-all cs noRow rowClause (clausesOf cl) (clauseAt cl) refl (λ k. refl) (λ k l.
+      let r = getD cs k noRow in
+      let s = each-at (λ (x : ClauseRow). x .head < 64) cs k noRow small l in
+      let w = clause-is k l in
+      let e : (r .head + 64 * r .kind) % 64 ≡ r .head = omega arith in
+      let f : (r .head + 64 * r .kind) / 64 ≡ r .kind = omega arith in
+      rw (w .first-is, w .plain-is, w .negated-is, e, f))
+
+-- Constraints
+
+pub record ConstraintIs (co : List ℕ) (k : ℕ) (r : ConstraintRow) : Type 0 where
+  pub plain-is : forbidden co k ≡ r .plain
+  pub negated-is : forbiddenNot co k ≡ r .negated
+
+constraints-from : (cs : List ConstraintRow) (k : ℕ) → drop (2 * k) (constraintWords cs) ≡ constraintWords (drop k cs)
+unfolding constraintWords
+constraints-from cs zero = refl
+constraints-from [] (suc k) = let e : 2 * suc k ≡ suc (suc (2 * k)) = omega arith in rw e
+constraints-from (c ∷ cs) (suc k) =
+    let e : 2 * suc k ≡ suc (suc (2 * k)) = omega arith in
+    rw e (constraints-from cs k)
+
+module _ (cs : List ConstraintRow) (old : List ℕ) (long : constraintSize ≤ length old) (few : length cs ≤ 32) where
+  abbrev co : List ℕ
+  co = filled constraintSize (constraintWords cs) old
+
+  constraint-word : (k j i : ℕ) → k < length cs → j < 2 → i ≡ 2 * k + j
+      → getD co i 0 ≡ getD (constraintWords (getD cs k noPair ∷ drop (suc k) cs)) j 0
+  constraint-word k j i l m e =
+      filled-at constraintSize (constraintWords cs) old i (omega arith) long
+      ∙ rw (e, ← getD-drop (2 * k) (constraintWords cs) j 0, constraints-from cs k, drop-cons cs k noPair l)
+
+  pub constraint-is : (k : ℕ) → k < length cs → ConstraintIs co k (getD cs k noPair)
+  unfolding constraintWords
+  constraint-is k l = record {
+    plain-is = constraint-word k 0 _ l (omega arith) (omega arith);
+    negated-is = constraint-word k 1 _ l (omega arith) (omega arith);
+  }
+
+  pub constraints-filled : constraintsOf co (length cs) ≡ map rowBody cs
+  unfolding constraintsOf
+  constraints-filled =
+      grown-all cs noPair rowBody (constraintsOf co) (λ k. body (forbidden co k) (forbiddenNot co k)) refl (λ k. refl)
+      (λ k l. let w = constraint-is k l in rw (w .plain-is, w .negated-is))
