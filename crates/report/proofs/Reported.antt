@@ -1,13 +1,15 @@
 -- Laws of the report of a file that was read into tables of exactly their sizes: its text where reading refuses, and
 -- what the tables hold where it does not. Assumes nothing.
 use mathlib.Core.Path.{_≡_, refl, sym, ap, _∙_}
-use mathlib.Core.Bool.{Bool, true}
-use mathlib.Core.List.{List}
+use mathlib.Core.Bool.{true}
+use mathlib.Core.List.{List, []}
 use mathlib.Core.Logic.{⊎-elim}
 use Prim.Native.Nat.{ℕ, _*_, _≤_, _<_}
 use native.Mathlib.Omega.{arith}
 use lib.ListN.{length, take}
-use borrow.Author.Tests.{lt-ltb, le-ltb}
+use borrow.Author.Tests.{lt-leb, le-leb}
+use Rattle.words.specs.Choice.{unlessRefused}
+use Rattle.words.proofs.Checks.{first-failed-here, first-failed-behind}
 use Rattle.words.proofs.Tests.{lt-or-le}
 use Rattle.table.specs.Filled.{padded}
 use Rattle.table.proofs.Filled.{filled-exact, padded-length}
@@ -33,18 +35,22 @@ use Rattle.output.specs.declared.Answer as output
 use Rattle.output.specs.Writing.{Room}
 use Rattle.wording.specs.Text.{answerText, refusalText}
 use Rattle.report.specs.Report.{clauseTable, constraintTable, formulaTable, causesIn, saidText, outcomeText}
-use Rattle.report.specs.Report.{unlessLong, reportText}
+use Rattle.report.specs.Report.{reportText}
 use Rattle.report.specs.Operation.{ReportShown, Reported}
 use Rattle.report.specs.Sizes.{FullSizes}
 use Rattle.report.proofs.Accepted.{said-sound, said-length, asked-fits, asked-text}
 
+-- the report of the file f, where the refusal of its length is n
+abbrev textWith : List ℕ → ℕ → List ℕ
+textWith f n = unlessRefused n (outcomeText (readFile f)) (refusalText n 0)
+
 pub report-long : (f : List ℕ) → 32768 < length f → reportText f ≡ refusalText 2 0
 unfolding reportText
-report-long f h = ap (λ (b : Bool). unlessLong b (outcomeText (readFile f))) (lt-ltb 32768 (length f) h)
+report-long f h = ap (textWith f) (first-failed-here 2 [] (lt-leb (length f) 32768 h))
 
 report-read : (f : List ℕ) → length f ≤ 32768 → reportText f ≡ outcomeText (readFile f)
 unfolding reportText
-report-read f h = ap (λ (b : Bool). unlessLong b (outcomeText (readFile f))) (le-ltb 32768 (length f) h)
+report-read f h = ap (textWith f) (first-failed-behind 2 [] (le-leb (length f) 32768 h))
 
 refused-text : (o : Outcome) → (refusalOf o ≡ 0 → ⊥) → refusalText (refusalOf o) (lineOfRefusal o) ≡ outcomeText o
 refused-text (Outcome.case st) h = absurd (h refl)
