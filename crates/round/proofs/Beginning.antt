@@ -3,11 +3,11 @@ use mathlib.Core.Path.{_≡_, sym, ap, ap₂, _∙_}
 use mathlib.Core.Bool.{Bool, true, not, _&&_, _||_, or-true, true≢false}
 use mathlib.Core.List.{List}
 use mathlib.Core.Logic.{⊎-elim}
-use Prim.Native.Nat.{ℕ, _+_, _-_, _^_, _≤_, _<_}
+use Prim.Native.Nat.{ℕ, _+_, _-_, _≤_, _<_}
 use native.Mathlib.Nat.{eq-or-lt-of-le}
 use native.Mathlib.Numerals.{add-one}
 use native.Mathlib.Omega.{arith}
-use lib.Bits.{bitAnd, bitOr}
+use lib.Bits.{bitOr}
 use lib.Dec.{eqb}
 use lib.ListN.{getD, set, length-set}
 use lib.Seq.{getD-set-same, getD-set-other}
@@ -15,7 +15,7 @@ use borrow.Author.Tests.{eq-eqb, ne-eqb}
 use Rattle.words.specs.Below.{any}
 use Rattle.words.specs.Bits.{has}
 use Rattle.words.proofs.Below.{any-ext}
-use Rattle.words.proofs.Bits.{has-zero, has-and, has-or, has-not}
+use Rattle.words.proofs.Bits.{has-zero, has-or}
 use Rattle.words.proofs.BitWalks.{has-with}
 use Rattle.planes.specs.declared.plane.Lanes.{Lanes}
 use Rattle.round.specs.declared.redo.Changed.{Changed}

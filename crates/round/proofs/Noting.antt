@@ -12,7 +12,7 @@ use lib.Seq.{getD-set-same, getD-set-other}
 use borrow.Author.Tests.{eqb-true, eq-eqb, ne-eqb}
 use Rattle.words.specs.Bits.{has}
 use Rattle.words.specs.OneBit.{withBit}
-use Rattle.words.proofs.Bits.{has-zero, has-and, has-or, has-not, has-ext}
+use Rattle.words.proofs.Bits.{has-zero, has-and, has-or, has-ext}
 use Rattle.words.proofs.BitWalks.{has-with}
 use Rattle.logic.specs.Value.{isTrue, isFalse}
 use Rattle.planes.specs.declared.plane.Lanes.{Lanes}

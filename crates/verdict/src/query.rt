@@ -17,5 +17,5 @@ pub fn query_value(c: Case, formula: &[u8], i: Interpretation) -> Value
         → r ≡ valueOf (valueAt i) (formulaOf (take (c .nodes) (now (formula .entry))))) ⌝ }
 {
     let nodes = c.nodes;
-    logic::formula::formula_value(&formula[..nodes], i)
+    nodes::formula::formula_value(&formula[..nodes], i)
 }

@@ -18,8 +18,8 @@ use Rattle.program.specs.Program.{Clause, programWith}
 use Rattle.program.specs.Cause.{causesOf, atomsIn}
 use Rattle.program.specs.Setting.{choicesFor, settingsOf, additionsOf}
 use Rattle.program.proofs.Soundness.{sound-formula}
-use Rattle.settle.specs.Rounds.{roundCount, settled}
-use Rattle.settle.proofs.Reached.{rounds-good}
+use Rattle.settle.specs.Rounds.{settled}
+use Rattle.settle.proofs.Reached.{settled-good}
 use Rattle.planes.specs.Planes.{column, Planes}
 use Rattle.planes.specs.Fill.{Filled}
 use Rattle.lanes.specs.Rounds.{addsAt, sum, Settles}
@@ -135,11 +135,9 @@ module _ {c : Case} {cl co fo : List ℕ} {causes end : ℕ} {work₀ : List ℕ
             v .columns-are j q ∙ ap (λ (i : ℕ). settled (program i j) .interpretation) (g .causes-are)
 
         pub lanes-planes : Planes t u
-        unfolding settled
         lanes-planes j q =
-            let p = programWith cl (c .clauses) (addsAt causes s j) in
             subst (λ (i : Interpretation). Disjoint i) (sym (v .columns-are j q))
-            (rounds-good p (roundCount p) .disjoint)
+            (settled-good (programWith cl (c .clauses) (addsAt causes s j)) .disjoint)
 
         total-is : total ≡ sum m (λ j. J .rounds (s + j))
         total-is =

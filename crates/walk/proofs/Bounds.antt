@@ -9,11 +9,10 @@ use native.Mathlib.Omega.{arith}
 use lib.ListN.{length}
 use lib.Pow.{pow-mono}
 use Rattle.program.specs.declared.case.Case.{Case}
-use Rattle.program.specs.Program.{headsOf}
 use Rattle.program.specs.Cause.{causesOf}
 use Rattle.program.specs.Setting.{settingsOf}
 use Rattle.program.specs.Sound.{sound}
-use Rattle.program.proofs.Causes.{causes-lt}
+use Rattle.program.proofs.Causes.{causes-of-lt}
 use Rattle.program.proofs.Soundness.{full-clauses, full-constraints, full-formula, sound-full}
 use Rattle.program.proofs.Soundness.{sound-atoms, sound-clauses, sound-constraints, sound-nodes, sound-few}
 use Rattle.settle.proofs.Theorems.{round-count-least}
@@ -22,10 +21,9 @@ use Rattle.explanation.proofs.Weighing.{settings-low}
 
 module _ (c : Case) (cl co fo : List ℕ) (h : sound c cl co fo ≡ true) where
   pub causes-fit : causesOf c cl < 2 ^ 64
-  unfolding causesOf
   causes-fit =
       let l = sound-atoms c cl co fo h .1 in
-      lt-of-lt-of-le (causes-lt (c .atoms) (headsOf cl (c .clauses)) l) (pow-mono l)
+      lt-of-lt-of-le (causes-of-lt c cl l) (pow-mono l)
 
   pub settings-few : settingsOf (causesOf c cl) ≤ 59049
   settings-few = settings-low (causesOf c cl) causes-fit (sound-few c cl co fo h)

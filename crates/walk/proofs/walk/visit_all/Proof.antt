@@ -43,12 +43,25 @@ sized c = c .before .before .before .before
 abbrev turned : tie.After-lanes-of Inv-loop μ-loop → tie.In-loop Inv-loop μ-loop
 turned c = c .before .before .before .before
 
+abbrev looped : tie.In-loop Inv-loop μ-loop → tie.At-loop Inv-loop μ-loop
+looped c = c .before
+
 abbrev entry : tie.At-loop Inv-loop μ-loop → tie.Start Inv-loop μ-loop
 entry c = c .before .before .before .before .before .before .before
 
+-- from one call to the call before
+abbrev explained : tie.After-cover Inv-loop μ-loop → tie.After-explaining Inv-loop μ-loop
+explained c = judged (c .before)
+
+abbrev ran : tie.After-explaining Inv-loop μ-loop → tie.After-run Inv-loop μ-loop
+ran c = settled (c .before)
+
+abbrev counted : tie.After-run Inv-loop μ-loop → tie.After-lanes-of Inv-loop μ-loop
+counted c = sized (c .before)
+
 -- the turn in which the lanes are settled
 abbrev turn : tie.After-run Inv-loop μ-loop → tie.In-loop Inv-loop μ-loop
-turn c = turned (sized (c .before))
+turn c = turned (counted c)
 
 -- ---- the needs
 none-requires : tie.Need-none-requires Inv-loop μ-loop
@@ -75,7 +88,7 @@ lanes-of-requires c κs = search needs
 run-requires : tie.Need-run-requires Inv-loop μ-loop
 run-requires c κs =
     let d = sized c in
-    let l = turned d .before in
+    let l = looped (turned d) in
     let p = entry l .pre .1 in (
       p .tables,
       p .trues-even,
@@ -92,38 +105,38 @@ add-rounds c =
     let t = turn c in
     omega (
       arith,
-      rounds-fit (entry (t .before) .pre .0) (t .before .loop .inv) (t .loop-test .taken)
-          (sized (c .before) .lanes-of .ensures) (c .run .ensures),
+      rounds-fit (entry (looped t) .pre .0) (looped t .loop .inv) (t .loop-test .taken) (counted c .lanes-of .ensures)
+          (c .run .ensures),
     )
 
 explaining-requires : tie.Need-explaining-requires Inv-loop μ-loop
 explaining-requires c κs =
     let d = settled c in
     let t = turn d in
-    let p = entry (t .before) .pre .0 in
+    let p = entry (looped t) .pre .0 in
     let n = constraints-fit _ _ _ _ (p .is-sound) in (
-      lanes-planes p (t .before .loop .inv) (t .loop-test .taken) (sized (d .before) .lanes-of .ensures)
-          (d .run .ensures),
+      lanes-planes p (looped t .loop .inv) (t .loop-test .taken) (counted d .lanes-of .ensures) (d .run .ensures),
       n .0,
       n .1,
     )
 
 cover-requires : tie.Need-cover-requires Inv-loop μ-loop
 cover-requires c κs =
-    let t = turn (settled (judged c .before)) in
-    let p = entry (t .before) .pre in
-    let i = t .before .loop .inv in
+    let t = turn (ran (judged c)) in
+    let b = entry (looped t) in
+    let p = b .pre in
+    let i = looped t .loop .inv in
     let n = word-inside (p .0) i (t .loop-test .taken) in
-    (i .size-is, n .0, n .1, weights-few (p .0) (entry (t .before) .args .weights .now) (p .1 .weights-are))
+    (i .size-is, n .0, n .1, weights-few (p .0) (b .args .weights .now) (p .1 .weights-are))
 
 visit-requires : tie.Need-visit-requires Inv-loop μ-loop
 visit-requires c κs =
-    let d = settled (judged (covered c .before) .before) in
+    let d = ran (explained (covered c)) in
     let t = turn d in
-    let p = entry (t .before) .pre .0 in
-    let i = t .before .loop .inv in
+    let p = entry (looped t) .pre .0 in
+    let i = looped t .loop .inv in
     let n = nodes-fit _ _ _ _ (p .is-sound) in
-    let m = sized (d .before) .lanes-of .ensures in (
+    let m = counted d .lanes-of .ensures in (
       n .0,
       n .1,
       omega (arith, m),
@@ -134,17 +147,17 @@ visit-requires c κs =
 
 -- the turn, where a block is visited
 abbrev turnOf : tie.After-slice-known4 Inv-loop μ-loop → tie.In-loop Inv-loop μ-loop
-turnOf c = turn (settled (judged (covered (lent (visited c)) .before) .before))
+turnOf c = turn (ran (explained (covered (lent (visited c)))))
 
 add-b : tie.Need-add-b Inv-loop μ-loop
 add-b c =
     let t = turnOf c in
-    omega (arith, word-inside (entry (t .before) .pre .0) (t .before .loop .inv) (t .loop-test .taken) .1)
+    omega (arith, word-inside (entry (looped t) .pre .0) (looped t .loop .inv) (t .loop-test .taken) .1)
 
 add-s : tie.Need-add-s Inv-loop μ-loop
 add-s c =
     let t = turnOf c in
-    omega (arith, t .loop-test .taken, end-few (entry (t .before) .pre .0))
+    omega (arith, t .loop-test .taken, end-few (entry (looped t) .pre .0))
 
 loop-less : tie.Need-loop-less Inv-loop μ-loop
 loop-less c = omega (arith, turnOf c .loop-test .taken)
@@ -153,12 +166,12 @@ loop-again : tie.Need-loop-again Inv-loop μ-loop
 loop-again c =
     let v = visited c in
     let k = covered (lent v) in
-    let e = judged (k .before) in
-    let d = settled (e .before) in
-    let m = sized (d .before) in
+    let e = explained k in
+    let d = ran e in
+    let m = counted d in
     let t = turned m in
-    let p = entry (t .before) .pre in
-    let i = t .before .loop .inv in
+    let p = entry (looped t) .pre in
+    let i = looped t .loop .inv in
     let x = m .before .fill .ensures _ (i .added-is) in
     walking-next (p .0) i (t .loop-test .taken) (m .lanes-of .ensures) (d .run .ensures) (p .1 .weights-are) (x .0)
     (e .explaining .ensures) (k .cover .ensures) (x .1) (v .visit .ensures)

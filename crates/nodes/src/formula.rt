@@ -1,14 +1,14 @@
-// Formulas in prefix order: their value in an interpretation, and whether nodes are exactly one formula.
+// The value and the depth of a formula, read from its nodes.
 ghost use mathlib.Core.Path.{_≡_};
 ghost use mathlib.Core.Bool.{true};
 ghost use Prim.Native.Nat.{ℕ, _-_, _≤_};
 ghost use lib.ListN.{length};
 ghost use Rattle.logic.specs.Formula.{Formula, valueOf};
 ghost use Rattle.logic.specs.Nodes.{joined, oneFormula, formulaOf};
 ghost use Rattle.logic.specs.Interpretation.{valueAt};
 ghost use Rattle.logic.specs.Evaluation.{Evaluated, Measured};
-use crate::interpretation::Interpretation;
-use crate::value::Value;
+use logic::interpretation::Interpretation;
+use logic::value::Value;
 
 // The value of a formula, and the place of the nodes behind it.
 pub struct Worth {

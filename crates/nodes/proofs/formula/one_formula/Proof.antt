@@ -2,9 +2,9 @@
 -- Assumes nothing.
 use native.Mathlib.Omega.{arith}
 use borrow.Author.Needs.{needs}
 use Rattle.logic.proofs.Reading.{deep-none, whole-one}
-use Rattle.logic.proofs.formula.one_formula.Statement.{statement}
-use Rattle.logic.proofs.formula.one_formula.Tie as tie
+use Rattle.nodes.proofs.formula.one_formula.Statement.{statement}
+use Rattle.nodes.proofs.formula.one_formula.Tie as tie
 
 measure-requires : tie.Need-measure-requires
 measure-requires c κs = search needs

@@ -4,14 +4,14 @@ use Prim.Native.Nat.{ℕ, _<_, _-_}
 use native.Mathlib.Omega.{arith}
 use lib.ListN.{length}
 use borrow.Fn.PlainCycle.{Measures, is, falls, and}
 use Rattle.logic.proofs.Reading.{end-measured, high-measured, name-measured, outside-measured}
 use Rattle.logic.proofs.Reading.{operand-measured, not-measured, second-measured, form-measured}
-use Rattle.logic.proofs.formula.measure.Reads as measure
-use Rattle.logic.proofs.formula.measure.Kinds as measure-kinds
-use Rattle.logic.proofs.formula.+measure.Lts-measure as measure-lts
-use Rattle.logic.proofs.formula.greater_of.Reads as greater-of-reads
-use Rattle.logic.proofs.formula.+measure.{statement}
-use Rattle.logic.proofs.formula.+measure.Tie.{close}
+use Rattle.nodes.proofs.formula.measure.Reads as measure
+use Rattle.nodes.proofs.formula.measure.Kinds as measure-kinds
+use Rattle.nodes.proofs.formula.+measure.Lts-measure as measure-lts
+use Rattle.nodes.proofs.formula.greater_of.Reads as greater-of-reads
+use Rattle.nodes.proofs.formula.+measure.{statement}
+use Rattle.nodes.proofs.formula.+measure.Tie.{close}
 
 abbrev μ-measure : Measures 1 measure-kinds.ps ℕ
 μ-measure κs a = length (a .0 .now) - a .1 .0

@@ -4,15 +4,15 @@ use Prim.Native.Nat.{ℕ, _<_, _-_}
 use native.Mathlib.Omega.{arith}
 use lib.ListN.{length}
 use borrow.Fn.PlainCycle.{Measures, is, falls, and}
 use Rattle.logic.proofs.Reading.{end-evaluated, name-evaluated, high-evaluated, not-evaluated, form-evaluated}
-use Rattle.logic.proofs.formula.eval.Reads as eval
-use Rattle.logic.proofs.formula.eval.Kinds as eval-kinds
-use Rattle.logic.proofs.formula.+eval.Lts-eval as eval-lts
-use Rattle.logic.proofs.formula.form_value.Reads as form-value-reads
+use Rattle.nodes.proofs.formula.eval.Reads as eval
+use Rattle.nodes.proofs.formula.eval.Kinds as eval-kinds
+use Rattle.nodes.proofs.formula.+eval.Lts-eval as eval-lts
+use Rattle.nodes.proofs.formula.form_value.Reads as form-value-reads
 use Rattle.logic.proofs.interpretation.Interpretation.value.Reads as value-reads
 use Rattle.logic.proofs.value.Value.not.Reads as not-reads
-use Rattle.logic.proofs.formula.+eval.{statement}
-use Rattle.logic.proofs.formula.+eval.Tie.{close}
+use Rattle.nodes.proofs.formula.+eval.{statement}
+use Rattle.nodes.proofs.formula.+eval.Tie.{close}
 
 abbrev μ-eval : Measures 1 eval-kinds.ps ℕ
 μ-eval κs a = length (a .0 .now) - a .1 .0

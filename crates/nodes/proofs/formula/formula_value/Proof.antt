@@ -1,9 +1,9 @@
 -- `formula::formula_value` meets its contract: nodes that are exactly one formula are the one read from place 0.
 -- Assumes nothing.
 use borrow.Author.Needs.{needs}
 use Rattle.logic.proofs.Spelling.{one-formula-spells}
-use Rattle.logic.proofs.formula.formula_value.Statement.{statement}
-use Rattle.logic.proofs.formula.formula_value.Tie as tie
+use Rattle.nodes.proofs.formula.formula_value.Statement.{statement}
+use Rattle.nodes.proofs.formula.formula_value.Tie as tie
 
 eval-requires : tie.Need-eval-requires
 eval-requires c κs = search needs
