@@ -93,7 +93,8 @@ module _ {c : Case} {cl co fo : List ℕ} {causes end : ℕ} {work₀ : List ℕ
   module _ {list₀ list work row : List ℕ} {f : Found} {k : ℕ} {added : Additions} {b s : ℕ}
       (w : Walking c cl co fo causes end list₀ work₀ list work row f k added b s) where
     -- ---- the end
-    pub walking-end : end ≤ s → Walked J (choicesFor (atomsIn (causesOf c cl))) list₀ work₀ end (record { found = f; rounds = k }) list work
+    pub walking-end : end ≤ s → Walked J (choicesFor (atomsIn (causesOf c cl))) list₀ work₀ end
+        (record { found = f; rounds = k }) list work
     walking-end l =
         let there : min s end ≡ end = omega arith in
         let t : Tally = record { found = f; rounds = k } in
@@ -147,7 +148,8 @@ module _ {c : Case} {cl co fo : List ℕ} {causes end : ℕ} {work₀ : List ℕ
 
         summed : (n : ℕ) → roundsBelow J s + sum n (λ j. J .rounds (s + j)) ≡ roundsBelow J (s + n)
         summed =
-            rounds-more J s (λ n. sum n (λ j. J .rounds (s + j))) (sum-none _) (λ j. sum-more j (λ i. J .rounds (s + i)))
+            rounds-more J s (λ n. sum n (λ j. J .rounds (s + j))) (sum-none _)
+            (λ j. sum-more j (λ i. J .rounds (s + i)))
 
         pub rounds-fit : k + total ≤ 8000000
         rounds-fit =

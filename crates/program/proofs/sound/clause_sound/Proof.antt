@@ -24,8 +24,8 @@ is-shaped-requires c κs = search needs
 returns-3 : tie.Need-returns-3
 returns-3 c =
     let w = c .before .before in
-    clause-shaped _ _ _ _ (omega arith) (passed (w .before .is-within .ensures) (w .if2 .left)) (c .before .is-bare .ensures)
-    (c .is-shaped .ensures)
+    clause-shaped _ _ _ _ (omega arith) (passed (w .before .is-within .ensures) (w .if2 .left))
+    (c .before .is-bare .ensures) (c .is-shaped .ensures)
 
 pub clause-sound-spec : {M : Type 1} → statement M
 clause-sound-spec =
