@@ -7,10 +7,16 @@ use native.Mathlib.Nat.{not-suc-le-zero, le-of-suc-le-suc, le-antisymm, suc-add,
 use native.Mathlib.Numerals.{add-one}
 use native.Mathlib.Omega.{arith}
 use lib.ListN.{length, take, drop, getD, set, length-append, length-set}
-use lib.Seq.{sets, take-all}
+use lib.Seq.{sets, take-all, take-at}
 use Rattle.table.specs.Filled.{filled, padded}
 
--- filled
+-- filled, and the length of what is padded
+
+pub padded-length : (n : ℕ) (l : List ℕ) → length (padded n l) ≡ n
+unfolding padded
+padded-length zero l = refl
+padded-length (suc n) [] = ap suc (padded-length n [])
+padded-length (suc n) (x ∷ l) = ap suc (padded-length n l)
 
 pub filled-length : (n : ℕ) (l old : List ℕ) → length (filled n l old) ≡ length old
 unfolding filled
@@ -28,6 +34,10 @@ filled-again (suc n) [] [] (o ∷ old) = rw (filled-again n [] [] old)
 filled-again (suc n) [] (y ∷ m) (o ∷ old) = rw (filled-again n [] m old)
 filled-again (suc n) (x ∷ l) [] (o ∷ old) = rw (filled-again n l [] old)
 filled-again (suc n) (x ∷ l) (y ∷ m) (o ∷ old) = rw (filled-again n l m old)
+
+-- a table that was filled is so still
+pub filled-same : (n : ℕ) (l t old : List ℕ) → t ≡ filled n l old → t ≡ filled n l t
+filled-same n l t old e = e ∙ sym (filled-again n l l old) ∙ ap (filled n l) (sym e)
 
 -- an entry is stored behind l
 pub filled-push : (n : ℕ) (l old : List ℕ) (x : ℕ) → length l < n → n ≤ length old
@@ -55,12 +65,16 @@ filled-at (suc n) [] (o ∷ old) (suc i) h k = filled-at n [] old i (le-of-suc-l
 filled-at (suc n) (x ∷ l) (o ∷ old) zero h k = refl
 filled-at (suc n) (x ∷ l) (o ∷ old) (suc i) h k = filled-at n l old i (le-of-suc-le-suc h) (le-of-suc-le-suc k)
 
-pub filled-take : (n : ℕ) (l old : List ℕ) → n ≤ length old → take n (filled n l old) ≡ padded n l
+-- what is filled, and what is kept behind it
+pub filled-parts : (n : ℕ) (l old : List ℕ) → n ≤ length old → filled n l old ≡ padded n l ++ drop n old
 unfolding filled padded
-filled-take zero l old h = refl
-filled-take (suc n) l [] h = absurd (not-suc-le-zero h)
-filled-take (suc n) [] (o ∷ old) h = rw (filled-take n [] old (le-of-suc-le-suc h))
-filled-take (suc n) (x ∷ l) (o ∷ old) h = rw (filled-take n l old (le-of-suc-le-suc h))
+filled-parts zero l old h = refl
+filled-parts (suc n) l [] h = absurd (not-suc-le-zero h)
+filled-parts (suc n) [] (o ∷ old) h = rw (filled-parts n [] old (le-of-suc-le-suc h))
+filled-parts (suc n) (x ∷ l) (o ∷ old) h = rw (filled-parts n l old (le-of-suc-le-suc h))
+
+pub filled-take : (n : ℕ) (l old : List ℕ) → n ≤ length old → take n (filled n l old) ≡ padded n l
+filled-take n l old h = rw (filled-parts n l old h) (take-at (padded n l) (drop n old) n (padded-length n l))
 
 -- a table that is lent with exactly its size
 pub filled-exact : (n : ℕ) (l old : List ℕ) → length old ≡ n → filled n l old ≡ padded n l
@@ -77,12 +91,6 @@ filled-drop (suc n) [] (o ∷ old) = filled-drop n [] old
 filled-drop (suc n) (x ∷ l) (o ∷ old) = filled-drop n l old
 
 -- padded
-
-pub padded-length : (n : ℕ) (l : List ℕ) → length (padded n l) ≡ n
-unfolding padded
-padded-length zero l = refl
-padded-length (suc n) [] = ap suc (padded-length n [])
-padded-length (suc n) (x ∷ l) = ap suc (padded-length n l)
 
 pub padded-at : (n : ℕ) (l : List ℕ) (i : ℕ) → i < n → getD (padded n l) i 0 ≡ getD l i 0
 unfolding padded

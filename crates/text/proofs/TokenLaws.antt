@@ -1,6 +1,6 @@
 -- Laws of the words and brackets of a line, by places of the line: a loop over a word, and what stands at a place.
 -- Assumes nothing.
-use mathlib.Core.Path.{_≡_, refl, sym, ap, _∙_}
+use mathlib.Core.Path.{_≡_, refl, sym, ap, _∙_, subst}
 use mathlib.Core.Bool.{true, false}
 use mathlib.Core.List.{List, [], _∷_, _++_}
 use mathlib.Core.Logic.{⊎-elim}
@@ -13,7 +13,8 @@ use lib.Seq.{slice, slice-empty, length-slice, drop-cons}
 use borrow.Author.Tests.{ne-eqb}
 use Rattle.text.specs.Bytes.{isWordByte}
 use Rattle.text.specs.Tokens.{Token, ended, bracket, tokensFrom, tokens}
-use Rattle.text.specs.Scanning.{WordEnds}
+use Rattle.text.specs.declared.tokens.Next.{Next}
+use Rattle.text.specs.Scanning.{WordEnds, firstToken, Inside, Found}
 use Rattle.text.proofs.Slices.{slice-more}
 
 -- the tokens of what is left of l from place i on, behind the part w of a word
@@ -86,3 +87,11 @@ module _ (l : List ℕ) (i : ℕ) where
   pub tokens-none : length l ≤ i → tokens (drop i l) ≡ []
   unfolding tokensFrom
   tokens-none h = rw (drop-of-length-le l h)
+
+-- the token q was found at or behind place i
+module _ {l : List ℕ} {i : ℕ} {r q : Next} (f : Found l i r) (e : r ≡ q) where
+  pub found-tokens : tokens (drop i l) ≡ firstToken l q
+  found-tokens = f .tokens-are ∙ ap (firstToken l) e
+
+  pub found-inside : Inside l i q
+  found-inside = subst (Inside l i) e (f .inside)

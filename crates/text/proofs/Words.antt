@@ -11,7 +11,8 @@ use lib.Seq.{slice, slice-cons}
 use Rattle.words.specs.Choice.{pick}
 use Rattle.text.specs.Bytes.{isLetter, isWordByte, allOf}
 use Rattle.text.specs.Tokens.{Token, ended, bracket, tokensFrom, tokens}
-use Rattle.text.specs.Words.{beginsWithLetter}
+use Rattle.text.specs.Words.{beginsWithLetter, namesFrom, namesIn}
+use Rattle.text.proofs.Each.{Each}
 use Rattle.text.proofs.ByteLaws.{all-push}
 
 -- a word that holds a byte, and only bytes that stand in words
@@ -53,6 +54,18 @@ tokens-word-bytes l = tokens-from-bytes [] l refl
 -- the first word of a line, or of what is left of it
 pub first-word-bytes : (l w : List ℕ) (ts : List Token) → tokens l ≡ Token.word w ∷ ts → IsWord w
 first-word-bytes l w ts e = subst WordBytes e (tokens-word-bytes l) .0
+
+-- and each name of a line
+pub names-are-words : (b : Bool) (ts : List Token) → WordBytes ts → Each IsWord (namesFrom b ts)
+unfolding namesFrom
+names-are-words b [] h = tt
+names-are-words b (Token.opening ∷ ts) h = names-are-words true ts h
+names-are-words b (Token.closing ∷ ts) h = names-are-words false ts h
+names-are-words true (Token.word w ∷ ts) h = names-are-words false ts (h .1)
+names-are-words false (Token.word w ∷ ts) h = (h .0, names-are-words false ts (h .1))
+
+pub line-names-are-words : (l : List ℕ) → Each IsWord (namesIn (tokens l))
+line-names-are-words l = names-are-words false (tokens l) (tokens-word-bytes l)
 
 -- a word is a name by its first byte
 pub name-first : (l : List ℕ) (a e : ℕ) → a < e → e ≤ length l → beginsWithLetter (slice a e l) ≡ isLetter (getD l a 0)

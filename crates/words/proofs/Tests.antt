@@ -25,6 +25,10 @@ eqb-comm a b = go (eqb b a) refl
     go true e = eq-eqb a b (sym (eqb-true b a e)) ∙ sym e
     go false e = ne-eqb a b (λ q. eqb-false b a e (sym q)) ∙ sym e
 
+pub by-test : {P : Type 0} (t : Bool) → (t ≡ true → P) → (t ≡ false → P) → P
+by-test true f g = f refl
+by-test false f g = g refl
+
 -- a test that passes makes another pass
 abbrev pub Gives : Bool → Bool → Type 0
 Gives a b = a ≡ true → b ≡ true
