@@ -11,7 +11,7 @@ use mathlib.Core.Bool.{Bool, true, false}
 use mathlib.Core.List.{List, [], _∷_}
 use mathlib.Core.Option.{Option}
 use Prim.Native.Nat.{ℕ}
-use lib.Dec.{eqb}
+use lib.Dec.{eqb, ltb}
 use Rattle.text.specs.Tokens.{Token}
 use Rattle.formulas.specs.Parsing.{Items, closedAmong}
 use Rattle.formulas.proofs.Operands.{withOne, withTwo}
@@ -70,7 +70,7 @@ with-form-first : (k : ℕ) (x : Items) → FormFirst (withForm k x)
 unfolding withForm
 with-form-first k Option.none = tt
 with-form-first k (Option.some l) =
-    picked-items FormFirst (eqb k 0) _ _ tt (picked-items FormFirst (eqb k 64) _ _ (one-first l) (two-first k l))
+    picked-items FormFirst (ltb 68 k) _ _ tt (picked-items FormFirst (eqb k 64) _ _ (one-first l) (two-first k l))
 
 pub opening-first : (ts : List Token) → FormFirst (itemsOf (Token.opening ∷ ts))
 unfolding itemsOf

@@ -19,7 +19,7 @@ use Rattle.formulas.specs.Keyword.{nodeOf}
 use Rattle.formulas.specs.Parsing.{sizeOf, FormulaAt, Parsed, closedAmong, Closed}
 use Rattle.formulas.specs.Sentence.{depthOf}
 use Rattle.formulas.proofs.Sentences.{depth-le-size}
-use Rattle.formulas.proofs.Items.{closed-among, opening-unclosed, word-unclosed, closing-begins, zero-begins}
+use Rattle.formulas.proofs.Items.{closed-among, opening-unclosed, word-unclosed, closing-begins, other-begins}
 use Rattle.formulas.proofs.Items.{operand-begins, second-begins, negation-items, joined-items}
 
 -- a formula's depth is at most the bytes it takes
@@ -114,8 +114,8 @@ headed l at i a e k t u q = record {
 -- The ways out of `formula_at` for a form with a node
 
 module _ (l : List ℕ) (at k e : ℕ) (q : Headed l at k e) where
-  pub zero-parsed : k ≡ 0 → Parsed l at NoFormula
-  zero-parsed z = rw (q .items-are) (zero-begins k (itemsOf (tokens (drop e l))) z)
+  pub other-parsed : 68 < k → Parsed l at NoFormula
+  other-parsed h = rw (q .items-are) (other-begins k (itemsOf (tokens (drop e l))) h)
 
   pub operand-parsed : Parsed l e NoFormula → Parsed l at NoFormula
   operand-parsed h = rw (q .items-are) (operand-begins k (itemsOf (tokens (drop e l))) h)
@@ -146,7 +146,7 @@ module _ (l : List ℕ) (at k e : ℕ) (q : Headed l at k e) where
     second-parsed n h =
         rw (q .items-are, o .items-are) (second-begins k (o .sentence) (itemsOf (tokens (drop j l))) n h)
 
-    pub joined-parsed : (i d' m : ℕ) (r : Parse) → (k ≡ 0 → ⊥) → (k ≡ 64 → ⊥) → FormulaAt l j i d' → m ≡ max d d'
+    pub joined-parsed : (i d' m : ℕ) (r : Parse) → k ≤ 68 → (k ≡ 64 → ⊥) → FormulaAt l j i d' → m ≡ max d d'
         → Closed l i (m + 1) r → Parsed l at r
     unfolding depthOf sizeOf
     joined-parsed i d' m r z n p em c =

@@ -7,10 +7,10 @@ use mathlib.Core.Path.{_≡_, refl}
 use mathlib.Core.Bool.{Bool, true, false}
 use mathlib.Core.List.{List, [], _∷_}
 use mathlib.Core.Option.{Option}
-use Prim.Native.Nat.{ℕ}
+use Prim.Native.Nat.{ℕ, _≤_}
 use native.Mathlib.Omega.{arith}
-use lib.Dec.{eqb}
-use borrow.Author.Tests.{eqb-true, eqb-false}
+use lib.Dec.{eqb, ltb}
+use borrow.Author.Tests.{eqb-true, eqb-false, ltb-false}
 use Rattle.words.specs.Choice.{pick}
 use Rattle.formulas.specs.Parsing.{Items}
 use Rattle.formulas.proofs.Operands.{withOne, withTwo}
@@ -41,7 +41,7 @@ name-front true w (Option.some l) f m e = record { sentence-is = cc; rest-is = c
 pub data FormFront (k : ℕ) (x : Items) (f : Sentence) (m : List Item) : Type 0 where
   of-negation : (g : Sentence) → k ≡ 64 → x ≡ Option.some (Item.formula g ∷ (Item.closing ∷ m))
       → f ≡ Sentence.negation g → FormFront k x f m
-  of-joined : (g h : Sentence) → (k ≡ 0 → ⊥) → (k ≡ 64 → ⊥)
+  of-joined : (g h : Sentence) → k ≤ 68 → (k ≡ 64 → ⊥)
       → x ≡ Option.some (Item.formula g ∷ (Item.formula h ∷ (Item.closing ∷ m))) → f ≡ Sentence.joined k g h
       → FormFront k x f m
 
@@ -53,7 +53,7 @@ module _ (k : ℕ) (f : Sentence) (m : List Item) where
   one-front (Item.formula g ∷ (Item.formula h ∷ l)) q e = none-items e
   one-front (Item.formula g ∷ (Item.closing ∷ l)) q e = FormFront.of-negation g q (cc) (cc)
 
-  two-front : (l : List Item) → (k ≡ 0 → ⊥) → (k ≡ 64 → ⊥) → withTwo k l ≡ Option.some (Item.formula f ∷ m)
+  two-front : (l : List Item) → k ≤ 68 → (k ≡ 64 → ⊥) → withTwo k l ≡ Option.some (Item.formula f ∷ m)
       → FormFront k (Option.some l) f m
   two-front [] z q e = none-items e
   two-front (Item.closing ∷ l) z q e = none-items e
@@ -63,14 +63,14 @@ module _ (k : ℕ) (f : Sentence) (m : List Item) where
   two-front (Item.formula g ∷ (Item.formula h ∷ (Item.formula i ∷ l))) z q e = none-items e
   two-front (Item.formula g ∷ (Item.formula h ∷ (Item.closing ∷ l))) z q e = FormFront.of-joined g h z q (cc) (cc)
 
-  picked-front : (s t : Bool) (l : List Item) → eqb k 0 ≡ s → eqb k 64 ≡ t
+  picked-front : (s t : Bool) (l : List Item) → ltb 68 k ≡ s → eqb k 64 ≡ t
       → pick s Option.none (pick t (withOne l) (withTwo k l)) ≡ Option.some (Item.formula f ∷ m)
       → FormFront k (Option.some l) f m
   picked-front true t l p q e = none-items e
   picked-front false true l p q e = one-front l (eqb-true k 64 q) e
-  picked-front false false l p q e = two-front l (eqb-false k 0 p) (eqb-false k 64 q) e
+  picked-front false false l p q e = two-front l (ltb-false 68 k p) (eqb-false k 64 q) e
 
   pub form-front : (x : Items) → withForm k x ≡ Option.some (Item.formula f ∷ m) → FormFront k x f m
   unfolding withForm
   form-front Option.none e = none-items e
-  form-front (Option.some l) e = picked-front (eqb k 0) (eqb k 64) l refl refl e
+  form-front (Option.some l) e = picked-front (ltb 68 k) (eqb k 64) l refl refl e

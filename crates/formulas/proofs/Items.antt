@@ -1,12 +1,11 @@
--- Items: what a token makes of the items behind it, by what they begin with; and what holds of each word of tokens
--- holds of each name of their formulas. Assumes nothing.
-use mathlib.Core.Path.{_≡_, refl, subst}
+-- Items: what a token makes of the items behind it, by what they begin with. Assumes nothing.
+use mathlib.Core.Path.{_≡_, refl}
 use mathlib.Core.Bool.{Bool, true, false, true≢false}
 use mathlib.Core.List.{List, [], _∷_}
 use mathlib.Core.Option.{Option}
-use Prim.Native.Nat.{ℕ}
-use borrow.Author.Tests.{eq-eqb, ne-eqb}
-use lib.Dec.{eqb}
+use Prim.Native.Nat.{ℕ, _≤_, _<_}
+use borrow.Author.Tests.{lt-ltb, le-ltb, ne-eqb}
+use lib.Dec.{eqb, ltb}
 use Rattle.words.specs.Choice.{pick}
 use Rattle.text.specs.Tokens.{Token}
 use Rattle.formulas.specs.Parsing.{Items, beginsFormula, closedAmong}
@@ -15,7 +14,6 @@ use Rattle.text.specs.Words.{beginsWithLetter}
 use Rattle.formulas.specs.Sentence.{Sentence}
 use Rattle.formulas.specs.Items.{prepend, Item, closed, withForm, itemsOf}
 use Rattle.formulas.specs.Keyword.{nodeOf}
-use Rattle.formulas.proofs.Sentences.{EachName}
 
 -- what holds of both choices
 pub picked-items : (C : Items → Type 0) (t : Bool) (x y : Items) → C x → C y → C (pick t x y)
@@ -61,7 +59,7 @@ module _ (f : Sentence) where
   unfolding withForm
   form-unclosed k Option.none = refl
   form-unclosed k (Option.some m) =
-      picked-items Unclosed (eqb k 0) _ _ refl
+      picked-items Unclosed (ltb 68 k) _ _ refl
       (picked-items Unclosed (eqb k 64) _ _ (one-unclosed m) (two-unclosed k m))
 
   pub opening-unclosed : (ts : List Token) → closedAmong f (itemsOf (Token.opening ∷ ts)) ≡ Option.none
@@ -82,10 +80,10 @@ pub closing-begins : (x : Items) → beginsFormula (prepend Item.closing x) ≡ 
 closing-begins Option.none = refl
 closing-begins (Option.some m) = refl
 
-pub zero-begins : (k : ℕ) (x : Items) → k ≡ 0 → beginsFormula (withForm k x) ≡ false
+pub other-begins : (k : ℕ) (x : Items) → 68 < k → beginsFormula (withForm k x) ≡ false
 unfolding withForm
-zero-begins k Option.none e = refl
-zero-begins k (Option.some m) e = rw (eq-eqb k 0 e)
+other-begins k Option.none h = refl
+other-begins k (Option.some m) h = rw (lt-ltb 68 k h)
 
 abbrev Others : Items → Type 0
 Others x = beginsFormula x ≡ false
@@ -95,9 +93,9 @@ pub operand-begins : (k : ℕ) (x : Items) → beginsFormula x ≡ false → beg
 unfolding withForm
 operand-begins k Option.none h = refl
 operand-begins k (Option.some []) h =
-    picked-items Others (eqb k 0) _ _ refl (picked-items Others (eqb k 64) _ _ refl refl)
+    picked-items Others (ltb 68 k) _ _ refl (picked-items Others (eqb k 64) _ _ refl refl)
 operand-begins k (Option.some (Item.closing ∷ m)) h =
-    picked-items Others (eqb k 0) _ _ refl (picked-items Others (eqb k 64) _ _ refl refl)
+    picked-items Others (ltb 68 k) _ _ refl (picked-items Others (eqb k 64) _ _ refl refl)
 operand-begins k (Option.some (Item.formula f ∷ m)) h = absurd (true≢false h)
 
 -- a form that is no negation lacks its second operand
@@ -105,9 +103,9 @@ pub second-begins : (k : ℕ) (f : Sentence) (x : Items) → (k ≡ 64 → ⊥) 
     → beginsFormula (withForm k (prepend (Item.formula f) x)) ≡ false
 unfolding withForm
 second-begins k f Option.none n h = refl
-second-begins k f (Option.some []) n h = rw (ne-eqb k 64 n) (picked-items Others (eqb k 0) _ _ refl refl)
+second-begins k f (Option.some []) n h = rw (ne-eqb k 64 n) (picked-items Others (ltb 68 k) _ _ refl refl)
 second-begins k f (Option.some (Item.closing ∷ m)) n h =
-    rw (ne-eqb k 64 n) (picked-items Others (eqb k 0) _ _ refl refl)
+    rw (ne-eqb k 64 n) (picked-items Others (ltb 68 k) _ _ refl refl)
 second-begins k f (Option.some (Item.formula g ∷ m)) n h = absurd (true≢false h)
 
 -- A form with its operands
@@ -118,79 +116,8 @@ unfolding withForm
 negation-items k f Option.none e = refl
 negation-items k f (Option.some m) e = rw e
 
-pub joined-items : (k : ℕ) (f g : Sentence) (x : Items) → (k ≡ 0 → ⊥) → (k ≡ 64 → ⊥)
+pub joined-items : (k : ℕ) (f g : Sentence) (x : Items) → k ≤ 68 → (k ≡ 64 → ⊥)
     → withForm k (prepend (Item.formula f) (prepend (Item.formula g) x)) ≡ closedAmong (Sentence.joined k f g) x
 unfolding withForm
-joined-items k f g Option.none z n = refl
-joined-items k f g (Option.some m) z n = rw (ne-eqb k 0 z, ne-eqb k 64 n)
-
--- What holds of each word holds of each name
-
--- P holds of each word of ts that follows no opening bracket; the test says that one stands before ts
-unfoldable pub EachWord : (List ℕ → Type 0) → Bool → List Token → Type 0
-EachWord P b [] = Unit {0}
-EachWord P b (Token.opening ∷ ts) = EachWord P true ts
-EachWord P b (Token.closing ∷ ts) = EachWord P false ts
-EachWord P true (Token.word w ∷ ts) = EachWord P false ts
-EachWord P false (Token.word w ∷ ts) = P w × EachWord P false ts
-
--- P holds of each name of each formula of m
-abbrev pub EachFormula : (List ℕ → Type 0) → List Item → Type 0
-EachFormula P [] = Unit {0}
-EachFormula P (Item.closing ∷ m) = EachFormula P m
-EachFormula P (Item.formula f ∷ m) = EachName P f × EachFormula P m
-
-module _ (P : List ℕ → Type 0) where
-  abbrev Each : Items → Type 0
-  Each Option.none = Unit {0}
-  Each (Option.some m) = EachFormula P m
-
-  closing-each : (x : Items) → Each x → Each (prepend Item.closing x)
-  closing-each Option.none h = tt
-  closing-each (Option.some m) h = h
-
-  formula-each : (f : Sentence) (x : Items) → EachName P f → Each x → Each (prepend (Item.formula f) x)
-  formula-each f Option.none p h = tt
-  formula-each f (Option.some m) p h = (p, h)
-
-  closed-each : (f : Sentence) (m : List Item) → EachName P f → EachFormula P m → Each (closed f m)
-  closed-each f [] p h = tt
-  closed-each f (Item.formula g ∷ m) p h = tt
-  closed-each f (Item.closing ∷ m) p h = (p, h)
-
-  one-each : (m : List Item) → EachFormula P m → Each (withOne m)
-  one-each [] h = tt
-  one-each (Item.closing ∷ m) h = tt
-  one-each (Item.formula f ∷ m) h = closed-each (Sentence.negation f) m (h .0) (h .1)
-
-  second-each : (k : ℕ) (f : Sentence) (m : List Item) → EachName P f → EachFormula P m → Each (withSecond k f m)
-  second-each k f [] p h = tt
-  second-each k f (Item.closing ∷ m) p h = tt
-  second-each k f (Item.formula g ∷ m) p h = closed-each (Sentence.joined k f g) m (p, h .0) (h .1)
-
-  two-each : (k : ℕ) (m : List Item) → EachFormula P m → Each (withTwo k m)
-  two-each k [] h = tt
-  two-each k (Item.closing ∷ m) h = tt
-  two-each k (Item.formula f ∷ m) h = second-each k f m (h .0) (h .1)
-
-  form-each : (k : ℕ) (x : Items) → Each x → Each (withForm k x)
-  unfolding withForm
-  form-each k Option.none h = tt
-  form-each k (Option.some m) h =
-      picked-items Each (eqb k 0) _ _ tt (picked-items Each (eqb k 64) _ _ (one-each m h) (two-each k m h))
-
-  items-each : (ts : List Token) → EachWord P false ts → Each (itemsOf ts)
-  unfolding itemsOf EachWord
-  items-each [] h = tt
-  items-each (Token.closing ∷ ts) h = closing-each (itemsOf ts) (items-each ts h)
-  items-each (Token.word w ∷ ts) h =
-      picked-items Each (beginsWithLetter w) _ _
-      (formula-each (Sentence.name w) (itemsOf ts) (h .0) (items-each ts (h .1))) tt
-  items-each (Token.opening ∷ []) h = tt
-  items-each (Token.opening ∷ (Token.opening ∷ ts)) h = tt
-  items-each (Token.opening ∷ (Token.closing ∷ ts)) h = tt
-  items-each (Token.opening ∷ (Token.word w ∷ ts)) h = form-each (nodeOf w) (itemsOf ts) (items-each ts h)
-
-  pub items-names : (ts : List Token) (m : List Item) → itemsOf ts ≡ Option.some m → EachWord P false ts
-      → EachFormula P m
-  items-names ts m e h = subst Each e (items-each ts h)
+joined-items k f g Option.none h n = refl
+joined-items k f g (Option.some m) h n = rw (le-ltb 68 k h, ne-eqb k 64 n)

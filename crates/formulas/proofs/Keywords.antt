@@ -1,77 +1,93 @@
--- The numbers that the words of forms have, and the words that have them.
+-- The numbers that words have, and the words that have them; tables of words.
 --
---   WordOf ws b w k   w is word k - b of the list ws, or k is 0
---   NodeNumber k      k is no node, or one of 64 to 68
+--   Ahead t n i w p     p is the place of w among n words, of which i are passed and the table t has the others
 -- Assumes nothing.
-use mathlib.Core.Path.{_≡_, refl}
+use mathlib.Core.Path.{_≡_, refl, _∙_}
 use mathlib.Core.Bool.{Bool, true, false}
 use mathlib.Core.List.{List, []}
-use mathlib.Core.Logic.{_⊎_, inl, inr}
-use Prim.Native.Nat.{ℕ, zero, suc, _+_, _-_, _≤_, _<_}
+use Prim.Native.Nat.{ℕ, suc, _+_, _-_, _≤_, _<_}
+use native.Mathlib.Nat.{sub-zero}
 use native.Mathlib.Omega.{arith}
-use lib.ListN.{length, getD}
-use Rattle.words.specs.Choice.{pick}
-use Rattle.text.specs.Bytes.{sameBytes, bytes}
-use Rattle.text.proofs.Same.{same-eq}
+use lib.Dec.{eqb}
+use lib.ListN.{length, take, drop, getD, length-drop}
+use lib.Seq.{take-all}
+use borrow.Author.Tests.{eqb-true}
+use Rattle.words.specs.Below.{every}
+use Rattle.words.proofs.Below.{every-at}
+use Rattle.text.specs.Bytes.{sameBytes}
+use Rattle.text.specs.Words.{placeOf}
+use Rattle.text.proofs.Same.{same-comm}
+use Rattle.text.proofs.Places.{place-here, place-later, place-none, place-le, place-name}
 use Rattle.formulas.specs.Sentence.{formWords}
-use Rattle.formulas.specs.Keyword.{nodeOf, kindOf}
+use Rattle.formulas.specs.Keyword.{nodeOf, wordEnd, wordRows, HasWords}
 
-abbrev pub WordOf : List (List ℕ) → ℕ → List ℕ → ℕ → Type 0
-WordOf ws b w k = (k ≡ 0) ⊎ ((b ≤ k) × (k < b + length ws) × (w ≡ getD ws (k - b) []))
+-- words of which no two are the same have the places where they stand
+pub own-place : (ws : List (List ℕ)) → every (length ws) (λ i. eqb (placeOf ws (getD ws i [])) i) ≡ true → (i : ℕ)
+    → i < length ws → placeOf ws (getD ws i []) ≡ i
+own-place ws e i h = eqb-true _ _ (every-at (length ws) _ e i h)
 
-module _ (ws : List (List ℕ)) (b : ℕ) {w : List ℕ} where
-  tested-word : (t : Bool) (i : ℕ) {y : ℕ} → i < length ws → sameBytes w (getD ws i []) ≡ t → WordOf ws b w y
-      → WordOf ws b w (pick t (b + i) y)
-  tested-word true i h e r =
-      let z : (b + i) - b ≡ i = omega arith in
-      inr (omega arith, omega arith, rw z (same-eq w (getD ws i []) e))
-  tested-word false i h e r = r
+-- The words of forms
 
-  -- a test for word i in front of others
-  pub picked-word : (i : ℕ) {y : ℕ} → i < length ws → WordOf ws b w y
-      → WordOf ws b w (pick (sameBytes w (getD ws i [])) (b + i) y)
-  picked-word i h r = tested-word (sameBytes w (getD ws i [])) i h refl r
-
-pub node-word : (w : List ℕ) → WordOf formWords 64 w (nodeOf w)
-unfolding nodeOf
-node-word w =
-    picked-word formWords 64 0 (omega arith)
-    (picked-word formWords 64 1 (omega arith)
-    (picked-word formWords 64 2 (omega arith)
-    (picked-word formWords 64 3 (omega arith) (picked-word formWords 64 4 (omega arith) (inl refl)))))
-
-abbrev pub NodeNumber : ℕ → Type 0
-NodeNumber k = (k ≡ 0) ⊎ ((64 ≤ k) × (k ≤ 68))
-
-number-of : {w : List ℕ} (k : ℕ) → WordOf formWords 64 w k → NodeNumber k
-number-of k (inl e) = inl e
-number-of k (inr r) = inr (r .0, omega arith)
-
-pub node-number : (w : List ℕ) → NodeNumber (nodeOf w)
-node-number w = number-of (nodeOf w) (node-word w)
-
-word-number : (i : ℕ) → i < 5 → nodeOf (getD formWords i []) ≡ 64 + i
-unfolding nodeOf sameBytes
-word-number zero h = refl
-word-number (suc zero) h = refl
-word-number (suc (suc zero)) h = refl
-word-number (suc (suc (suc zero))) h = refl
-word-number (suc (suc (suc (suc zero)))) h = refl
-word-number (suc (suc (suc (suc (suc i))))) h = absurd (omega arith)
+form-place : (i : ℕ) → i < 5 → placeOf formWords (getD formWords i []) ≡ i
+unfolding placeOf sameBytes
+form-place i h = own-place formWords refl i h
 
 pub word-node : (k : ℕ) → 64 ≤ k → k ≤ 68 → nodeOf (getD formWords (k - 64) []) ≡ k
-word-node k h m = omega (arith, word-number (k - 64) (omega arith))
+unfolding nodeOf
+word-node k h m = omega (arith, form-place (k - 64) (omega arith))
 
-picked-le : (b : Bool) (x y n : ℕ) → x ≤ n → y ≤ n → pick b x y ≤ n
-picked-le true x y n h k = h
-picked-le false x y n h k = k
+module _ (w : List ℕ) where
+  pub node-ge : 64 ≤ nodeOf w
+  unfolding nodeOf
+  node-ge = omega arith
 
-pub kind-le : (w : List ℕ) → kindOf w ≤ 6
-unfolding kindOf
-kind-le w =
-    picked-le (sameBytes w (bytes "true")) 1 _ 6 (omega arith)
-    (picked-le (sameBytes w (bytes "false")) 2 _ 6 (omega arith)
-    (picked-le (sameBytes w (bytes "if")) 3 _ 6 (omega arith)
-    (picked-le (sameBytes w (bytes "never")) 4 _ 6 (omega arith)
-    (picked-le (sameBytes w (bytes "seen")) 5 _ 6 (omega arith)
-    (picked-le (sameBytes w (bytes "query")) 6 0 6 (omega arith) (omega arith))))))
+  pub node-le : nodeOf w ≤ 69
+  unfolding nodeOf
+  node-le = omega (arith, place-le formWords w)
+
+  pub node-word : nodeOf w ≤ 68 → getD formWords (nodeOf w - 64) [] ≡ w
+  unfolding nodeOf
+  node-word h =
+      let z : (64 + placeOf formWords w) - 64 ≡ placeOf formWords w = omega arith in
+      rw z (place-name formWords w (omega arith))
+
+-- Tables of words
+
+pub record Ahead (t : List ℕ) (n i : ℕ) (w : List ℕ) (p : ℕ) : Type 0 where
+  pub within : i ≤ n
+  pub has : HasWords t (n - i)
+  pub place-is : p ≡ i + placeOf (wordRows t (n - i)) w
+
+module _ (t : List ℕ) (n : ℕ) (w : List ℕ) where
+  pub all-ahead : HasWords t n → Ahead t n 0 w (placeOf (wordRows t n) w)
+  all-ahead h = record { within = omega arith; has = rw sub-zero h; place-is = rw sub-zero (omega arith) }
+
+module _ {t : List ℕ} {n i : ℕ} {w : List ℕ} {p : ℕ} (q : Ahead t n i w p) where
+  pub none-ahead : n ≤ i → n ≡ p
+  none-ahead h = let z : n - i ≡ 0 = omega arith in omega (arith, rw (z, place-none) at (q .place-is))
+
+  module _ (h : i < n) where
+    left : n - i ≡ suc (n - (i + 1))
+    left = omega arith
+
+    pub word-fits : wordEnd t ≤ length t
+    word-fits = (rw left at (q .has)) .0
+
+    -- the first word that is ahead, as the code reads it
+    tested : {b : Bool} → sameBytes w (take (wordEnd t - 1) (drop 1 t)) ≡ b
+        → sameBytes (take (getD t 0 0) (drop 1 t)) w ≡ b
+    tested e = let z : wordEnd t - 1 ≡ getD t 0 0 = omega arith in same-comm _ w ∙ rw z at e
+
+    pub word-found : sameBytes w (take (wordEnd t - 1) (drop 1 t)) ≡ true → i ≡ p
+    word-found e = omega (arith, rw (left, place-here _ _ _ (tested e)) at (q .place-is))
+
+    -- the table behind it, as the code has it
+    pub word-passed : sameBytes w (take (wordEnd t - 1) (drop 1 t)) ≡ false
+        → Ahead (take (length t - wordEnd t) (drop (wordEnd t) t)) n (i + 1) w p
+    word-passed e =
+        let f : length (drop (wordEnd t) t) ≤ length t - wordEnd t = omega (arith, length-drop (wordEnd t) t) in
+        rw (take-all _ _ f) record {
+          within = omega arith;
+          has = (rw left at (q .has)) .1;
+          place-is = omega (arith, rw (left, place-later _ _ _ (tested e)) at (q .place-is));
+        }

@@ -5,7 +5,7 @@ use mathlib.Core.List.{List, [], _∷_, _++_}
 use mathlib.Core.Option.{Option}
 use Prim.Native.Nat.{ℕ, suc, _+_, _-_, _*_, _≤_}
 use native.Mathlib.Omega.{arith}
-use lib.Dec.{eqb}
+use lib.Dec.{eqb, ltb}
 use lib.ListN.{length, drop, length-drop}
 use Rattle.words.specs.Choice.{pick}
 use Rattle.text.specs.Bytes.{isWordByte}
@@ -101,7 +101,7 @@ module _ (n : ℕ) where
   unfolding withForm
   form-take k Option.none h = tt
   form-take k (Option.some m) h =
-      picked-items (Take (suc (suc n))) (eqb k 0) _ _ tt
+      picked-items (Take (suc (suc n))) (ltb 68 k) _ _ tt
       (picked-items (Take (suc (suc n))) (eqb k 64) _ _ (one-take m h) (two-take k m h))
 
 items-take : (ts : List Token) → Take (length ts) (itemsOf ts)

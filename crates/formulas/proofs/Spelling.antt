@@ -5,16 +5,15 @@
 --   AreSentences m     the formulas of m pass isSentence
 --   Spells ts x        the items x, if any, are of formulas, and their tokens are ts
 -- Assumes nothing.
-use mathlib.Core.Path.{_≡_, refl, ap, _∙_}
+use mathlib.Core.Path.{_≡_, refl, sym, ap, _∙_}
 use mathlib.Core.Bool.{Bool, true, false}
 use mathlib.Core.List.{List, [], _∷_, _++_, append-assoc}
-use mathlib.Core.Logic.{inl, inr}
 use mathlib.Core.Option.{Option}
 use Prim.Native.Nat.{ℕ, _-_, _≤_}
 use native.Mathlib.Omega.{arith}
-use lib.Dec.{eqb}
+use lib.Dec.{eqb, ltb}
 use lib.ListN.{getD}
-use borrow.Author.Tests.{eqb-true, eqb-false, leb-true, le-leb}
+use borrow.Author.Tests.{eqb-true, eqb-false, ltb-false, leb-true, le-leb}
 use Rattle.words.specs.Choice.{pick}
 use Rattle.text.specs.Tokens.{Token}
 use Rattle.text.proofs.ByteLaws.{and-true-both}
@@ -24,7 +23,7 @@ use Rattle.text.specs.Words.{beginsWithLetter}
 use Rattle.formulas.specs.Sentence.{Sentence, formWords, tokensOf, isSentence}
 use Rattle.formulas.specs.Items.{prepend, Item, withForm, itemsOf}
 use Rattle.formulas.specs.Keyword.{nodeOf}
-use Rattle.formulas.proofs.Keywords.{WordOf, node-word, word-node}
+use Rattle.formulas.proofs.Keywords.{word-node, node-ge, node-word}
 use Rattle.formulas.proofs.Items.{closed-among, negation-items, joined-items}
 
 -- What is spelled is read
@@ -62,7 +61,7 @@ tokensOf-read (Sentence.joined k f g) ts h =
       tokensOf-read f _ (j .first),
       tokensOf-read g (Token.closing ∷ ts) (j .second),
     )
-    (joined-items k f g (prepend Item.closing x) (λ z. omega arith) (λ z. omega arith)
+    (joined-items k f g (prepend Item.closing x) (j .high) (λ z. omega arith)
     ∙ closed-among (Sentence.joined k f g) x)
 
 -- What is read is spelled
@@ -118,23 +117,21 @@ module _ (w : List ℕ) (ts : List Token) where
     (rw (le-leb 65 k a, le-leb k 68 b, h .1 .0, h .1 .1 .0), h .1 .1 .1),
   )
 
-  picked-spells : (s t : Bool) (k : ℕ) (m : List Item) → eqb k 0 ≡ s → eqb k 64 ≡ t → WordOf formWords 64 w k
+  picked-spells : (s t : Bool) (m : List Item) → ltb 68 (nodeOf w) ≡ s → eqb (nodeOf w) 64 ≡ t
       → Spells ts (Option.some m)
-      → Spells (Token.opening ∷ (Token.word w ∷ ts)) (pick s Option.none (pick t (withOne m) (withTwo k m)))
-  picked-spells true t k m p q (inl z) h = tt
-  picked-spells true t k m p q (inr r) h = tt
-  picked-spells false t k m p q (inl z) h = absurd (eqb-false k 0 p z)
-  picked-spells false true k m p q (inr r) h =
-      let z : k - 64 ≡ 0 = omega (arith, eqb-true k 64 q) in
-      one-spells m (rw z at (r .2)) h
-  picked-spells false false k m p q (inr r) h =
-      two-spells k m (r .2) (omega (arith, eqb-false k 64 q)) (omega arith) h
+      → Spells (Token.opening ∷ (Token.word w ∷ ts)) (pick s Option.none (pick t (withOne m) (withTwo (nodeOf w) m)))
+  picked-spells true t m p q h = tt
+  picked-spells false true m p q h =
+      let z : nodeOf w - 64 ≡ 0 = omega (arith, eqb-true (nodeOf w) 64 q) in
+      one-spells m (sym (rw z at (node-word w (ltb-false 68 _ p)))) h
+  picked-spells false false m p q h =
+      let k = ltb-false 68 (nodeOf w) p in
+      two-spells (nodeOf w) m (sym (node-word w k)) (omega (arith, node-ge w, eqb-false (nodeOf w) 64 q)) k h
 
-  form-spells : (k : ℕ) (x : Items) → WordOf formWords 64 w k → Spells ts x
-      → Spells (Token.opening ∷ (Token.word w ∷ ts)) (withForm k x)
+  form-spells : (x : Items) → Spells ts x → Spells (Token.opening ∷ (Token.word w ∷ ts)) (withForm (nodeOf w) x)
   unfolding withForm
-  form-spells k Option.none r h = tt
-  form-spells k (Option.some m) r h = picked-spells (eqb k 0) (eqb k 64) k m refl refl r h
+  form-spells Option.none h = tt
+  form-spells (Option.some m) h = picked-spells (ltb 68 (nodeOf w)) (eqb (nodeOf w) 64) m refl refl h
 
 pub items-spell : (ts : List Token) → Spells ts (itemsOf ts)
 unfolding itemsOf spelledItems
@@ -144,5 +141,4 @@ items-spell (Token.word w ∷ ts) = name-spells (beginsWithLetter w) w ts (items
 items-spell (Token.opening ∷ []) = tt
 items-spell (Token.opening ∷ (Token.opening ∷ ts)) = tt
 items-spell (Token.opening ∷ (Token.closing ∷ ts)) = tt
-items-spell (Token.opening ∷ (Token.word w ∷ ts)) =
-    form-spells w ts (nodeOf w) (itemsOf ts) (node-word w) (items-spell ts)
+items-spell (Token.opening ∷ (Token.word w ∷ ts)) = form-spells w ts (itemsOf ts) (items-spell ts)

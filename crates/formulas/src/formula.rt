@@ -50,7 +50,7 @@ pub fn formula_at(l: &[u8], at: usize) -> Parse
             Next::Close(_) => Parse::NoFormula,
             Next::Word(a, e) => {
                 let node = node_of(l, a, e);
-                if node == 0 {
+                if 68 < node {
                     return Parse::NoFormula;
                 }
                 match formula_at(l, e) {

@@ -1,36 +1,38 @@
--- Laws of the literals that tokens are: one for each way out of `literal` and `negated_name`, and the literals that
--- `body` has passed.
+-- Laws of the literals that tokens are: one for each way out of `literal` and `negated_name`, and how many literals
+-- `has_body` has passed.
 --
---   withLiterals ls x   the literals ls in front of x
---   Passed l at i n     the n literals from place at to place i of the line l
+--   fitsBehind k n x    n literals and those of x are as many as a line of kind k takes
 -- Assumes nothing.
-use mathlib.Core.Path.{_≡_, refl, ap, _∙_, subst}
-use mathlib.Core.Bool.{true, false, true≢false}
-use mathlib.Core.List.{List, [], _∷_, _++_}
+use mathlib.Core.Path.{_≡_, refl, ap, subst}
+use mathlib.Core.Bool.{Bool, true, false, true≢false}
+use mathlib.Core.List.{List, [], _∷_}
 use mathlib.Core.Option.{Option}
-use Prim.Native.Nat.{ℕ, _+_, _≤_}
+use Prim.Native.Nat.{ℕ, suc, _+_, _≤_}
+use native.Mathlib.Nat.{add-zero, zero-add}
 use native.Mathlib.Omega.{arith}
-use lib.ListN.{length, drop, length-append}
-use lib.Dec.{eqb}
+use lib.ListN.{length}
+use lib.Dec.{ltb}
 use borrow.Author.Tests.{ne-eqb}
-use Rattle.text.specs.Tokens.{Token, tokens}
-use Rattle.formulas.specs.Parsing.{Items}
+use Rattle.text.specs.Tokens.{Token}
+use Rattle.formulas.specs.Parsing.{Items, closedAmong}
 use Rattle.formulas.proofs.Operands.{withTwo}
 use Rattle.text.specs.Words.{beginsWithLetter}
 use Rattle.formulas.specs.Sentence.{Sentence}
 use Rattle.formulas.specs.Items.{prepend, Item, closed, withForm, itemsOf}
 use Rattle.formulas.specs.Keyword.{nodeOf}
 use Rattle.formulas.proofs.Items.{picked-items, negation-items}
-use Rattle.formulas.proofs.Firsts.{Filled, nameFirst, Unnamed, Unclosed, token-filled}
-use Rattle.grammar.specs.Line.{Literal}
+use Rattle.formulas.proofs.Firsts.{Filled, nameFirst, Unnamed, Unclosed, word-unnamed, token-filled}
+use Rattle.grammar.specs.Line.{Literal, takes}
 use Rattle.grammar.specs.LineOf.{literalsOf}
-use Rattle.grammar.specs.Parsing.{literalsAmong, bodyIn, LiteralInside, LiteralFound, LiteralsAt}
+use Rattle.grammar.specs.Parsing.{literalsAmong, bodyIn, LiteralInside, LiteralIn, fitsBody}
 use Rattle.grammar.specs.declared.literal.Lit.{Lit}
-use Rattle.grammar.specs.declared.literal.Lit.the-variants.{NoLiteral, BodyEnd, Plain, Negated}
+use Rattle.grammar.specs.declared.literal.Lit.the-variants as lit
+use Rattle.grammar.proofs.Others.{Wordless, Lasting}
 
 -- what a match tells of the literal that was found
-pub literal-as : {l : List ℕ} {at : ℕ} {r q : Lit} → LiteralFound l at r → r ≡ q → LiteralFound l at q
-literal-as {l} {at} f e = subst (LiteralFound l at) e f
+pub literal-as : {ts : List Token} {l : List ℕ} {at : ℕ} {r q : Lit} → LiteralIn ts l at r → r ≡ q
+    → LiteralIn ts l at q
+literal-as {ts} {l} {at} f e = subst (LiteralIn ts l at) e f
 
 -- the literals among items
 among-name : (w : List ℕ) (x : Items)
@@ -39,6 +41,10 @@ among-name : (w : List ℕ) (x : Items)
 unfolding literalsOf
 among-name w Option.none = refl
 among-name w (Option.some l) = refl
+
+pub lasting-filled : (ts : List Token) → Lasting ts → Filled (itemsOf ts)
+lasting-filled [] h = absurd h
+lasting-filled (t ∷ ts) h = token-filled t ts
 
 among-closing : (x : Items) → Filled x → literalsAmong (prepend Item.closing x) ≡ Option.none
 unfolding literalsOf
@@ -67,7 +73,7 @@ NoLiterals x = literalsAmong x ≡ Option.none
 among-other : (k : ℕ) (x : Items) → (k ≡ 64 → ⊥) → literalsAmong (withForm k x) ≡ Option.none
 unfolding withForm
 among-other k Option.none h = refl
-among-other k (Option.some l) h = rw (ne-eqb k 64 h) (picked-items NoLiterals (eqb k 0) _ _ refl (two-none k l))
+among-other k (Option.some l) h = rw (ne-eqb k 64 h) (picked-items NoLiterals (ltb 68 k) _ _ refl (two-none k l))
 
 -- a negation of no name, and of a name
 negation-none : (f : Sentence) (l : List Item)
@@ -94,49 +100,56 @@ among-unnamed (Option.some (Item.formula (Sentence.name w) ∷ l)) h =
 among-unnamed (Option.some (Item.formula (Sentence.negation f) ∷ l)) h = negation-none f l
 among-unnamed (Option.some (Item.formula (Sentence.joined k f g) ∷ l)) h = negation-joined k f g l
 
-among-negated : (w : List ℕ) (x : Items)
-    → literalsAmong (withForm 64 (prepend (Item.formula (Sentence.name w)) (prepend Item.closing x)))
+among-closed : (w : List ℕ) (x : Items)
+    → literalsAmong (closedAmong (Sentence.negation (Sentence.name w)) (prepend Item.closing x))
     ≡ prepend (Literal.literal true w) (literalsAmong x)
-unfolding withForm literalsOf
-among-negated w Option.none = refl
-among-negated w (Option.some l) = refl
+unfolding literalsOf
+among-closed w Option.none = refl
+among-closed w (Option.some l) = refl
 
 -- the tokens ts behind an opening bracket
-module _ {ts : List Token} where
-  pub opened-end : ts ≡ [] → bodyIn (Token.opening ∷ ts) ≡ Option.none
+pub opened-wordless : (ts : List Token) → Wordless ts → bodyIn (Token.opening ∷ ts) ≡ Option.none
+unfolding itemsOf
+opened-wordless [] h = refl
+opened-wordless (Token.opening ∷ ts) h = refl
+opened-wordless (Token.closing ∷ ts) h = refl
+opened-wordless (Token.word w ∷ ts) h = absurd h
+
+module _ {ts us : List Token} {w : List ℕ} (e : ts ≡ Token.word w ∷ us) where
+  pub opened-other : (nodeOf w ≡ 64 → ⊥) → bodyIn (Token.opening ∷ ts) ≡ Option.none
   unfolding itemsOf
-  opened-end e = rw e
+  opened-other h = rw e (among-other (nodeOf w) (itemsOf us) h)
 
-  module _ {us : List Token} where
-    pub opened-opening : ts ≡ Token.opening ∷ us → bodyIn (Token.opening ∷ ts) ≡ Option.none
-    unfolding itemsOf
-    opened-opening e = rw e
+  pub opened-not : nodeOf w ≡ 64 → bodyIn (Token.opening ∷ ts) ≡ literalsAmong (withForm 64 (itemsOf us))
+  unfolding itemsOf
+  opened-not h = rw (e, h)
 
-    pub opened-closing : ts ≡ Token.closing ∷ us → bodyIn (Token.opening ∷ ts) ≡ Option.none
-    unfolding itemsOf
-    opened-closing e = rw e
+-- the tokens ts behind an opening bracket and "not"
+abbrev pub negated : List ℕ → Sentence
+negated w = Sentence.negation (Sentence.name w)
 
-    module _ {w : List ℕ} (e : ts ≡ Token.word w ∷ us) where
-      pub opened-other : (nodeOf w ≡ 64 → ⊥) → bodyIn (Token.opening ∷ ts) ≡ Option.none
-      unfolding itemsOf
-      opened-other h = rw e (among-other (nodeOf w) (itemsOf us) h)
+pub not-unnamed : {ts : List Token} → Unnamed ts → literalsAmong (withForm 64 (itemsOf ts)) ≡ Option.none
+not-unnamed {ts} h = among-unnamed (itemsOf ts) (h .unnamed)
 
-      module _ (h : nodeOf w ≡ 64) where
-        pub negation-unnamed : Unnamed us → bodyIn (Token.opening ∷ ts) ≡ Option.none
-        unfolding itemsOf
-        negation-unnamed n = rw (e, h) (among-unnamed (itemsOf us) (n .unnamed))
+module _ {ts us : List Token} {w : List ℕ} (e : ts ≡ Token.word w ∷ us) where
+  pub not-word : beginsWithLetter w ≡ false → literalsAmong (withForm 64 (itemsOf ts)) ≡ Option.none
+  unfolding itemsOf
+  not-word h = not-unnamed (word-unnamed e h)
 
-        module _ {v : List ℕ} {vs : List Token} (f : us ≡ Token.word v ∷ vs) (n : beginsWithLetter v ≡ true) where
-          pub negation-unclosed : Unclosed vs → bodyIn (Token.opening ∷ ts) ≡ Option.none
-          unfolding itemsOf
-          negation-unclosed d =
-              let x = negation-items (nodeOf w) (Sentence.name v) (itemsOf vs) h in
-              rw (e, f, n) (ap literalsAmong (x ∙ d .unclosed (Sentence.negation (Sentence.name v))))
+  pub not-name : beginsWithLetter w ≡ true
+      → literalsAmong (withForm 64 (itemsOf ts)) ≡ literalsAmong (closedAmong (negated w) (itemsOf us))
+  unfolding itemsOf
+  not-name h = rw (e, h) (ap literalsAmong (negation-items 64 (Sentence.name w) (itemsOf us) refl))
 
-          pub negation-name : {rest : List Token} → vs ≡ Token.closing ∷ rest
-              → bodyIn (Token.opening ∷ ts) ≡ prepend (Literal.literal true v) (bodyIn rest)
-          unfolding itemsOf
-          negation-name {rest} d = rw (e, h, f, n, d) (among-negated v (itemsOf rest))
+-- a negated name in front of the tokens ts
+pub negated-unclosed : (w : List ℕ) {ts : List Token} → Unclosed ts
+    → literalsAmong (closedAmong (negated w) (itemsOf ts)) ≡ Option.none
+negated-unclosed w h = ap literalsAmong (h .unclosed (negated w))
+
+pub negated-closed : (w : List ℕ) {ts us : List Token} → ts ≡ Token.closing ∷ us
+    → literalsAmong (closedAmong (negated w) (itemsOf ts)) ≡ prepend (Literal.literal true w) (bodyIn us)
+unfolding itemsOf
+negated-closed w {us = us} e = rw e (among-closed w (itemsOf us))
 
 -- the tokens ts of a body
 module _ {ts : List Token} where
@@ -159,65 +172,32 @@ module _ {ts : List Token} where
       unfolding itemsOf literalsOf
       body-closed f = rw (e, f)
 
-      pub body-more : {t : Token} {vs : List Token} → us ≡ t ∷ vs → bodyIn ts ≡ Option.none
+      pub body-more : Lasting us → bodyIn ts ≡ Option.none
       unfolding itemsOf
-      body-more {t} {vs} f = rw (e, f) (among-closing (itemsOf (t ∷ vs)) (token-filled t vs))
+      body-more h = rw e (among-closing (itemsOf us) (lasting-filled us h))
 
 -- what was found behind a bracket lies behind the place before it
 pub inside-from : (l : List ℕ) (at i : ℕ) (r : Lit) → at ≤ i → LiteralInside l i r → LiteralInside l at r
-inside-from l at i NoLiteral h k = tt
-inside-from l at i BodyEnd h k = tt
-inside-from l at i (Plain a e) h k = (omega arith, k .1, k .2)
-inside-from l at i (Negated a e n) h k = (omega arith, k .1, k .2, k .3)
+inside-from l at i lit.NoLiteral h k = tt
+inside-from l at i lit.BodyEnd h k = tt
+inside-from l at i (lit.Literal b a e n) h k = (omega arith, k .1, k .2, k .3)
 
--- literals in front of literals
-unfoldable pub withLiterals : List Literal → Option (List Literal) → Option (List Literal)
-withLiterals [] x = x
-withLiterals (a ∷ ls) x = prepend a (withLiterals ls x)
+-- How many literals there are
 
-with-none : (ls : List Literal) → withLiterals ls Option.none ≡ Option.none
-unfolding withLiterals
-with-none [] = refl
-with-none (a ∷ ls) = ap (prepend a) (with-none ls)
+abbrev pub fitsBehind : ℕ → ℕ → Option (List Literal) → Bool
+fitsBehind k n Option.none = false
+fitsBehind k n (Option.some ls) = takes k (n + length ls)
 
-with-end : (ls : List Literal) → withLiterals ls (Option.some []) ≡ Option.some ls
-unfolding withLiterals
-with-end [] = refl
-with-end (a ∷ ls) = ap (prepend a) (with-end ls)
+pub fits-behind : (k : ℕ) (x : Option (List Literal)) → fitsBody k x ≡ fitsBehind k 0 x
+fits-behind k Option.none = refl
+fits-behind k (Option.some ls) = rw zero-add
 
-with-more : (ls : List Literal) (a : Literal) (x : Option (List Literal))
-    → withLiterals ls (prepend a x) ≡ withLiterals (ls ++ (a ∷ [])) x
-unfolding withLiterals
-with-more [] a x = refl
-with-more (b ∷ ls) a x = ap (prepend b) (with-more ls a x)
+pub fits-end : (k n : ℕ) → fitsBehind k n (Option.some []) ≡ takes k n
+fits-end k n = rw add-zero
 
-pub record Passed (l : List ℕ) (at i n : ℕ) : Type 0 where
-  pub literals : List Literal
-  pub literals-are : bodyIn (tokens (drop at l)) ≡ withLiterals literals (bodyIn (tokens (drop i l)))
-  pub count-is : n ≡ length literals
-
-pub passed-none : (l : List ℕ) (at : ℕ) → Passed l at at 0
-unfolding withLiterals
-passed-none l at = record { literals = []; literals-are = refl; count-is = refl }
-
-module _ {l : List ℕ} {at i n : ℕ} (p : Passed l at i n) where
-  pub passed-bad : bodyIn (tokens (drop i l)) ≡ Option.none → bodyIn (tokens (drop at l)) ≡ Option.none
-  passed-bad e = p .literals-are ∙ ap (withLiterals (p .literals)) e ∙ with-none (p .literals)
-
-  pub passed-end : bodyIn (tokens (drop i l)) ≡ Option.some [] → LiteralsAt l at n
-  passed-end e =
-      record {
-        literals = p .literals;
-        literals-are = p .literals-are ∙ ap (withLiterals (p .literals)) e ∙ with-end (p .literals);
-        count-is = p .count-is;
-      }
-
-  pub passed-more : (a : Literal) (j : ℕ)
-      → bodyIn (tokens (drop i l)) ≡ prepend a (bodyIn (tokens (drop j l))) → Passed l at j (n + 1)
-  passed-more a j e =
-      let more = with-more (p .literals) a (bodyIn (tokens (drop j l))) in
-      record {
-        literals = p .literals ++ (a ∷ []);
-        literals-are = p .literals-are ∙ ap (withLiterals (p .literals)) e ∙ more;
-        count-is = simp length-append (omega (arith, p .count-is));
-      }
+pub fits-more : (k n : ℕ) (a : Literal) (x : Option (List Literal))
+    → fitsBehind k n (prepend a x) ≡ fitsBehind k (n + 1) x
+fits-more k n a Option.none = refl
+fits-more k n a (Option.some ls) =
+    let e : n + suc (length ls) ≡ (n + 1) + length ls = omega arith in
+    rw e

@@ -1,27 +1,35 @@
 -- Laws of lines: one for each way out of the functions that find a line's form.
 -- Assumes nothing.
 use mathlib.Core.Path.{_≡_, refl, sym, ap, _∙_, subst}
-use mathlib.Core.Bool.{Bool, true, false, true≢false}
+use mathlib.Core.Bool.{true, false, true≢false}
 use mathlib.Core.List.{List, [], _∷_}
 use mathlib.Core.Option.{Option}
-use Prim.Native.Nat.{ℕ, zero, suc, _≤_}
+use Prim.Native.Nat.{ℕ, _≤_}
 use native.Mathlib.Omega.{arith}
+use lib.Dec.{eqb}
 use lib.ListN.{length, drop}
+use lib.Seq.{slice}
+use borrow.Author.Tests.{eqb-true}
 use Rattle.words.specs.Choice.{pick}
 use Rattle.text.specs.Tokens.{Token, tokens}
-use Rattle.formulas.specs.Parsing.{Items, beginsFormula, closedAmong, FormulaAt}
 use Rattle.text.specs.Words.{beginsWithLetter}
+use Rattle.text.specs.Scanning.{Found}
+use Rattle.text.specs.declared.tokens.Next.the-variants.{Word}
+use Rattle.formulas.specs.Parsing.{Items, beginsFormula, closedAmong, FormulaAt}
 use Rattle.formulas.specs.Sentence.{Sentence}
-use Rattle.formulas.specs.Items.{prepend, Item, itemsOf, withFirst}
-use Rattle.formulas.specs.Keyword.{kindOf}
-use Rattle.formulas.proofs.Firsts.{Filled, nameFirst, Unnamed, Unclosed, token-filled}
-use Rattle.grammar.specs.Line.{Line, Literal}
-use Rattle.grammar.specs.LineOf.{literalsOf, withBody, withOnly, isEnd, named, withItems, lineOf}
-use Rattle.grammar.specs.Parsing.{endsItems, literalsAmong, bodyIn, LiteralsAt, BodyFound, BodyMakes, SeenMakes}
-use Rattle.grammar.specs.Parsing.{QueryMakes, endsLine, FormIs, FormAfter, FormFound}
-use Rattle.grammar.specs.declared.literal.Run.{Run}
+use Rattle.formulas.specs.Items.{prepend, Item, itemsOf}
+use Rattle.formulas.proofs.Firsts.{Filled, Unclosed, Unnamed}
+use Rattle.grammar.specs.Line.{Line, Literal, takes, bringing}
+use Rattle.grammar.specs.LineOf.{withBody, seenOf, withItems, kindOf, lineOf}
+use Rattle.grammar.specs.Parsing.{endsItems, literalsAmong, bodyIn, fitsBody, hasBody, BodyMakes, SeenMakes}
+use Rattle.grammar.specs.Parsing.{QueryMakes, Part, endsLine, FormIs, FormAfter, FormFound, Brought}
 use Rattle.grammar.specs.declared.line.Form.{Form}
-use Rattle.grammar.specs.declared.line.Form.the-variants.{NoForm}
+use Rattle.grammar.specs.declared.line.Form.the-variants.{Skipped, NoForm, Clause, Never, Seen, Query}
+use Rattle.grammar.specs.declared.line.Brings.{Brings}
+use Rattle.grammar.proofs.Others.{Wordless, Lasting}
+use Rattle.grammar.proofs.Bodies.{lasting-filled}
+use Rattle.grammar.proofs.KindLaws.{fit-body, unfit-body, unfit-kind, no-kind, kind-unnamed, kind-named}
+use Rattle.grammar.proofs.KindLaws.{never-kind, seen-kind}
 
 -- the line's closing bracket is all that is left
 unclosed-ends : (x : Items) → closedAmong (Sentence.name []) x ≡ Option.none → endsItems x ≡ false
@@ -35,7 +43,7 @@ closing-filled Option.none h = refl
 closing-filled (Option.some []) h = absurd h
 closing-filled (Option.some (i ∷ l)) h = refl
 
-pub ends-is : (x : Items) → endsItems x ≡ true → x ≡ Option.some (Item.closing ∷ [])
+ends-is : (x : Items) → endsItems x ≡ true → x ≡ Option.some (Item.closing ∷ [])
 ends-is Option.none h = absurd (true≢false (sym h))
 ends-is (Option.some []) h = absurd (true≢false (sym h))
 ends-is (Option.some (Item.formula f ∷ l)) h = absurd (true≢false (sym h))
@@ -50,182 +58,116 @@ module _ {ts us : List Token} (e : ts ≡ Token.closing ∷ us) where
   unfolding itemsOf
   ends-closed f = rw (e, f)
 
-  pub ends-more : {t : Token} {vs : List Token} → us ≡ t ∷ vs → endsItems (itemsOf ts) ≡ false
+  pub ends-more : Lasting us → endsItems (itemsOf ts) ≡ false
   unfolding itemsOf
-  ends-more {t} {vs} f = rw (e, f) (closing-filled (itemsOf (t ∷ vs)) (token-filled t vs))
+  ends-more h = rw e (closing-filled (itemsOf us) (lasting-filled us h))
 
--- the lines of a kind
-pick-same : (b : Bool) (x : Line) → pick b x x ≡ x
-pick-same true x = refl
-pick-same false x = refl
-
--- kinds 1 to 3, where no name is first
-unnamed-line : (line : Sentence → List Item → Line)
-    → ((f : Sentence) (m : List Item) → line (Sentence.negation f) m ≡ Line.noForm)
-    → ((k : ℕ) (f g : Sentence) (m : List Item) → line (Sentence.joined k f g) m ≡ Line.noForm)
-    → (l : List Item) → nameFirst (Option.some l) ≡ false → withFirst Line.noForm line l ≡ Line.noForm
-unnamed-line line a b [] h = refl
-unnamed-line line a b (Item.closing ∷ l) h = refl
-unnamed-line line a b (Item.formula (Sentence.name w) ∷ l) h = absurd (true≢false h)
-unnamed-line line a b (Item.formula (Sentence.negation f) ∷ l) h = a f l
-unnamed-line line a b (Item.formula (Sentence.joined k f g) ∷ l) h = b k f g l
-
-unnamed-end : (line : List ℕ → Line) (l : List Item) → nameFirst (Option.some l) ≡ false
-    → withFirst Line.noForm (λ f m. pick (isEnd m) (named line f) Line.noForm) l ≡ Line.noForm
-unnamed-end line l h =
-    unnamed-line (λ f m. pick (isEnd m) (named line f) Line.noForm) (λ f m. pick-same (isEnd m) Line.noForm)
-    (λ k f g m. pick-same (isEnd m) Line.noForm) l h
-
-unnamed : (k : ℕ) (x : Items) → 1 ≤ k → k ≤ 3 → nameFirst x ≡ false → withItems k x ≡ Line.noForm
-unnamed k Option.none a b h = refl
-unnamed zero (Option.some l) a b h = absurd (omega arith)
-unnamed (suc zero) (Option.some l) a b h = unnamed-end (λ w. Line.clause 0 w []) l h
-unnamed (suc (suc zero)) (Option.some l) a b h = unnamed-end (λ w. Line.clause 1 w []) l h
-unnamed (suc (suc (suc zero))) (Option.some l) a b h =
-    unnamed-line (λ f m. named (λ w. withBody (Line.clause 2 w) (literalsOf m)) f) (λ f m. refl) (λ k f g m. refl) l h
-unnamed (suc (suc (suc (suc k)))) (Option.some l) a b h = absurd (omega arith)
-
-pub kind-unnamed : {ts : List Token} (k : ℕ) → 1 ≤ k → k ≤ 3 → Unnamed ts → withItems k (itemsOf ts) ≡ Line.noForm
-kind-unnamed {ts} k a b h = unnamed k (itemsOf ts) a b (h .unnamed)
-
--- a name in front of items
-fact-line : (w : List ℕ) (x : Items)
-    → withItems 1 (prepend (Item.formula (Sentence.name w)) x) ≡ pick (endsItems x) (Line.clause 0 w []) Line.noForm
-fact-line w Option.none = refl
-fact-line w (Option.some l) = refl
-
-assumption-line : (w : List ℕ) (x : Items)
-    → withItems 2 (prepend (Item.formula (Sentence.name w)) x) ≡ pick (endsItems x) (Line.clause 1 w []) Line.noForm
-assumption-line w Option.none = refl
-assumption-line w (Option.some l) = refl
-
-rule-line : (w : List ℕ) (x : Items)
-    → withItems 3 (prepend (Item.formula (Sentence.name w)) x) ≡ withBody (Line.clause 2 w) (literalsAmong x)
-rule-line w Option.none = refl
-rule-line w (Option.some l) = refl
-
-unended : (k : ℕ) (w : List ℕ) (x : Items) → 1 ≤ k → k ≤ 2 → endsItems x ≡ false
-    → withItems k (prepend (Item.formula (Sentence.name w)) x) ≡ Line.noForm
-unended zero w x a b h = absurd (omega arith)
-unended (suc zero) w x a b h = fact-line w x ∙ rw h
-unended (suc (suc zero)) w x a b h = assumption-line w x ∙ rw h
-unended (suc (suc (suc k))) w x a b h = absurd (omega arith)
-
-module _ {ts us : List Token} {w : List ℕ} (e : ts ≡ Token.word w ∷ us) (n : beginsWithLetter w ≡ true) (k : ℕ) where
-  pub kind-unended : 1 ≤ k → k ≤ 2 → endsItems (itemsOf us) ≡ false → withItems k (itemsOf ts) ≡ Line.noForm
-  unfolding itemsOf
-  kind-unended a b h = rw (e, n) (unended k w (itemsOf us) a b h)
-
-  pub kind-fact : k ≡ 1 → endsItems (itemsOf us) ≡ true → withItems k (itemsOf ts) ≡ Line.clause 0 w []
-  unfolding itemsOf
-  kind-fact d h = rw (d, e, n) (fact-line w (itemsOf us) ∙ rw h)
-
-  pub kind-assumption : k ≡ 2 → endsItems (itemsOf us) ≡ true → withItems k (itemsOf ts) ≡ Line.clause 1 w []
-  unfolding itemsOf
-  kind-assumption d h = rw (d, e, n) (assumption-line w (itemsOf us) ∙ rw h)
-
--- a rule, a constraint and a reading by their literals
-pub rule-is : {ts us : List Token} {w : List ℕ} → ts ≡ Token.word w ∷ us → beginsWithLetter w ≡ true
-    → withItems 3 (itemsOf ts) ≡ withBody (Line.clause 2 w) (bodyIn us)
+-- a clause by its head and its literals
+pub clause-is : (k : ℕ) {ts us : List Token} {w : List ℕ} → k ≤ 2 → ts ≡ Token.word w ∷ us → beginsWithLetter w ≡ true
+    → withItems k (itemsOf ts) ≡ withBody k (Line.clause k w) (bodyIn us)
 unfolding itemsOf
-rule-is {ts} {us} {w} e n = rw (e, n) (rule-line w (itemsOf us))
+clause-is k {us = us} {w = w} i e n = rw (e, n) (kind-named k i w (itemsOf us))
 
-never-line : (x : Items) → withItems 4 x ≡ withBody Line.never (literalsAmong x)
-never-line Option.none = refl
-never-line (Option.some l) = refl
+-- literals, as many as a line of kind k takes
+record Body (k : ℕ) (x : Option (List Literal)) : Type 0 where
+  literals : List Literal
+  literals-are : x ≡ Option.some literals
+  fits : takes k (length literals) ≡ true
 
-pub never-is : (ts : List Token) → withItems 4 (itemsOf ts) ≡ withBody Line.never (bodyIn ts)
-never-is ts = never-line (itemsOf ts)
+body-of : (k : ℕ) (x : Option (List Literal)) → fitsBody k x ≡ true → Body k x
+body-of k Option.none h = absurd (true≢false (sym h))
+body-of k (Option.some ls) h = record { literals = ls; literals-are = refl; fits = h }
 
-seen-line : (x : Items) → withItems 5 x ≡ withOnly Line.seen (literalsAmong x)
-seen-line Option.none = refl
-seen-line (Option.some l) = refl
+one-literal : (ls : List Literal) → length ls ≡ 1 → (x : Literal) × (ls ≡ x ∷ [])
+one-literal [] h = absurd (omega arith)
+one-literal (x ∷ []) h = (x, refl)
+one-literal (x ∷ (y ∷ ls)) h = absurd (omega arith)
 
-pub seen-is : (ts : List Token) → withItems 5 (itemsOf ts) ≡ withOnly Line.seen (bodyIn ts)
-seen-is ts = seen-line (itemsOf ts)
-
--- what a match tells of the body that was found
-pub body-as : (l : List ℕ) (at : ℕ) {r q : Run} → BodyFound l at r → r ≡ q → BodyFound l at q
-body-as l at f e = subst (BodyFound l at) e f
-
-empty-body : (line : List Literal → Line) (ls : List Literal) → length ls ≡ 0
-    → withBody line (Option.some ls) ≡ Line.noForm
-empty-body line [] h = refl
-empty-body line (x ∷ ls) h = absurd (omega arith)
-
-pub filled-body : (line : List Literal → Line) (ls : List Literal) → (length ls ≡ 0 → ⊥)
-    → withBody line (Option.some ls) ≡ line ls
-filled-body line [] h = absurd (h refl)
-filled-body line (x ∷ ls) h = refl
-
-other-only : (ls : List Literal) → (length ls ≡ 1 → ⊥) → withOnly Line.seen (Option.some ls) ≡ Line.noForm
-other-only [] h = refl
-other-only (x ∷ []) h = absurd (h refl)
-other-only (x ∷ (y ∷ ls)) h = refl
-
-one-only : (ls : List Literal) → length ls ≡ 1 → (x : Literal) × (ls ≡ x ∷ [])
-one-only [] h = absurd (omega arith)
-one-only (x ∷ []) h = (x, refl)
-one-only (x ∷ (y ∷ ls)) h = absurd (omega arith)
-
-module _ {l : List ℕ} {at n : ℕ} (b : LiteralsAt l at n) where
-  pub body-empty : (line : List Literal → Line) → n ≡ 0 → withBody line (bodyIn (tokens (drop at l))) ≡ Line.noForm
-  body-empty line h = rw (b .literals-are) (empty-body line (b .literals) (sym (b .count-is) ∙ h))
-
-  pub body-filled : (line : List Literal → Line) (x : Line) → x ≡ withBody line (bodyIn (tokens (drop at l)))
-      → (n ≡ 0 → ⊥) → BodyMakes l at line x
-  body-filled line x e h =
-      let f = filled-body line (b .literals) (λ z. h (b .count-is ∙ z)) in
+module _ {l : List ℕ} {at : ℕ} {x : Line} where
+  pub body-makes : (k : ℕ) (make : List Literal → Line) → x ≡ withBody k make (bodyIn (tokens (drop at l)))
+      → hasBody l at k ≡ true → BodyMakes l at make x
+  body-makes k make e h =
+      let b = body-of k (bodyIn (tokens (drop at l))) h in
       record {
         literals = b .literals;
         literals-are = b .literals-are;
-        line-is = e ∙ ap (withBody line) (b .literals-are) ∙ f;
+        line-is = e ∙ ap (withBody k make) (b .literals-are) ∙ fit-body k make (b .literals) (b .fits);
       }
 
-  pub only-other : (n ≡ 1 → ⊥) → withOnly Line.seen (bodyIn (tokens (drop at l))) ≡ Line.noForm
-  only-other h = rw (b .literals-are) (other-only (b .literals) (λ z. h (b .count-is ∙ z)))
-
-  pub only-one : (x : Line) → x ≡ withOnly Line.seen (bodyIn (tokens (drop at l))) → n ≡ 1 → SeenMakes l at x
-  only-one x e h =
-      let o = one-only (b .literals) (sym (b .count-is) ∙ h) in
+  pub seen-makes : x ≡ withBody 4 seenOf (bodyIn (tokens (drop at l))) → hasBody l at 4 ≡ true → SeenMakes l at x
+  seen-makes e h =
+      let b = body-of 4 (bodyIn (tokens (drop at l))) h in
+      let o = one-literal (b .literals) (eqb-true (length (b .literals)) 1 (b .fits)) in
       let f = b .literals-are ∙ ap Option.some (o .1) in
-      record { reading = o .0; literals-are = f; line-is = e ∙ ap (withOnly Line.seen) f }
+      record { reading = o .0; literals-are = f; line-is = e ∙ ap (withBody 4 seenOf) f }
 
 -- a query
 query-line : (f : Sentence) (x : Items)
-    → withItems 6 (prepend (Item.formula f) x) ≡ pick (endsItems x) (Line.query f) Line.noForm
+    → withItems 5 (prepend (Item.formula f) x) ≡ pick (endsItems x) (Line.query f) Line.noForm
 query-line f Option.none = refl
 query-line f (Option.some l) = refl
 
-none-line : (x : Items) → beginsFormula x ≡ false → withItems 6 x ≡ Line.noForm
-none-line Option.none h = refl
-none-line (Option.some []) h = refl
-none-line (Option.some (Item.closing ∷ l)) h = refl
-none-line (Option.some (Item.formula f ∷ l)) h = absurd (true≢false h)
-
-pub query-none : (ts : List Token) → beginsFormula (itemsOf ts) ≡ false → withItems 6 (itemsOf ts) ≡ Line.noForm
-query-none ts h = none-line (itemsOf ts) h
+pub query-none : (x : Items) → beginsFormula x ≡ false → withItems 5 x ≡ Line.noForm
+query-none Option.none h = refl
+query-none (Option.some []) h = refl
+query-none (Option.some (Item.closing ∷ l)) h = refl
+query-none (Option.some (Item.formula f ∷ l)) h = absurd (true≢false h)
 
 module _ {l : List ℕ} {at next d : ℕ} (q : FormulaAt l at next d) where
-  pub query-unended : endsLine l next ≡ false → withItems 6 (itemsOf (tokens (drop at l))) ≡ Line.noForm
+  pub query-unended : endsLine l next ≡ false → withItems 5 (itemsOf (tokens (drop at l))) ≡ Line.noForm
   query-unended h = rw (q .items-are) (query-line (q .sentence) (itemsOf (tokens (drop next l))) ∙ rw h)
 
-  pub query-ended : endsLine l next ≡ true → QueryMakes l at d (withItems 6 (itemsOf (tokens (drop at l))))
+  pub query-ended : endsLine l next ≡ true → QueryMakes l at d (withItems 5 (itemsOf (tokens (drop at l))))
   query-ended h =
       let e = ap (prepend (Item.formula (q .sentence))) (ends-is (itemsOf (tokens (drop next l))) h) in
       let f = q .items-are ∙ e in
-      record { sentence = q .sentence; items-are = f; depth-is = q .depth-is; line-is = ap (withItems 6) f }
-
--- no kind
-zero-line : (x : Items) → withItems 0 x ≡ Line.noForm
-zero-line Option.none = refl
-zero-line (Option.some l) = refl
+      record { sentence = q .sentence; items-are = f; depth-is = q .depth-is; line-is = ap (withItems 5) f }
 
 pub form-as : {l : List ℕ} {at k j : ℕ} {r : Form} → FormAfter l at k r → j ≡ k → FormAfter l at j r
 form-as {l} {at} {r = r} f e = subst (λ k. FormAfter l at k r) (sym e) f
 
-pub zero-form : (l : List ℕ) (at : ℕ) {k : ℕ} → k ≡ 0 → FormAfter l at k NoForm
-zero-form l at e = form-as (record { form-is = zero-line (itemsOf (tokens (drop at l))) }) e
+-- the line of a clause, its head from place a to place e
+pub record ClauseAt (l : List ℕ) (at k a e : ℕ) : Type 0 where
+  pub kind-le : k ≤ 2
+  pub part : Part l a e
+  pub line-is : withItems k (itemsOf (tokens (drop at l)))
+      ≡ withBody k (Line.clause k (slice a e l)) (bodyIn (tokens (drop e l)))
+
+module _ {l : List ℕ} {at k : ℕ} (i : k ≤ 2) where
+  pub clause-unnamed : Unnamed (tokens (drop at l)) → FormAfter l at k NoForm
+  clause-unnamed h = record { form-is = kind-unnamed k i (itemsOf (tokens (drop at l))) (h .unnamed) }
+
+  pub clause-at : {a e : ℕ} → Found l at (Word a e) → beginsWithLetter (slice a e l) ≡ true → ClauseAt l at k a e
+  clause-at t h = record {
+    kind-le = i;
+    part = (t .inside .1, t .inside .2);
+    line-is = clause-is k i (t .tokens-are) h;
+  }
+
+module _ {l : List ℕ} {at k a e : ℕ} (c : ClauseAt l at k a e) where
+  pub clause-unfit : hasBody l e k ≡ false → FormAfter l at k NoForm
+  clause-unfit h = record {
+    form-is = c .line-is ∙ unfit-body k (Line.clause k (slice a e l)) (bodyIn (tokens (drop e l))) h;
+  }
+
+  pub clause-form : hasBody l e k ≡ true → FormAfter l at k (Clause k a e e)
+  clause-form h = record {
+    form-is = (c .kind-le, c .part, body-makes k (Line.clause k (slice a e l)) (c .line-is) h);
+  }
+
+module _ (l : List ℕ) (at : ℕ) {k : ℕ} where
+  pub unfit-form : 3 ≤ k → (k ≡ 5 → ⊥) → hasBody l at k ≡ false → FormAfter l at k NoForm
+  unfit-form i n h = record { form-is = unfit-kind k (itemsOf (tokens (drop at l))) i n h }
+
+  pub other-form : 6 ≤ k → FormAfter l at k NoForm
+  other-form i = record { form-is = no-kind k (itemsOf (tokens (drop at l))) i }
+
+  pub never-form : k ≡ 3 → hasBody l at k ≡ true → FormAfter l at k (Never at)
+  never-form e h =
+      form-as (record { form-is = body-makes 3 Line.never (never-kind (itemsOf (tokens (drop at l)))) (rw e at h) }) e
+
+  pub seen-form : k ≡ 4 → hasBody l at k ≡ true → FormAfter l at k (Seen at)
+  seen-form e h = form-as (record { form-is = seen-makes (seen-kind (itemsOf (tokens (drop at l)))) (rw e at h) }) e
 
 -- a line by its first tokens
 module _ {ts : List Token} where
@@ -242,24 +184,43 @@ module _ {ts : List Token} where
     unfolding lineOf
     line-word e = rw e
 
-    module _ (e : ts ≡ Token.opening ∷ us) where
-      pub opened-line-end : us ≡ [] → lineOf ts ≡ Line.noForm
-      unfolding lineOf
-      opened-line-end f = rw (e, f)
+opened-wordless : (ts : List Token) → Wordless ts → lineOf (Token.opening ∷ ts) ≡ Line.noForm
+unfolding lineOf
+opened-wordless [] h = refl
+opened-wordless (Token.opening ∷ ts) h = refl
+opened-wordless (Token.closing ∷ ts) h = refl
+opened-wordless (Token.word w ∷ ts) h = absurd h
 
-      module _ {vs : List Token} where
-        pub opened-line-opening : us ≡ Token.opening ∷ vs → lineOf ts ≡ Line.noForm
-        unfolding lineOf
-        opened-line-opening f = rw (e, f)
+module _ {ts us : List Token} (e : ts ≡ Token.opening ∷ us) where
+  pub line-wordless : Wordless us → lineOf ts ≡ Line.noForm
+  line-wordless h = rw e (opened-wordless us h)
 
-        pub opened-line-closing : us ≡ Token.closing ∷ vs → lineOf ts ≡ Line.noForm
-        unfolding lineOf
-        opened-line-closing f = rw (e, f)
-
-        pub opened-line-word : {w : List ℕ} → us ≡ Token.word w ∷ vs → lineOf ts ≡ withItems (kindOf w) (itemsOf vs)
-        unfolding lineOf
-        opened-line-word f = rw (e, f)
+  pub line-kind : {vs : List Token} {w : List ℕ} → us ≡ Token.word w ∷ vs
+      → lineOf ts ≡ withItems (kindOf w) (itemsOf vs)
+  unfolding lineOf
+  line-kind f = rw (e, f)
 
 pub form-found : {l : List ℕ} {at k : ℕ} {r : Form} → FormAfter l at k r
     → lineOf (tokens l) ≡ withItems k (itemsOf (tokens (drop at l))) → FormFound l r
 form-found {l} {r = r} f e = record { form-is = subst (FormIs l r) (sym e) (f .form-is) }
+
+-- What a line of a form brings
+
+abbrev bringsOf : Form → Brings
+bringsOf Skipped = bringing 0 0 0 0
+bringsOf NoForm = bringing 0 0 0 0
+bringsOf (Clause k a e at) = bringing 1 0 0 0
+bringsOf (Never at) = bringing 0 1 0 0
+bringsOf (Seen at) = bringing 0 0 0 0
+bringsOf (Query at d) = bringing 0 0 1 d
+
+brought : (x : Form) → Brought x (bringsOf x)
+brought Skipped l y h = rw h
+brought NoForm l y h = rw h
+brought (Clause k a e at) l y h = rw (h .2 .line-is)
+brought (Never at) l y h = rw (h .line-is)
+brought (Seen at) l y h = rw (h .line-is)
+brought (Query at d) l y h = rw (h .line-is, h .depth-is)
+
+pub brought-as : {x : Form} (y : Form) → x ≡ y → Brought x (bringsOf y)
+brought-as y e = subst (λ z. Brought z (bringsOf y)) (sym e) (brought y)

@@ -2,6 +2,7 @@
 -- Slices: parts of a list.
 -- ByteLaws: the tests of bytes, and a test of every byte.
 -- Same: the comparison of bytes.
+-- Places: the place of a word among words.
 -- LineLaws: the lines of a file.
 -- TokenLaws: the words and brackets of a line.
 -- Words: what the words of a line are made of.
@@ -11,6 +12,7 @@
 pub mod Slices
 pub mod ByteLaws
 pub mod Same
+pub mod Places
 pub mod LineLaws
 pub mod TokenLaws
 pub mod Words

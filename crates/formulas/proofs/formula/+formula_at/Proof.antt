@@ -14,7 +14,7 @@ use Rattle.formulas.specs.Parsing.{FormulaAt}
 use Rattle.formulas.proofs.Formulas.{found-as, parsed-as, depth-le-bytes, Headed, headed}
 use Rattle.formulas.proofs.Formulas.{end-parsed, closing-parsed, name-parsed, word-parsed}
 use Rattle.formulas.proofs.Formulas.{opening-end-parsed, opening-opening-parsed, opening-closing-parsed}
-use Rattle.formulas.proofs.Formulas.{zero-parsed, operand-parsed, negation-parsed, second-parsed, joined-parsed}
+use Rattle.formulas.proofs.Formulas.{other-parsed, operand-parsed, negation-parsed, second-parsed, joined-parsed}
 use Rattle.formulas.proofs.formula.formula_at.Reads as formula-at
 use Rattle.formulas.proofs.formula.formula_at.Kinds as formula-at-kinds
 use Rattle.formulas.proofs.formula.+formula_at.Lts-formula_at as formula-at-lts
@@ -114,7 +114,7 @@ pub +formula-at-spec : {M : Type 1} → statement M
     (λ c. search needs)
     (λ c κs. let u = found-as (c .before .before .before .token2 .ensures) (c .before .a2 .given .1) in
     (omega (arith, u .inside .1), u .inside .2))
-    (λ c. zero-parsed _ _ _ _ (head t (c .before)) (c .if2 .taken))
+    (λ c. other-parsed _ _ _ _ (head t (c .before)) (c .if2 .taken))
     (λ c κs. let q = head t (c .before) in omega arith)
     (λ c. search needs)
     (λ c. search needs)
