@@ -35,10 +35,6 @@ filled-again (suc n) [] (y ∷ m) (o ∷ old) = rw (filled-again n [] m old)
 filled-again (suc n) (x ∷ l) [] (o ∷ old) = rw (filled-again n l [] old)
 filled-again (suc n) (x ∷ l) (y ∷ m) (o ∷ old) = rw (filled-again n l m old)
 
--- a table that was filled is so still
-pub filled-same : (n : ℕ) (l t old : List ℕ) → t ≡ filled n l old → t ≡ filled n l t
-filled-same n l t old e = e ∙ sym (filled-again n l l old) ∙ ap (filled n l) (sym e)
-
 -- an entry is stored behind l
 pub filled-push : (n : ℕ) (l old : List ℕ) (x : ℕ) → length l < n → n ≤ length old
     → set (filled n l old) (length l) x ≡ filled n (l ++ (x ∷ [])) old

@@ -1,23 +1,18 @@
 -- Laws of the list that stores one behind the other leave, for straight stores and for a loop that stores a list.
 -- Assumes nothing.
-use mathlib.Core.Path.{_≡_, refl, _∙_}
+use mathlib.Core.Path.{_≡_, _∙_}
 use mathlib.Core.List.{List, [], _∷_, _++_}
 use Prim.Native.Nat.{ℕ, suc, _+_, _≤_, _<_}
 use native.Mathlib.Nat.{add-suc, suc-add, add-zero}
 use native.Mathlib.Numerals.{add-one}
 use native.Mathlib.Omega.{arith}
-use lib.ListN.{length, take, drop, getD, set}
-use lib.Seq.{sets, take-all, take-suc, length-take-le, drop-set-lt}
+use lib.ListN.{length, take, getD, set}
+use lib.Seq.{sets, take-all, take-suc, length-take-le}
 
 -- one store more, behind vs
 pub sets-push : (vs t : List ℕ) (i x : ℕ) → set (sets t i vs) (i + length vs) x ≡ sets t i (vs ++ (x ∷ []))
 sets-push [] t i x = rw (add-zero i)
 sets-push (v ∷ vs) t i x = rw (add-suc, ← suc-add) (sets-push vs (set t i v) (suc i) x)
-
--- the entries from n on are kept by stores before it
-pub sets-drop : (vs t : List ℕ) (i n : ℕ) → i + length vs ≤ n → drop n (sets t i vs) ≡ drop n t
-sets-drop [] t i n h = refl
-sets-drop (v ∷ vs) t i n h = sets-drop vs (set t i v) (suc i) n (omega arith) ∙ drop-set-lt n t i v (omega arith)
 
 -- the table t when a loop has stored the first j entries of vs in t₀ from place i on: after a turn, and at the end
 module _ (vs t t₀ : List ℕ) (i j : ℕ) (e : t ≡ sets t₀ i (take j vs)) where
