@@ -1,6 +1,6 @@
 -- Laws of names put into the rows of a table: one name, and several one after the other. Assumes nothing.
-use mathlib.Core.Path.{_≡_, refl, sym, ap, _∙_, subst}
-use mathlib.Core.List.{List, [], _∷_, _++_}
+use mathlib.Core.Path.{_≡_, refl, sym, ap, subst}
+use mathlib.Core.List.{List, [], _∷_}
 use mathlib.Core.Logic.{⊎-elim}
 use Prim.Native.Nat.{ℕ, _+_, _*_, _≤_, _<_}
 use native.Mathlib.Omega.{arith}
@@ -87,6 +87,9 @@ pub record Interned (ms : List (List ℕ)) (s : Rows) : Type 0 where
 interned-held : {ns : List (List ℕ)} {t : List ℕ} → Holds ns t → Interned ns (rows (length ns) t)
 interned-held h = record { fits = λ _. refl; held = λ _. h; full = λ l. absurd (omega (arith, h .few)) }
 
+interned-over : {ms : List (List ℕ)} {s : Rows} → 64 < s .count → 64 < length ms → Interned ms s
+interned-over l k = record { fits = λ p. absurd (omega arith); held = λ p. absurd (omega arith); full = λ _. k }
+
 -- one name more
 module _ {ns : List (List ℕ)} {t w : List ℕ} (h : Holds ns t) (k : nameSize ≤ length t) (g : Named w) where
   one-known : atomOf ns w < length ns → Interned (withName ns w) (rowsWith (rows (length ns) t) w)
@@ -94,23 +97,26 @@ module _ {ns : List (List ℕ)} {t w : List ℕ} (h : Holds ns t) (k : nameSize 
       let e = row-atom h k g in
       rw (with-name-known ns w l, rows-with-known (length ns) t w (omega arith)) (interned-held h)
 
-  one-new : length ns ≤ atomOf ns w → Interned (withName ns w) (rowsWith (rows (length ns) t) w)
-  one-new l =
+  one-stored : length ns ≤ atomOf ns w → length ns < 64
+      → Interned (withName ns w) (rowsWith (rows (length ns) t) w)
+  one-stored l q =
       let e = row-atom h k g in
-      let n = length-append ns (w ∷ []) in
-      let m : length ns ≤ rowOf t (length ns) w = omega arith in
-      let stored : length ns < 64 → Interned (ns ++ (w ∷ [])) (rowsWith (rows (length ns) t) w) =
-      λ q. rw (rows-with-new (length ns) t w m q, ← n) (interned-held (held-push h k g q))
-      in
-      let refused : 64 ≤ length ns → Interned (ns ++ (w ∷ [])) (rowsWith (rows (length ns) t) w) =
-      λ q.
-      rw (rows-with-full (length ns) t w m q)
-      record { fits = λ p. absurd (omega arith); held = λ p. absurd (omega arith); full = λ _. omega arith }
-      in
-      rw (with-name-new ns w l) (⊎-elim stored refused (lt-or-le (length ns) 64))
+      rw (with-name-new ns w l, rows-with-new (length ns) t w (omega arith) q, ← length-append ns (w ∷ []))
+      (interned-held (held-push h k g q))
+
+  one-refused : length ns ≤ atomOf ns w → 64 ≤ length ns
+      → Interned (withName ns w) (rowsWith (rows (length ns) t) w)
+  one-refused l q =
+      let e = row-atom h k g in
+      rw (with-name-new ns w l, rows-with-full (length ns) t w (omega arith) q)
+      (interned-over (omega arith) (rw (length-append ns (w ∷ [])) (omega arith)))
 
   one-interned : Interned (withName ns w) (rowsWith (rows (length ns) t) w)
-  one-interned = ⊎-elim one-known one-new (lt-or-le (atomOf ns w) (length ns))
+  one-interned =
+      ⊎-elim
+      one-known
+      (λ l. ⊎-elim (one-stored l) (one-refused l) (lt-or-le (length ns) 64))
+      (lt-or-le (atomOf ns w) (length ns))
 
   -- and more behind it
   module _ (ws : List (List ℕ)) where
@@ -119,8 +125,7 @@ module _ {ns : List (List ℕ)} {t w : List ℕ} (h : Holds ns t) (k : nameSize 
     several-full q =
         let l = with-names-length (withName ns w) ws in
         let m = one-interned .full q in
-        rw (through-full (rows (length ns) t) _ w ws refl q)
-        record { fits = λ p. absurd (omega arith); held = λ p. absurd (omega arith); full = λ _. omega arith }
+        rw (through-full (rows (length ns) t) _ w ws refl q) (interned-over q (omega arith))
 
     several-more : let s = rowsWith (rows (length ns) t) w in
         s .count ≤ 64
