@@ -21,21 +21,23 @@ pub distinct-none : Distinct []
 unfolding Distinct
 distinct-none = λ i j lt h e. not-suc-le-zero h
 
+-- a name that is not found is none of them
+new-differs : (ns : List (List ℕ)) (w : List ℕ) (i : ℕ) → length ns ≤ atomOf ns w → i < length ns → getD ns i [] ≡ w
+    → ⊥
+new-differs ns w i h l e = omega (arith, place-first ns w i l e)
+
 pub distinct-push : (ns : List (List ℕ)) (w : List ℕ) → length ns ≤ atomOf ns w → Distinct ns
     → Distinct (ns ++ (w ∷ []))
 unfolding Distinct
 distinct-push ns w h d =
     λ i j lt k e.
     let n = length-append ns (w ∷ []) in
-    let f : getD (ns ++ (w ∷ [])) i [] ≡ getD ns i [] = List·getD-append ns (w ∷ []) [] i (omega arith) in
-    let last : j ≡ length ns → ⊥ =
-    λ q.
-    let g : getD (ns ++ (w ∷ [])) j [] ≡ w = rw q (getD-append-seam ns w [] []) in
-    let a = place-first ns w i (omega arith) (sym f ∙ e ∙ g) in
-    omega arith
-    in
+    let f = List·getD-append ns (w ∷ []) [] i (omega arith) in
     let le : j ≤ length ns = omega arith in
-    ⊎-elim last (λ p. d i j lt p (sym f ∙ e ∙ List·getD-append ns (w ∷ []) [] j p)) (eq-or-lt-of-le le)
+    ⊎-elim
+    (λ q. new-differs ns w i h (omega arith) (sym f ∙ e ∙ rw q (getD-append-seam ns w [] [])))
+    (λ p. d i j lt p (sym f ∙ e ∙ List·getD-append ns (w ∷ []) [] j p))
+    (eq-or-lt-of-le le)
 
 -- among names that differ, the number of the name at place i is i
 pub distinct-atom : (ns : List (List ℕ)) (i : ℕ) → Distinct ns → i < length ns → atomOf ns (getD ns i []) ≡ i

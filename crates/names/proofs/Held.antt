@@ -10,8 +10,9 @@ use borrow.Author.Tests.{ne-eqb}
 use Rattle.program.specs.Case.{nameSize}
 use Rattle.text.specs.Bytes.{sameBytes}
 use Rattle.text.proofs.Places.{first-place}
-use Rattle.table.specs.Filled.{filled, padded}
-use Rattle.table.proofs.Filled.{filled-same, filled-pushes, padded-length}
+use Rattle.table.specs.Filled.{padded}
+use Rattle.table.proofs.Filled.{padded-length}
+use Rattle.table.proofs.Kept.{sets-filled}
 use Rattle.names.specs.Names.{atomOf, rowsOf}
 use Rattle.names.specs.Row.{rowAt, rowOf}
 use Rattle.names.specs.Held.{NoZero, Named, AllNamed, Holds}
@@ -65,12 +66,8 @@ module _ {ns : List (List ℕ)} {t : List ℕ} (h : Holds ns t) (k : nameSize �
     held-push l =
         let n : length ns * 16 ≡ length (rowsOf ns) = rw rows-length (omega arith) in
         let m = padded-length 16 w in
-        let filled-is : sets t (length ns * 16) (padded 16 w) ≡ filled nameSize (rowsOf (ns ++ (w ∷ []))) t =
-        ap (λ u. sets u (length ns * 16) (padded 16 w)) (h .table-is)
-        ∙ rw (n, rows-push) (filled-pushes nameSize (rowsOf ns) (padded 16 w) t (omega arith) k)
-        in
         record {
           all-named = all-named-push (h .all-named) g;
           few = rw (length-append ns (w ∷ [])) (omega arith);
-          table-is = filled-same nameSize (rowsOf (ns ++ (w ∷ []))) _ t filled-is;
+          table-is = rw (n, rows-push) (sets-filled nameSize (rowsOf ns) (padded 16 w) t (omega arith) k (h .table-is));
         }

@@ -1,18 +1,18 @@
 -- Laws of names put into the rows of a table: one name, and several one after the other. Assumes nothing.
-use mathlib.Core.Path.{_≡_, refl, sym, ap, _∙_, subst}
-use mathlib.Core.List.{List, [], _∷_, _++_}
+use mathlib.Core.Path.{_≡_, refl, sym, ap, subst}
+use mathlib.Core.List.{List, [], _∷_}
 use mathlib.Core.Logic.{⊎-elim}
 use Prim.Native.Nat.{ℕ, _+_, _*_, _≤_, _<_}
 use native.Mathlib.Omega.{arith}
-use lib.ListN.{length, drop, length-append}
-use lib.Seq.{sets, length-sets}
+use lib.ListN.{length, length-append}
+use lib.Seq.{sets}
 use borrow.Author.Tests.{lt-ltb, le-ltb, le-leb, lt-leb}
 use Rattle.words.proofs.Tests.{lt-or-le}
 use Rattle.program.specs.Case.{nameSize}
 use Rattle.text.proofs.Each.{Each}
-use Rattle.table.specs.Filled.{padded}
+use Rattle.table.specs.Filled.{filled, padded}
 use Rattle.table.proofs.Filled.{padded-length}
-use Rattle.table.proofs.Stores.{sets-drop}
+use Rattle.table.proofs.Kept.{kept-refl, kept-length, kept-trans, sets-kept}
 use Rattle.names.specs.Names.{atomOf, withName, withNames}
 use Rattle.names.specs.Row.{Rows, rowOf, rows, nextRow, rowsWith, rowsThrough}
 use Rattle.names.specs.Held.{Named, Holds}
@@ -50,39 +50,33 @@ module _ (s next : Rows) (w : List ℕ) (ws : List (List ℕ)) (e : next ≡ row
   unfolding rowsThrough
   through-full h = rw (← e, lt-leb _ _ h)
 
--- the bytes past the rows are kept, and the length
-abbrev pub RowsKept : List ℕ → List ℕ → Type 0
-RowsKept t u = (drop nameSize u ≡ drop nameSize t) × (length u ≡ length t)
+-- only the bytes of the rows change
 
-with-kept : (n : ℕ) (t w : List ℕ) → RowsKept t (rowsWith (rows n t) w .table)
-with-kept n t w = ⊎-elim known (λ h. ⊎-elim (new h) (full h) (lt-or-le n 64)) (lt-or-le (rowOf t n w) n)
-  where
-    known : rowOf t n w < n → RowsKept t (rowsWith (rows n t) w .table)
-    known h = rw (rows-with-known n t w h) (refl, refl)
+with-kept : (n : ℕ) (t w : List ℕ) → let u = rowsWith (rows n t) w .table in u ≡ filled nameSize u t
+with-kept n t w =
+    let m = padded-length 16 w in
+    let new : n ≤ rowOf t n w → n < 64 → rowsWith (rows n t) w .table ≡ filled nameSize (rowsWith (rows n t) w .table) t =
+    λ h k. rw (rows-with-new n t w h k) (sets-kept nameSize (padded 16 w) t (n * 16) (omega arith))
+    in
+    ⊎-elim
+    (λ h. rw (rows-with-known n t w h) (kept-refl nameSize t))
+    (λ h. ⊎-elim (new h) (λ k. rw (rows-with-full n t w h k) (kept-refl nameSize t)) (lt-or-le n 64))
+    (lt-or-le (rowOf t n w) n)
 
-    full : n ≤ rowOf t n w → 64 ≤ n → RowsKept t (rowsWith (rows n t) w .table)
-    full h k = rw (rows-with-full n t w h k) (refl, refl)
-
-    new : n ≤ rowOf t n w → n < 64 → RowsKept t (rowsWith (rows n t) w .table)
-    new h k =
-        let e = padded-length 16 w in
-        rw (rows-with-new n t w h k)
-        (sets-drop (padded 16 w) t (n * 16) nameSize (omega arith), length-sets t (n * 16) (padded 16 w))
-
-through-kept : (ws : List (List ℕ)) (s : Rows) → RowsKept (s .table) (rowsThrough s ws .table)
-through-kept [] s = rw (through-none s) (refl, refl)
+through-kept : (ws : List (List ℕ)) (s : Rows) → let u = rowsThrough s ws .table in u ≡ filled nameSize u (s .table)
+through-kept [] s = rw (through-none s) (kept-refl nameSize (s .table))
 through-kept (w ∷ ws) s =
     let next = rowsWith s w in
     let k = with-kept (s .count) (s .table) w in
-    let ih = through-kept ws next in
     ⊎-elim
     (λ h. rw (through-full s next w ws refl h) k)
-    (λ h. rw (through-more s next w ws refl h) (ih .0 ∙ k .0, ih .1 ∙ k .1))
+    (λ h. rw (through-more s next w ws refl h) (kept-trans nameSize (s .table) k (through-kept ws next)))
     (lt-or-le 64 (next .count))
 
 pub rows-kept : (n : ℕ) (t : List ℕ) (ws : List (List ℕ)) (r : ℕ) (u : List ℕ)
-    → rows r u ≡ rowsThrough (rows n t) ws → RowsKept t u
-rows-kept n t ws r u e = subst (λ (s : Rows). RowsKept t (s .table)) (sym e) (through-kept ws (rows n t))
+    → rows r u ≡ rowsThrough (rows n t) ws → u ≡ filled nameSize u t
+rows-kept n t ws r u e =
+    subst (λ (s : Rows). s .table ≡ filled nameSize (s .table) t) (sym e) (through-kept ws (rows n t))
 
 -- s holds the names ms, or they are too many
 pub record Interned (ms : List (List ℕ)) (s : Rows) : Type 0 where
@@ -93,6 +87,9 @@ pub record Interned (ms : List (List ℕ)) (s : Rows) : Type 0 where
 interned-held : {ns : List (List ℕ)} {t : List ℕ} → Holds ns t → Interned ns (rows (length ns) t)
 interned-held h = record { fits = λ _. refl; held = λ _. h; full = λ l. absurd (omega (arith, h .few)) }
 
+interned-over : {ms : List (List ℕ)} {s : Rows} → 64 < s .count → 64 < length ms → Interned ms s
+interned-over l k = record { fits = λ p. absurd (omega arith); held = λ p. absurd (omega arith); full = λ _. k }
+
 -- one name more
 module _ {ns : List (List ℕ)} {t w : List ℕ} (h : Holds ns t) (k : nameSize ≤ length t) (g : Named w) where
   one-known : atomOf ns w < length ns → Interned (withName ns w) (rowsWith (rows (length ns) t) w)
@@ -100,23 +97,26 @@ module _ {ns : List (List ℕ)} {t w : List ℕ} (h : Holds ns t) (k : nameSize 
       let e = row-atom h k g in
       rw (with-name-known ns w l, rows-with-known (length ns) t w (omega arith)) (interned-held h)
 
-  one-new : length ns ≤ atomOf ns w → Interned (withName ns w) (rowsWith (rows (length ns) t) w)
-  one-new l =
+  one-stored : length ns ≤ atomOf ns w → length ns < 64
+      → Interned (withName ns w) (rowsWith (rows (length ns) t) w)
+  one-stored l q =
       let e = row-atom h k g in
-      let n = length-append ns (w ∷ []) in
-      let m : length ns ≤ rowOf t (length ns) w = omega arith in
-      let stored : length ns < 64 → Interned (ns ++ (w ∷ [])) (rowsWith (rows (length ns) t) w) =
-      λ q. rw (rows-with-new (length ns) t w m q, ← n) (interned-held (held-push h k g q))
-      in
-      let refused : 64 ≤ length ns → Interned (ns ++ (w ∷ [])) (rowsWith (rows (length ns) t) w) =
-      λ q.
-      rw (rows-with-full (length ns) t w m q)
-      record { fits = λ p. absurd (omega arith); held = λ p. absurd (omega arith); full = λ _. omega arith }
-      in
-      rw (with-name-new ns w l) (⊎-elim stored refused (lt-or-le (length ns) 64))
+      rw (with-name-new ns w l, rows-with-new (length ns) t w (omega arith) q, ← length-append ns (w ∷ []))
+      (interned-held (held-push h k g q))
+
+  one-refused : length ns ≤ atomOf ns w → 64 ≤ length ns
+      → Interned (withName ns w) (rowsWith (rows (length ns) t) w)
+  one-refused l q =
+      let e = row-atom h k g in
+      rw (with-name-new ns w l, rows-with-full (length ns) t w (omega arith) q)
+      (interned-over (omega arith) (rw (length-append ns (w ∷ [])) (omega arith)))
 
   one-interned : Interned (withName ns w) (rowsWith (rows (length ns) t) w)
-  one-interned = ⊎-elim one-known one-new (lt-or-le (atomOf ns w) (length ns))
+  one-interned =
+      ⊎-elim
+      one-known
+      (λ l. ⊎-elim (one-stored l) (one-refused l) (lt-or-le (length ns) 64))
+      (lt-or-le (atomOf ns w) (length ns))
 
   -- and more behind it
   module _ (ws : List (List ℕ)) where
@@ -125,8 +125,7 @@ module _ {ns : List (List ℕ)} {t w : List ℕ} (h : Holds ns t) (k : nameSize 
     several-full q =
         let l = with-names-length (withName ns w) ws in
         let m = one-interned .full q in
-        rw (through-full (rows (length ns) t) _ w ws refl q)
-        record { fits = λ p. absurd (omega arith); held = λ p. absurd (omega arith); full = λ _. omega arith }
+        rw (through-full (rows (length ns) t) _ w ws refl q) (interned-over q (omega arith))
 
     several-more : let s = rowsWith (rows (length ns) t) w in
         s .count ≤ 64
@@ -143,7 +142,7 @@ unfolding withNames
 several-interned [] ns t h k g = rw (through-none (rows (length ns) t)) (interned-held h)
 several-interned (w ∷ ws) ns t h k g =
     let s = rowsWith (rows (length ns) t) w in
-    let l = with-kept (length ns) t w .1 in
+    let l = kept-length nameSize t (with-kept (length ns) t w) in
     let more : s .count ≤ 64 → Interned (withNames (withName ns w) ws) (rowsThrough (rows (length ns) t) (w ∷ ws)) =
     λ q.
     several-more h k (g .0) ws q

@@ -17,22 +17,28 @@ use Rattle.names.proofs.Short.{some-long-here, some-long-later, some-lo
 use Rattle.names.proofs.Interning.{through-none, through-more, through-full}
 
 -- a name of the line l is long if one from place at on is
-abbrev pub LongFrom : List ℕ → ℕ → Type 0
-LongFrom l at = someLong (namesIn (tokens l)) ≡ someLong (namesIn (tokens (drop at l)))
+pub record LongFrom (l : List ℕ) (at : ℕ) : Type 0 where
+  pub some-is : someLong (namesIn (tokens l)) ≡ someLong (namesIn (tokens (drop at l)))
+
+pub long-from-none : (l : List ℕ) → LongFrom l 0
+long-from-none l = record { some-is = refl }
 
 module _ {l : List ℕ} {at : ℕ} {r : NextName} (h : LongFrom l at) (f : NameFound l at r) where
+  left-long : {q : NextName} → r ≡ q → someLong (namesIn (tokens l)) ≡ someLong (firstName l q)
+  left-long e = h .some-is ∙ ap someLong (names-found f e)
+
   pub long-none : r ≡ NoName → false ≡ someLong (namesIn (tokens l))
-  long-none q = sym (h ∙ ap someLong (names-found f q) ∙ some-long-nil)
+  long-none q = sym (left-long q ∙ some-long-nil)
 
   module _ {a e : ℕ} (q : r ≡ Name a e) where
     name-length : length (slice a e l) ≡ e - a
     name-length = length-slice a e l (name-inside f q .2)
 
     pub long-here : 16 < e - a → true ≡ someLong (namesIn (tokens l))
-    long-here k = sym (h ∙ ap someLong (names-found f q) ∙ some-long-here (slice a e l) _ (rw name-length k))
+    long-here k = sym (left-long q ∙ some-long-here (slice a e l) _ (rw name-length k))
 
     pub long-later : e - a ≤ 16 → LongFrom l e
-    long-later k = h ∙ ap someLong (names-found f q) ∙ some-long-later (slice a e l) _ (rw name-length k)
+    long-later k = record { some-is = left-long q ∙ some-long-later (slice a e l) _ (rw name-length k) }
 
 -- the names of the line l are put into the rows s₀ if those from place at on are put into s
 pub record Adding (s₀ : Rows) (l : List ℕ) (at : ℕ) (s : Rows) : Type 0 where

@@ -1,15 +1,42 @@
--- The search for the row of a name, row by row. Assumes nothing.
+-- The search for the row of a name: a row compared with it byte by byte, and the rows one after the other.
+-- Assumes nothing.
 use mathlib.Core.Path.{_≡_, sym, _∙_}
 use mathlib.Core.Bool.{Bool, true, false}
 use mathlib.Core.List.{List}
-use Prim.Native.Nat.{ℕ, _+_, _-_, _≤_, _<_}
+use Prim.Native.Nat.{ℕ, _+_, _*_, _-_, _≤_, _<_}
 use native.Mathlib.Nat.{sub-zero}
 use native.Mathlib.Omega.{arith}
+use lib.ListN.{length, getD}
 use Rattle.words.specs.Below.{firstFrom}
 use Rattle.words.proofs.Below.{first-le, first-stops, first-more, first-ends}
+use Rattle.program.specs.Case.{nameSize}
 use Rattle.text.specs.Bytes.{sameBytes}
+use Rattle.text.proofs.Same.{SameFrom, same-none, same-more, same-stops, same-ends}
 use Rattle.table.specs.Filled.{padded}
+use Rattle.table.proofs.Filled.{padded-length, padded-at}
 use Rattle.names.specs.Row.{rowAt, rowOf}
+
+-- row i of t is w if what is left of it from its byte j on is
+pub record RowFrom (t : List ℕ) (i : ℕ) (w : List ℕ) (j : ℕ) : Type 0 where
+  pub same-from : SameFrom t (i * 16) (i * 16 + 16) (padded 16 w) j
+
+pub row-from-none : (t : List ℕ) (i : ℕ) (w : List ℕ) → i < 64 → nameSize ≤ length t → RowFrom t i w 0
+row-from-none t i w h k = record { same-from = same-none t (i * 16) _ (padded 16 w) (rw padded-length) (omega arith) }
+
+module _ {t : List ℕ} {i : ℕ} {w : List ℕ} {j : ℕ} (h : RowFrom t i w j) where
+  pub row-from-ends : 16 ≤ j → true ≡ sameBytes (rowAt t i) (padded 16 w)
+  row-from-ends l = same-ends (h .same-from) (rw padded-length l)
+
+  -- byte j is compared with x, that of the padded name
+  module _ {x : ℕ} (l : j < 16) (e : x ≡ getD w j 0) where
+    byte-is : getD (padded 16 w) j 0 ≡ x
+    byte-is = padded-at 16 w j l ∙ sym e
+
+    pub row-from-more : getD t (i * 16 + j) 0 ≡ x → RowFrom t i w (j + 1)
+    row-from-more q = record { same-from = same-more (h .same-from) (rw padded-length l) (q ∙ sym byte-is) }
+
+    pub row-from-stops : (getD t (i * 16 + j) 0 ≡ x → ⊥) → false ≡ sameBytes (rowAt t i) (padded 16 w)
+    row-from-stops q = same-stops (h .same-from) (rw padded-length l) (λ d. q (d ∙ byte-is))
 
 pub row-le : (t : List ℕ) (n : ℕ) (w : List ℕ) → rowOf t n w ≤ n
 unfolding rowOf

@@ -3,10 +3,10 @@
 use mathlib.Core.Path.{_≡_, refl, ap, _∙_, subst}
 use mathlib.Core.Bool.{Bool, true, false}
 use mathlib.Core.List.{List}
-use Prim.Native.Nat.{ℕ, _≤_}
+use Prim.Native.Nat.{ℕ, _-_, _≤_, _<_}
 use native.Mathlib.Nat.{le-refl}
 use native.Mathlib.Omega.{arith}
-use lib.ListN.{drop}
+use lib.ListN.{length, drop}
 use Rattle.text.specs.Tokens.{tokens}
 use Rattle.text.specs.Words.{namesFrom, namesIn}
 use Rattle.text.specs.Scanning.{firstToken, Found, firstName, NameInside, NameFound}
@@ -60,3 +60,14 @@ module _ {l : List ℕ} {at : ℕ} {r q : NextName} (f : NameFound l at r) (e : 
 
   pub name-inside : NameInside l at q
   name-inside = subst (NameInside l at) e (f .inside)
+
+module _ {l : List ℕ} {at a e : ℕ} {r : NextName} (f : NameFound l at r) (q : r ≡ Name a e) where
+  pub name-onward : a ≤ e
+  name-onward = let k = name-inside f q in omega arith
+
+  pub name-within : e ≤ length l
+  name-within = name-inside f q .2
+
+  -- what is left of the line grows shorter
+  pub name-less : length l - e < length l - at
+  name-less = let k = name-inside f q in omega arith

@@ -1,6 +1,6 @@
 -- What the words of a line are made of: at least one byte, and bytes that stand in words only; and what a name begins
 -- with. Assumes nothing.
-use mathlib.Core.Path.{_≡_, refl, subst}
+use mathlib.Core.Path.{_≡_, refl}
 use mathlib.Core.Bool.{Bool, true, false}
 use mathlib.Core.List.{List, [], _∷_, _++_}
 use Prim.Native.Nat.{ℕ, _≤_, _<_}
@@ -51,11 +51,7 @@ pub tokens-word-bytes : (l : List ℕ) → WordBytes (tokens l)
 unfolding allOf
 tokens-word-bytes l = tokens-from-bytes [] l refl
 
--- the first word of a line, or of what is left of it
-pub first-word-bytes : (l w : List ℕ) (ts : List Token) → tokens l ≡ Token.word w ∷ ts → IsWord w
-first-word-bytes l w ts e = subst WordBytes e (tokens-word-bytes l) .0
-
--- and each name of a line
+-- each name of a line is so
 pub names-are-words : (b : Bool) (ts : List Token) → WordBytes ts → Each IsWord (namesFrom b ts)
 unfolding namesFrom
 names-are-words b [] h = tt

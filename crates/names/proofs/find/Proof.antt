@@ -1,7 +1,6 @@
 -- `names::find` meets its contract. The invariant is `Searched`: no row before place i holds the name. Assumes nothing.
 use borrow.Author.Needs.{needs}
 use Prim.Native.Nat.{_-_}
-use native.Mathlib.Omega.{arith}
 use lib.Seq.{slice}
 use Rattle.names.proofs.Search.{Searched, searched-none, searched-here, searched-more, searched-all}
 use Rattle.names.proofs.find.Statement.{statement}
@@ -13,19 +12,14 @@ Inv-loop names count l a e i₀ i = Searched names count (slice a e l) i
 abbrev μ-loop : tie.MeasureT-loop
 μ-loop names count l a e i₀ i = count - i
 
-abbrev looped : tie.After-row-is Inv-loop μ-loop → tie.At-loop Inv-loop μ-loop
-looped c = c .before .before
-
 loop-holds : tie.Need-loop-holds Inv-loop μ-loop
-loop-holds c = searched-none _ _ _
+loop-holds c = search (needs, searched-none)
 
 row-is-requires : tie.Need-row-is-requires Inv-loop μ-loop
 row-is-requires c κs = search needs
 
 returns : tie.Need-returns Inv-loop μ-loop
-returns c =
-    let r = c .before in
-    searched-here (looped r .loop .inv) (omega arith) (r .row-is .ensures) (c .if1 .taken)
+returns c = search (needs, searched-here)
 
 add-i : tie.Need-add-i Inv-loop μ-loop
 add-i c = search needs
@@ -34,12 +28,10 @@ loop-less : tie.Need-loop-less Inv-loop μ-loop
 loop-less c = search needs
 
 loop-again : tie.Need-loop-again Inv-loop μ-loop
-loop-again c =
-    let r = c .before in
-    searched-more (looped r .loop .inv) (omega arith) (r .row-is .ensures) (c .if1 .left)
+loop-again c = search (needs, searched-more)
 
 returns-2 : tie.Need-returns-2 Inv-loop μ-loop
-returns-2 c = searched-all (c .before .loop .inv) (omega arith)
+returns-2 c = search (needs, searched-all)
 
 pub find-spec : {M : Type 1} → statement M
 find-spec =

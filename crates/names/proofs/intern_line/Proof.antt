@@ -1,11 +1,10 @@
 -- `names::intern_line` meets its contract. The invariant: the names from place at on, put into the rows so far, leave
 -- what the names of the line leave. Assumes nothing.
 use borrow.Author.Needs.{needs}
-use mathlib.Core.Path.{_≡_, refl}
+use mathlib.Core.Path.{_≡_}
 use Prim.Native.Nat.{_≤_, _-_}
-use native.Mathlib.Omega.{arith}
 use lib.ListN.{length}
-use Rattle.text.proofs.Names.{name-inside}
+use Rattle.text.proofs.Names.{name-onward, name-within, name-less}
 use Rattle.names.specs.Row.{rows}
 use Rattle.names.proofs.LineNames.{Adding, adding-all, adding-none, adding-more, adding-full}
 use Rattle.names.proofs.intern_line.Statement.{statement}
@@ -18,18 +17,8 @@ Inv-loop l names₀ count at₀ n₀ names at n =
 abbrev μ-loop : tie.MeasureT-loop
 μ-loop l names₀ count at₀ n₀ names at n = length l - at
 
--- the places before: of the call with the next name, of that name, and of the search for it
-abbrev called : tie.After-slice-known2 Inv-loop μ-loop → tie.After-intern Inv-loop μ-loop
-called c = c .before .before
-
-abbrev named : tie.After-intern Inv-loop μ-loop → tie.After-a Inv-loop μ-loop
-named c = c .before .before .before
-
-abbrev sought : tie.After-a Inv-loop μ-loop → tie.After-next-name Inv-loop μ-loop
-sought c = c .before .before
-
 loop-holds : tie.Need-loop-holds Inv-loop μ-loop
-loop-holds c = (search needs, refl, adding-all _ _)
+loop-holds c = search (needs, adding-all)
 
 next-name-requires : tie.Need-next-name-requires Inv-loop μ-loop
 next-name-requires c κs = search needs
@@ -44,39 +33,22 @@ same-length : tie.Need-same-length Inv-loop μ-loop
 same-length c = search needs
 
 returns : tie.Need-returns Inv-loop μ-loop
-returns c =
-    let s = c .before .before in
-    adding-none (s .before .loop .inv .2) (s .next-name .ensures) (c .enum-told .given .1)
+returns c = search (needs, adding-none)
 
 intern-requires : tie.Need-intern-requires Inv-loop μ-loop
-intern-requires c κs =
-    let a = c .before .before in
-    let i = name-inside (sought a .next-name .ensures) (a .a .given .1) in
-    (omega arith, omega arith, omega arith, omega arith)
+intern-requires c κs = search (needs, name-onward, name-within)
 
 same-length-2 : tie.Need-same-length-2 Inv-loop μ-loop
 same-length-2 c = search needs
 
 returns-2 : tie.Need-returns-2 Inv-loop μ-loop
-returns-2 c =
-    let m = called (c .before) in
-    let a = named m in
-    let s = sought a in
-    adding-full (s .before .loop .inv .2) (s .next-name .ensures) (a .a .given .1) (m .intern .ensures) (c .if1 .taken)
+returns-2 c = search (needs, adding-full)
 
 loop-less : tie.Need-loop-less Inv-loop μ-loop
-loop-less c =
-    let a = named (called (c .before)) in
-    let i = name-inside (sought a .next-name .ensures) (a .a .given .1) in
-    omega arith
+loop-less c = search (needs, name-less)
 
 loop-again : tie.Need-loop-again Inv-loop μ-loop
-loop-again c =
-    let m = called (c .before) in
-    let a = named m in
-    let s = sought a in
-    let more = adding-more (s .before .loop .inv .2) (s .next-name .ensures) (a .a .given .1) (m .intern .ensures) in
-    (c .if1 .left, omega arith, more (c .if1 .left))
+loop-again c = search (needs, adding-more)
 
 pub intern-line-spec : {M : Type 1} → statement M
 intern-line-spec =

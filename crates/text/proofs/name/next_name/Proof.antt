@@ -3,9 +3,8 @@
 use borrow.Author.Needs.{needs}
 use borrow.Author.Tests.{not-true, not-false}
 use Prim.Native.Nat.{_-_}
-use native.Mathlib.Omega.{arith}
 use lib.ListN.{length}
-use Rattle.text.proofs.TokenLaws.{found-inside}
+use Rattle.text.proofs.TokenLaws.{opening-less, closing-less, word-less}
 use Rattle.text.proofs.Names.{Looking, looking-none, looking-end, looking-open, looking-close}
 use Rattle.text.proofs.Names.{looking-form, looking-name}
 use Rattle.text.proofs.name.next_name.Statement.{statement}
@@ -18,7 +17,7 @@ abbrev μ-loop : tie.MeasureT-loop
 μ-loop l at i₀ opened₀ i opened = length l - i
 
 loop-holds : tie.Need-loop-holds Inv-loop μ-loop
-loop-holds c = looking-none _ _
+loop-holds c = search (needs, looking-none)
 
 token-requires : tie.Need-token-requires Inv-loop μ-loop
 token-requires c κs = search needs
@@ -27,60 +26,37 @@ enum-told : tie.Need-enum-told Inv-loop μ-loop
 enum-told c = search needs
 
 returns : tie.Need-returns Inv-loop μ-loop
-returns c =
-    let t = c .before .before in
-    looking-end (t .before .loop .inv) (t .token .ensures) (c .enum-told .given .1)
+returns c = search (needs, looking-end)
 
 enum-known-n : tie.Need-enum-known-n Inv-loop μ-loop
 enum-known-n c = search needs
 
 loop-less : tie.Need-loop-less Inv-loop μ-loop
-loop-less c =
-    let n = c .before in
-    let k = found-inside (n .before .before .token .ensures) (n .n .given .1) in
-    omega arith
+loop-less c = search (needs, opening-less)
 
 loop-again : tie.Need-loop-again Inv-loop μ-loop
-loop-again c =
-    let n = c .before in
-    let t = n .before .before in
-    looking-open (t .before .loop .inv) (t .token .ensures) (n .n .given .1)
+loop-again c = search (needs, looking-open)
 
 enum-known-n-2 : tie.Need-enum-known-n-2 Inv-loop μ-loop
 enum-known-n-2 c = search needs
 
 loop-less-2 : tie.Need-loop-less-2 Inv-loop μ-loop
-loop-less-2 c =
-    let n = c .before in
-    let k = found-inside (n .before .before .token .ensures) (n .n2 .given .1) in
-    omega arith
+loop-less-2 c = search (needs, closing-less)
 
 loop-again-2 : tie.Need-loop-again-2 Inv-loop μ-loop
-loop-again-2 c =
-    let n = c .before in
-    let t = n .before .before in
-    looking-close (t .before .loop .inv) (t .token .ensures) (n .n2 .given .1)
+loop-again-2 c = search (needs, looking-close)
 
 enum-known-a : tie.Need-enum-known-a Inv-loop μ-loop
 enum-known-a c = search needs
 
 returns-2 : tie.Need-returns-2 Inv-loop μ-loop
-returns-2 c =
-    let w = c .before .before in
-    let t = w .before .before in
-    looking-name (t .before .loop .inv) (t .token .ensures) (w .a .given .1) (not-true _ (c .if1 .taken))
+returns-2 c = search (needs, looking-name, not-true)
 
 loop-less-3 : tie.Need-loop-less-3 Inv-loop μ-loop
-loop-less-3 c =
-    let w = c .before .before in
-    let k = found-inside (w .before .before .token .ensures) (w .a .given .1) in
-    omega arith
+loop-less-3 c = search (needs, word-less)
 
 loop-again-3 : tie.Need-loop-again-3 Inv-loop μ-loop
-loop-again-3 c =
-    let w = c .before .before in
-    let t = w .before .before in
-    looking-form (t .before .loop .inv) (t .token .ensures) (w .a .given .1) (not-false _ (c .if1 .left))
+loop-again-3 c = search (needs, looking-form, not-false)
 
 pub next-name-spec : {M : Type 1} → statement M
 next-name-spec =
