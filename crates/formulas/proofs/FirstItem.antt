@@ -13,7 +13,6 @@ use lib.ListN.{drop}
 use denote.Enum.Declared.{tagOf}
 use types.Run.{OneOf, miss}
 use Rattle.text.specs.Tokens.{Token, tokens}
-use Rattle.text.specs.Words.{beginsWithLetter}
 use Rattle.text.specs.Scanning.{Found, firstToken}
 use Rattle.text.specs.declared.tokens.Next.{Next}
 use Rattle.text.specs.declared.tokens.Next.the-variants.{End, Open, Close, Word}

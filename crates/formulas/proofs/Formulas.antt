@@ -25,6 +25,7 @@ use Rattle.formulas.specs.declared.formula.Parse.the-variants.{NoFormula
 use Rattle.formulas.specs.Parsing.{sizeOf, NameAt, FormAt, HeadAt, FormulaAt, Parsed, closedAmong, Closed}
 use Rattle.formulas.proofs.Keywords.{node-ge}
 use Rattle.formulas.proofs.Sentences.{depth-le-size}
+use Rattle.formulas.proofs.Reading.{items-closing, items-name, items-word, items-form}
 use Rattle.formulas.proofs.FirstItem.{found-behind}
 use Rattle.formulas.proofs.Forms.{closed-among, negation-items, joined-items}
 use Rattle.formulas.proofs.Forms.{other-begins, operand-begins, second-begins}
@@ -47,17 +48,15 @@ parsed-as l at t e = subst (Parsed l at) e t
 
 module _ {l : List ℕ} {at a e : ℕ} (t : Found l at (Word a e)) where
   pub name-head : beginsWithLetter (slice a e l) ≡ true → NameAt l at a e
-  unfolding itemsOf
   name-head h = record {
-    items-are = rw (t .tokens-are, h);
+    items-are = rw (t .tokens-are) (items-name (tokens (drop e l)) (slice a e l) h);
     onward = t .inside .0;
     filled = t .inside .1;
     within = t .inside .2;
   }
 
   pub word-head : beginsWithLetter (slice a e l) ≡ false → HeadAt l at NoHead
-  unfolding itemsOf
-  word-head h = rw (t .tokens-are, h)
+  word-head h = rw (t .tokens-are, items-word (tokens (drop e l)) (slice a e l) h)
 
 module _ {l : List ℕ} {at i : ℕ} (t : Found l at (Open i)) where
   pub opening-head : {r : Next} → Found l i r → OneOf (0 ∷ (1 ∷ (2 ∷ []))) (tagOf the-type r) → HeadAt l at NoHead
@@ -65,8 +64,7 @@ module _ {l : List ℕ} {at i : ℕ} (t : Found l at (Open i)) where
 
   module _ {a e k : ℕ} (u : Found l i (Word a e)) (q : k ≡ nodeOf (slice a e l)) where
     form-items : itemsOf (tokens (drop at l)) ≡ withForm k (itemsOf (tokens (drop e l)))
-    unfolding itemsOf
-    form-items = rw (t .tokens-are, u .tokens-are, q)
+    form-items = rw (t .tokens-are, u .tokens-are, q) (items-form (tokens (drop e l)) (slice a e l))
 
     pub other-head : 68 < k → HeadAt l at NoHead
     other-head h = rw form-items (other-begins k (itemsOf (tokens (drop e l))) h)
@@ -83,11 +81,10 @@ module _ {l : List ℕ} {at i : ℕ} (t : Found l at (Open i)) where
 -- The way out of `closed_form` with a formula
 
 pub closing-closed : (l : List ℕ) (at d next : ℕ) → Found l at (Close next) → Closed l at d (Formula next d)
-unfolding itemsOf
 closing-closed l at d next t = (
   refl,
   record {
-    items-are = λ f. rw (t .tokens-are) (closed-among f (itemsOf (tokens (drop next l))));
+    items-are = λ f. rw (t .tokens-are, items-closing) (closed-among f (itemsOf (tokens (drop next l))));
     onward = t .inside .0;
     within = t .inside .1;
   },

@@ -118,6 +118,31 @@ items-read (Token.opening ∷ (Token.closing ∷ ts)) = Read.nothing
 items-read (Token.opening ∷ (Token.word w ∷ ts)) =
     form-of-read w (form-read (nodeOf w) (itemsOf ts)) (items-read ts)
 
+-- Items by the first token
+
+pub items-end : itemsOf [] ≡ Option.some []
+unfolding itemsOf
+items-end = refl
+
+module _ (ts : List Token) where
+  pub items-closing : itemsOf (Token.closing ∷ ts) ≡ prepend Item.closing (itemsOf ts)
+  unfolding itemsOf
+  items-closing = refl
+
+  module _ (w : List ℕ) where
+    pub items-name : beginsWithLetter w ≡ true
+        → itemsOf (Token.word w ∷ ts) ≡ prepend (Item.formula (Sentence.name w)) (itemsOf ts)
+    unfolding itemsOf
+    items-name h = rw h
+
+    pub items-word : beginsWithLetter w ≡ false → itemsOf (Token.word w ∷ ts) ≡ Option.none
+    unfolding itemsOf
+    items-word h = rw h
+
+    pub items-form : itemsOf (Token.opening ∷ (Token.word w ∷ ts)) ≡ withForm (nodeOf w) (itemsOf ts)
+    unfolding itemsOf
+    items-form = refl
+
 -- Items that begin with a formula
 
 -- no items are items

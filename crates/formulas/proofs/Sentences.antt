@@ -35,5 +35,5 @@ sentence-names (Sentence.negation f) ts =
     rw append-assoc (names-form _ _ ∙ sentence-names f _ ∙ ap (λ ns. sentenceNames f ++ ns) (names-closing ts))
 sentence-names (Sentence.joined k f g) ts =
     let e = sentence-names g (Token.closing ∷ ts) ∙ ap (λ ns. sentenceNames g ++ ns) (names-closing ts) in
-    rw (append-assoc, append-assoc, append-assoc (sentenceNames f))
+    rw (append-assoc (tokensOf f ++ tokensOf g), append-assoc (tokensOf f), append-assoc (sentenceNames f))
     (names-form _ _ ∙ sentence-names f _ ∙ ap (λ ns. sentenceNames f ++ ns) e)

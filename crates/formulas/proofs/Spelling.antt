@@ -14,14 +14,13 @@ use native.Mathlib.Omega.{arith}
 use lib.ListN.{getD}
 use borrow.Author.Tests.{leb-true, le-leb}
 use Rattle.text.specs.Tokens.{Token}
-use Rattle.text.specs.Words.{beginsWithLetter}
 use Rattle.text.proofs.ByteLaws.{and-true-both}
 use Rattle.formulas.specs.Sentence.{Sentence, formWords, tokensOf, isSentence}
 use Rattle.formulas.specs.Items.{prepend, Item, withForm, itemsOf}
 use Rattle.formulas.specs.Parsing.{Items}
 use Rattle.formulas.proofs.Keywords.{word-node}
 use Rattle.formulas.proofs.Forms.{closed-among, negation-items, joined-items}
-use Rattle.formulas.proofs.Reading.{Read, items-read}
+use Rattle.formulas.proofs.Reading.{Read, items-read, items-closing, items-name, items-form}
 
 -- What is spelled is read
 
@@ -45,30 +44,27 @@ module _ (us ts : List Token) where
   -- a form's word in front of what us are read as
   form-tokens : (k : ℕ) (x : Items) → 64 ≤ k → k ≤ 68 → itemsOf us ≡ x
       → itemsOf (Token.opening ∷ (Token.word (getD formWords (k - 64) []) ∷ us)) ≡ withForm k x
-  unfolding itemsOf
-  form-tokens k x a b e = rw (word-node k a b, e)
+  form-tokens k x a b e = rw (items-form, word-node k a b, e)
 
   negation-tokens : (f : Sentence) → itemsOf us ≡ prepend (Item.formula f) (itemsOf (Token.closing ∷ ts))
       → itemsOf (Token.opening ∷ (Token.word (getD formWords 0 []) ∷ us))
       ≡ prepend (Item.formula (Sentence.negation f)) (itemsOf ts)
-  unfolding itemsOf
   negation-tokens f e =
-      form-tokens 64 _ (omega arith) (omega arith) e ∙ negation-items 64 f (prepend Item.closing (itemsOf ts)) refl
-      ∙ closed-among (Sentence.negation f) (itemsOf ts)
+      form-tokens 64 _ (omega arith) (omega arith) e ∙ negation-items 64 f (itemsOf (Token.closing ∷ ts)) refl
+      ∙ rw items-closing (closed-among (Sentence.negation f) (itemsOf ts))
 
   joined-tokens : (k : ℕ) (f g : Sentence) → 65 ≤ k → k ≤ 68
       → itemsOf us ≡ prepend (Item.formula f) (prepend (Item.formula g) (itemsOf (Token.closing ∷ ts)))
       → itemsOf (Token.opening ∷ (Token.word (getD formWords (k - 64) []) ∷ us))
       ≡ prepend (Item.formula (Sentence.joined k f g)) (itemsOf ts)
-  unfolding itemsOf
   joined-tokens k f g a b e =
-      form-tokens k _ (omega arith) b e ∙ joined-items k f g (prepend Item.closing (itemsOf ts)) b (λ z. omega arith)
-      ∙ closed-among (Sentence.joined k f g) (itemsOf ts)
+      form-tokens k _ (omega arith) b e ∙ joined-items k f g (itemsOf (Token.closing ∷ ts)) b (λ z. omega arith)
+      ∙ rw items-closing (closed-among (Sentence.joined k f g) (itemsOf ts))
 
 pub tokensOf-read : (f : Sentence) (ts : List Token) → isSentence f ≡ true
     → itemsOf (tokensOf f ++ ts) ≡ prepend (Item.formula f) (itemsOf ts)
-unfolding tokensOf isSentence itemsOf
-tokensOf-read (Sentence.name w) ts h = rw h
+unfolding tokensOf isSentence
+tokensOf-read (Sentence.name w) ts h = items-name ts w h
 tokensOf-read (Sentence.negation f) ts h =
     let us = Token.closing ∷ ts in
     rw append-assoc (negation-tokens (tokensOf f ++ us) ts f (tokensOf-read f us h))

@@ -37,39 +37,50 @@ callees t = (
   greater-of-reads.Learnt,
 )
 
--- the places of the code where a form, its first operand and its second operand are known
+-- the places of the code where it starts, and where a form, its first operand and its second operand are known
+abbrev AtStart : ℕ → Type 0
+AtStart t = formula-at-lts.Start (callees t) (entered t) formula-at.Post
+
 abbrev AtForm : ℕ → Type 0
 AtForm t = formula-at-lts.After-node (callees t) (entered t) formula-at.Post
 
 abbrev AtFirst : ℕ → Type 0
 AtFirst t = formula-at-lts.After-j (callees t) (entered t) formula-at.Post
 
+abbrev Joined : ℕ → Type 0
+Joined t = formula-at-lts.Else1 (callees t) (entered t) formula-at.Post
+
 abbrev AtSecond : ℕ → Type 0
 AtSecond t = formula-at-lts.After-k (callees t) (entered t) formula-at.Post
+
+abbrev start : {t : ℕ} → AtForm t → AtStart t
+start c = c .before .before .before .before
 
 abbrev form-of : {t : ℕ} → AtFirst t → AtForm t
 form-of c = c .before .before .before .before
 
-abbrev first-of : {t : ℕ} → AtSecond t → AtFirst t
-first-of c = c .before .before .before .before .before
+abbrev first-of : {t : ℕ} → Joined t → AtFirst t
+first-of c = c .before .before
+
+abbrev joined-of : {t : ℕ} → AtSecond t → Joined t
+joined-of c = c .before .before .before
 
 -- the line, and the place behind a form's word
 abbrev line : {t : ℕ} → AtForm t → List ℕ
-line c = c .before .before .before .before .args .l .now
+line c = start c .args .l .now
 
 abbrev behind : {t : ℕ} → AtForm t → ℕ
 behind c = c .node .given .0 .1 .0
 
-form : {t : ℕ} (c : AtForm t)
-    → FormAt (line c) (c .before .before .before .before .args .at) (c .node .given .0 .0) (behind c)
+form : {t : ℕ} (c : AtForm t) → FormAt (line c) (start c .args .at) (c .node .given .0 .0) (behind c)
 form c = head-as _ _ (c .before .before .head-at .ensures) (c .node .given .1)
 
 first : {t : ℕ} (c : AtFirst t)
     → FormulaAt (line (form-of c)) (behind (form-of c)) (c .j .given .0 .0) (c .j .given .0 .1 .0)
 first c = parsed-as _ _ (c .before .before .formula-at .ensures) (c .j .given .1)
 
-second : {t : ℕ} (c : AtSecond t)
-    → FormulaAt (line (form-of (first-of c))) (first-of c .j .given .0 .0) (c .k .given .0 .0) (c .k .given .0 .1 .0)
+second : {t : ℕ} (c : AtSecond t) → let f = first-of (joined-of c) in
+    FormulaAt (line (form-of f)) (f .j .given .0 .0) (c .k .given .0 .0) (c .k .given .0 .1 .0)
 second c = parsed-as _ _ (c .before .before .formula-at2 .ensures) (c .k .given .1)
 
 pub +formula-at-spec : {M : Type 1} → statement M
@@ -81,25 +92,24 @@ pub +formula-at-spec : {M : Type 1} → statement M
     (λ c κs. let q = form (c .before) in omega arith)
     (λ c. search needs)
     (λ c. search needs)
-    (λ c. operand-parsed (form (c .before .before .before .before))
-    (parsed-as _ _ (c .before .before .formula-at .ensures) (c .enum-told2 .given .1)))
-    (λ c. let o = first (c .before .before) in let q = form (form-of (c .before .before)) in
-    omega (arith, depth-le-bytes o))
+    (λ c. let f = c .before .before in
+    operand-parsed (form (f .before .before)) (parsed-as _ _ (f .formula-at .ensures) (c .enum-told2 .given .1)))
+    (λ c. let f = c .before .before in let q = form (form-of f) in omega (arith, depth-le-bytes (first f)))
     (λ c κs. search needs)
-    (λ c. let o = c .before .before .before in negation-parsed (form (form-of o)) (first o)
-    (c .closed-form .result) (c .before .if1 .taken) (c .closed-form .ensures))
-    (λ c κs. let o = first (c .before .before) in let q = form (form-of (c .before .before)) in omega arith)
+    (λ c. let n = c .before in let f = n .before .before in
+    negation-parsed (form (form-of f)) (first f) (c .closed-form .result) (n .if1 .taken) (c .closed-form .ensures))
+    (λ c κs. let f = first-of c in let q = form (form-of f) in let o = first f in omega arith)
     (λ c. search needs)
     (λ c. search needs)
-    (λ c. let o = c .before .before .before .before .before in second-parsed (form (form-of o)) (first o)
-    (c .before .before .before .if1 .left)
-    (parsed-as _ _ (c .before .before .formula-at2 .ensures) (c .enum-told3 .given .1)))
+    (λ c. let s = c .before .before in let n = s .before in let f = first-of n in
+    second-parsed (form (form-of f)) (first f) (n .if1 .left)
+    (parsed-as _ _ (s .formula-at2 .ensures) (c .enum-told3 .given .1)))
     (λ c κs. search needs)
-    (λ c. let s = c .before .before in let o = first (first-of s) in let p = second s in
-    omega (arith, depth-le-bytes o, depth-le-bytes p, form (form-of (first-of s)) .onward))
+    (λ c. let s = c .before .before in let f = first-of (joined-of s) in
+    omega (arith, depth-le-bytes (first f), depth-le-bytes (second s), form (form-of f) .onward))
     (λ c κs. search needs)
     (λ c. head-as _ _ (c .before .before .head-at .ensures) (c .enum-told .given .1))
     (λ c. let n = c .before in name-parsed (head-as _ _ (n .before .before .head-at .ensures) (n .e .given .1)))
-    (λ c. let s = c .before .before .before in let o = first-of s in
-    joined-parsed (form (form-of o)) (first o) (c .closed-form2 .result) (s .before .before .before .if1 .left)
-    (second s) (c .before .greater-of .ensures) (c .closed-form2 .ensures))
+    (λ c. let g = c .before in let s = g .before .before in let n = joined-of s in let f = first-of n in
+    joined-parsed (form (form-of f)) (first f) (c .closed-form2 .result) (n .if1 .left) (second s)
+    (g .greater-of .ensures) (c .closed-form2 .ensures))
