@@ -12,15 +12,14 @@ use lib.Dec.{eqb}
 use lib.ListN.{length, take, drop, getD, length-drop}
 use lib.Seq.{take-all}
 use borrow.Author.Tests.{eqb-true}
-use Rattle.words.specs.Choice.{pick}
 use Rattle.words.specs.Below.{every}
 use Rattle.words.proofs.Below.{every-at}
-use Rattle.text.specs.Bytes.{sameBytes, bytes}
+use Rattle.text.specs.Bytes.{sameBytes}
 use Rattle.text.specs.Words.{placeOf}
 use Rattle.text.proofs.Same.{same-comm}
 use Rattle.text.proofs.Places.{place-here, place-later, place-none, place-le, place-name}
 use Rattle.formulas.specs.Sentence.{formWords}
-use Rattle.formulas.specs.Keyword.{nodeOf, kindOf, wordEnd, wordRows, HasWords}
+use Rattle.formulas.specs.Keyword.{nodeOf, wordEnd, wordRows, HasWords}
 
 -- words of which no two are the same have the places where they stand
 pub own-place : (ws : List (List ℕ)) → every (length ws) (λ i. eqb (placeOf ws (getD ws i [])) i) ≡ true → (i : ℕ)
@@ -92,19 +91,3 @@ module _ {t : List ℕ} {n i : ℕ} {w : List ℕ} {p : ℕ} (q : Ahead t n i w 
           has = (rw left at (q .has)) .1;
           place-is = omega (arith, rw (left, place-later _ _ _ (tested e)) at (q .place-is));
         }
-
--- The words of lines
-
-picked-le : (b : Bool) (x y n : ℕ) → x ≤ n → y ≤ n → pick b x y ≤ n
-picked-le true x y n h k = h
-picked-le false x y n h k = k
-
-pub kind-le : (w : List ℕ) → kindOf w ≤ 6
-unfolding kindOf
-kind-le w =
-    picked-le (sameBytes w (bytes "true")) 1 _ 6 (omega arith)
-    (picked-le (sameBytes w (bytes "false")) 2 _ 6 (omega arith)
-    (picked-le (sameBytes w (bytes "if")) 3 _ 6 (omega arith)
-    (picked-le (sameBytes w (bytes "never")) 4 _ 6 (omega arith)
-    (picked-le (sameBytes w (bytes "seen")) 5 _ 6 (omega arith)
-    (picked-le (sameBytes w (bytes "query")) 6 0 6 (omega arith) (omega arith))))))

@@ -1,29 +1,17 @@
 -- The words of forms, told apart, and tables of words.
 --
 --   nodeOf w         the node of the form with the word w: 64 not, 65 and, 66 or, 67 then, 68 same; 69 for any other word
---   kindOf w         the kind of the line with the word w: 1 true, 2 false, 3 if, 4 never, 5 seen, 6 query; 0 for any other
 --   wordEnd t        the place behind the first word of the table t, in which each word follows its length
 --   wordRows t n     the first n words of the table t
 --   HasWords t n     the table t has n words
 use mathlib.Core.List.{List, [], _∷_}
 use Prim.Native.Nat.{ℕ, zero, suc, _+_, _≤_}
 use lib.ListN.{length, take, drop, getD}
-use Rattle.words.specs.Choice.{pick}
-use Rattle.text.specs.Bytes.{sameBytes, bytes}
 use Rattle.text.specs.Words.{placeOf}
 use Rattle.formulas.specs.Sentence.{formWords}
 
 unfoldable pub nodeOf : List ℕ → ℕ
 nodeOf w = 64 + placeOf formWords w
-
-unfoldable pub kindOf : List ℕ → ℕ
-kindOf w =
-    pick (sameBytes w (bytes "true")) 1
-    (pick (sameBytes w (bytes "false")) 2
-    (pick (sameBytes w (bytes "if")) 3
-    (pick (sameBytes w (bytes "never")) 4
-    (pick (sameBytes w (bytes "seen")) 5
-    (pick (sameBytes w (bytes "query")) 6 0)))))
 
 abbrev pub wordEnd : List ℕ → ℕ
 wordEnd t = 1 + getD t 0 0

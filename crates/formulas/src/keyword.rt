@@ -4,7 +4,7 @@ ghost use Prim.Native.Nat.{_≤_};
 ghost use lib.ListN.{length};
 ghost use lib.Seq.{slice};
 ghost use Rattle.text.specs.Words.{placeOf};
-ghost use Rattle.formulas.specs.Keyword.{nodeOf, kindOf, wordRows, HasWords};
+ghost use Rattle.formulas.specs.Keyword.{nodeOf, wordRows, HasWords};
 use text::bytes::is_same;
 
 // The words of forms, in the order of their nodes, each behind its length.
@@ -34,30 +34,4 @@ pub fn node_of(l: &[u8], a: usize, e: usize) -> u8
     ensures { λ r. ⌜ r ≡ nodeOf (slice a e (now (l .entry))) ⌝ }
 {
     64 + place_of(l, a, e, &FORM_WORDS, 5) as u8
-}
-
-// The kind of the line whose word is the part of l from a to e, or 0.
-pub fn kind_of(l: &[u8], a: usize, e: usize) -> u8
-    requires { ⌜ (a ≤ e) × (e ≤ length (now l)) ⌝ }
-    ensures { λ r. ⌜ r ≡ kindOf (slice a e (now (l .entry))) ⌝ }
-{
-    if is_same(l, a, e, b"true") {
-        return 1;
-    }
-    if is_same(l, a, e, b"false") {
-        return 2;
-    }
-    if is_same(l, a, e, b"if") {
-        return 3;
-    }
-    if is_same(l, a, e, b"never") {
-        return 4;
-    }
-    if is_same(l, a, e, b"seen") {
-        return 5;
-    }
-    if is_same(l, a, e, b"query") {
-        return 6;
-    }
-    0
 }

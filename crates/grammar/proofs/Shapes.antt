@@ -5,23 +5,25 @@
 --   ClauseShaped k  the literals of a clause of kind k are as many as it takes
 --   Shaped n x      the bodies of the line x have a literal, its query at most n / 2 nodes
 -- Assumes nothing.
-use mathlib.Core.Path.{_≡_, refl, ap, _∙_}
-use mathlib.Core.Bool.{Bool, true, false}
-use mathlib.Core.List.{List, [], _∷_}
-use mathlib.Core.Option.{Option}
+use mathlib.Core.Path.{_≡_, refl, sym}
+use mathlib.Core.Bool.{true, true≢false}
+use mathlib.Core.List.{List, [], _∷_, _++_}
+use mathlib.Core.Logic.{inl, inr}
 use Prim.Native.Nat.{ℕ, zero, suc, _*_, _≤_}
 use native.Mathlib.Omega.{arith}
+use lib.Dec.{ltb}
 use lib.ListN.{length}
-use Rattle.words.specs.Choice.{pick}
+use borrow.Author.Tests.{ltb-true, eqb-true}
 use Rattle.text.specs.Tokens.{Token}
-use Rattle.formulas.specs.Parsing.{Items, sizeOf}
-use Rattle.formulas.specs.Keyword.{kindOf}
-use Rattle.formulas.specs.Sentence.{Sentence}
-use Rattle.formulas.specs.Items.{Item, itemsOf, withFirst}
+use Rattle.text.proofs.ByteLaws.{and-true-both}
+use Rattle.formulas.specs.Parsing.{sizeOf}
+use Rattle.formulas.specs.Sentence.{tokensOf}
+use Rattle.formulas.specs.Items.{Item, itemsOf}
 use Rattle.formulas.proofs.Sizes.{formula-size}
-use Rattle.grammar.specs.Line.{Literal, Line}
-use Rattle.grammar.specs.LineOf.{literalsOf, withBody, withOnly, isEnd, named, ofKind, withItems}
+use Rattle.formulas.proofs.Spelling.{tokensOf-read}
+use Rattle.grammar.specs.Line.{Literal, Line, lineTokens, areNamed, takes, isLine}
 use Rattle.grammar.specs.LineOf.{lineOf}
+use Rattle.grammar.proofs.Spelling.{Right, line-right}
 
 abbrev pub Bodied : List Literal → Type 0
 Bodied [] = ⊥
@@ -42,66 +44,38 @@ Shaped n (Line.never ls) = Bodied ls
 Shaped n (Line.seen x) = Unit {0}
 Shaped n (Line.query f) = 2 * sizeOf f ≤ n
 
-module _ (n : ℕ) where
-  body-shaped : (line : List Literal → Line) (x : Option (List Literal))
-      → ((ls : List Literal) → Bodied ls → Shaped n (line ls))
-      → Shaped n (withBody line x)
-  body-shaped line Option.none h = tt
-  body-shaped line (Option.some []) h = tt
-  body-shaped line (Option.some (a ∷ ls)) h = h (a ∷ ls) tt
+no-literal : (ls : List Literal) → length ls ≡ 0 → ls ≡ []
+no-literal [] h = refl
+no-literal (x ∷ ls) h = absurd (omega arith)
 
-  seen-shaped : (x : Option (List Literal)) → Shaped n (withOnly Line.seen x)
-  seen-shaped Option.none = tt
-  seen-shaped (Option.some []) = tt
-  seen-shaped (Option.some (a ∷ [])) = tt
-  seen-shaped (Option.some (a ∷ (b ∷ ls))) = tt
+some-literal : (ls : List Literal) → ltb 0 (length ls) ≡ true → Bodied ls
+some-literal [] h = absurd (omega (arith, ltb-true 0 0 h))
+some-literal (x ∷ ls) h = tt
 
-  picked-shaped : (b : Bool) (x : Line) → Shaped n x → Shaped n (pick b x Line.noForm)
-  picked-shaped true x h = h
-  picked-shaped false x h = tt
+clause-shaped : (k : ℕ) (ls : List Literal) → ltb k 3 ≡ true → takes k (length ls) ≡ true → ClauseShaped k ls
+clause-shaped zero ls i h = no-literal ls (eqb-true (length ls) 0 h)
+clause-shaped (suc zero) ls i h = no-literal ls (eqb-true (length ls) 0 h)
+clause-shaped (suc (suc zero)) ls i h = some-literal ls h
+clause-shaped (suc (suc (suc k))) ls i h = absurd (omega (arith, ltb-true (suc (suc (suc k))) 3 i))
 
-  named-shaped : (line : List ℕ → Line) (f : Sentence) → ((w : List ℕ) → Shaped n (line w)) → Shaped n (named line f)
-  named-shaped line (Sentence.name w) h = h w
-  named-shaped line (Sentence.negation f) h = tt
-  named-shaped line (Sentence.joined k f g) h = tt
+shaped : (x : Line) → isLine x ≡ true → Shaped (length (lineTokens x)) x
+unfolding isLine lineTokens itemsOf
+shaped Line.skipped h = tt
+shaped Line.noForm h = tt
+shaped (Line.clause k w ls) h =
+    let a = and-true-both _ _ h in
+    let b = and-true-both _ _ (a .0) in
+    let c = and-true-both _ _ (b .0) in
+    clause-shaped k ls (c .0) (a .1)
+shaped (Line.never ls) h = some-literal ls (and-true-both (areNamed ls) (takes 3 (length ls)) h .1)
+shaped (Line.seen x) h = tt
+shaped (Line.query f) h =
+    let e = tokensOf-read f (Token.closing ∷ []) h in
+    omega (arith, formula-size (tokensOf f ++ (Token.closing ∷ [])) f (Item.closing ∷ []) e)
 
-  -- the first of the items is a formula with at most n / 2 nodes, if it is one
-  abbrev First : List Item → Type 0
-  First m = (f : Sentence) (l : List Item) → m ≡ Item.formula f ∷ l → 2 * sizeOf f ≤ n
-
-  formula-shaped : (line : Sentence → List Item → Line) (m : List Item) → First m
-      → ((f : Sentence) (l : List Item) → 2 * sizeOf f ≤ n → Shaped n (line f l))
-      → Shaped n (withFirst Line.noForm line m)
-  formula-shaped line [] s h = tt
-  formula-shaped line (Item.closing ∷ m) s h = tt
-  formula-shaped line (Item.formula f ∷ m) s h = h f m (s f m refl)
-
-  kind-shaped : (k : ℕ) (m : List Item) → First m → Shaped n (ofKind k m)
-  kind-shaped zero m s = tt
-  kind-shaped (suc zero) m s =
-      formula-shaped _ m s (λ f l _. picked-shaped (isEnd l) _ (named-shaped (λ w. Line.clause 0 w []) f (λ w. refl)))
-  kind-shaped (suc (suc zero)) m s =
-      formula-shaped _ m s (λ f l _. picked-shaped (isEnd l) _ (named-shaped (λ w. Line.clause 1 w []) f (λ w. refl)))
-  kind-shaped (suc (suc (suc zero))) m s =
-      formula-shaped _ m s
-      (λ f l _. named-shaped _ f (λ w. body-shaped (Line.clause 2 w) (literalsOf l) (λ ls h. h)))
-  kind-shaped (suc (suc (suc (suc zero)))) m s = body-shaped Line.never (literalsOf m) (λ ls h. h)
-  kind-shaped (suc (suc (suc (suc (suc zero))))) m s = seen-shaped (literalsOf m)
-  kind-shaped (suc (suc (suc (suc (suc (suc k)))))) m s =
-      formula-shaped _ m s (λ f l h. picked-shaped (isEnd l) (Line.query f) h)
-
-  items-shaped : (k : ℕ) (x : Items) → ((m : List Item) → x ≡ Option.some m → First m) → Shaped n (withItems k x)
-  items-shaped k Option.none s = tt
-  items-shaped k (Option.some m) s = kind-shaped k m (s m refl)
+right-shaped : (ts : List Token) (x : Line) → Right ts x → Shaped (length ts) x
+right-shaped ts x (inl e) = rw e tt
+right-shaped ts x (inr r) = rw (r .1) at (shaped x (r .0))
 
 pub line-shaped : (ts : List Token) → Shaped (length ts) (lineOf ts)
-unfolding lineOf
-line-shaped [] = tt
-line-shaped (Token.closing ∷ ts) = tt
-line-shaped (Token.word w ∷ ts) = tt
-line-shaped (Token.opening ∷ []) = tt
-line-shaped (Token.opening ∷ (Token.opening ∷ ts)) = tt
-line-shaped (Token.opening ∷ (Token.closing ∷ ts)) = tt
-line-shaped (Token.opening ∷ (Token.word w ∷ ts)) =
-    items-shaped _ (kindOf w) (itemsOf ts)
-    (λ m e f l q. omega (arith, formula-size ts f l (e ∙ ap Option.some q)))
+line-shaped ts = right-shaped ts (lineOf ts) (line-right ts)
