@@ -1,26 +1,34 @@
--- Formulas at a place of a line: one law for each way out of `closed_form` and `formula_at`. Assumes nothing.
+-- Formulas at a place of a line: one law for each way out of `head_at`, `closed_form` and `formula_at`.
+-- Assumes nothing.
 use mathlib.Core.Path.{_≡_, refl, ap, subst, _∙_}
 use mathlib.Core.Bool.{true, false}
-use mathlib.Core.List.{List}
+use mathlib.Core.List.{List, [], _∷_}
 use Prim.Native.Nat.{ℕ, _+_, _*_, _≤_, _<_, max}
 use native.Mathlib.Omega.{arith}
-use lib.ListN.{length, drop}
+use lib.ListN.{drop}
 use lib.Seq.{slice}
+use denote.Enum.Declared.{tagOf}
+use types.Run.{OneOf}
 use Rattle.text.specs.Tokens.{tokens}
 use Rattle.text.specs.declared.tokens.Next.{Next}
-use Rattle.text.specs.declared.tokens.Next.the-variants.{End, Open, Close, Word}
+use Rattle.text.specs.declared.tokens.Next.the-variants.{Open, Close, Word}
 use Rattle.text.specs.Scanning.{Found}
 use Rattle.text.specs.Words.{beginsWithLetter}
-use Rattle.formulas.specs.Sentence.{Sentence}
+use Rattle.text.proofs.tokens.Next.{the-type}
+use Rattle.formulas.specs.Sentence.{Sentence, depthOf}
+use Rattle.formulas.specs.Keyword.{nodeOf}
 use Rattle.formulas.specs.Items.{prepend, Item, withForm, itemsOf}
+use Rattle.formulas.specs.declared.formula.Head.{Head}
+use Rattle.formulas.specs.declared.formula.Head.the-variants.{NoHead}
 use Rattle.formulas.specs.declared.formula.Parse.{Parse}
 use Rattle.formulas.specs.declared.formula.Parse.the-variants.{NoFormula, Formula}
-use Rattle.formulas.specs.Keyword.{nodeOf}
-use Rattle.formulas.specs.Parsing.{sizeOf, FormulaAt, Parsed, closedAmong, Closed}
-use Rattle.formulas.specs.Sentence.{depthOf}
+use Rattle.formulas.specs.Parsing.{sizeOf, NameAt, FormAt, HeadAt, FormulaAt, Parsed, closedAmong, Closed}
+use Rattle.formulas.proofs.Keywords.{node-ge}
 use Rattle.formulas.proofs.Sentences.{depth-le-size}
-use Rattle.formulas.proofs.Items.{closed-among, opening-unclosed, word-unclosed, closing-begins, other-begins}
-use Rattle.formulas.proofs.Items.{operand-begins, second-begins, negation-items, joined-items}
+use Rattle.formulas.proofs.Reading.{items-closing, items-name, items-word, items-form}
+use Rattle.formulas.proofs.FirstItem.{found-behind}
+use Rattle.formulas.proofs.Forms.{closed-among, negation-items, joined-items}
+use Rattle.formulas.proofs.Forms.{other-begins, operand-begins, second-begins}
 
 -- a formula's depth is at most the bytes it takes
 pub depth-le-bytes : {l : List ℕ} {at next d : ℕ} → FormulaAt l at next d → at + d ≤ next
@@ -30,93 +38,72 @@ depth-le-bytes r = omega (arith, depth-le-size (r .sentence), r .room, r .depth-
 pub found-as : {l : List ℕ} {at : ℕ} {r s : Next} → Found l at r → r ≡ s → Found l at s
 found-as t e = subst (Found _ _) e t
 
+pub head-as : (l : List ℕ) (at : ℕ) {r s : Head} → HeadAt l at r → r ≡ s → HeadAt l at s
+head-as l at t e = subst (HeadAt l at) e t
+
 pub parsed-as : (l : List ℕ) (at : ℕ) {r s : Parse} → Parsed l at r → r ≡ s → Parsed l at s
 parsed-as l at t e = subst (Parsed l at) e t
 
-module _ (l : List ℕ) (at : ℕ) where
-  -- The ways out of `closed_form`
+-- The ways out of `head_at`
 
-  pub closing-closed : (d next : ℕ) → Found l at (Close next) → Closed l at d (Formula next d)
-  unfolding itemsOf
-  closing-closed d next t = (
-    refl,
-    record {
-      items-are = λ f. rw (t .tokens-are) (closed-among f (itemsOf (tokens (drop next l))));
-      onward = t .inside .0;
-      within = t .inside .1;
-    },
-  )
-
-  pub end-closed : Found l at End → Closed l at 0 NoFormula
-  unfolding itemsOf
-  end-closed t f = rw (t .tokens-are)
-
-  pub opening-closed : (i : ℕ) → Found l at (Open i) → Closed l at 0 NoFormula
-  opening-closed i t f = rw (t .tokens-are) (opening-unclosed f (tokens (drop i l)))
-
-  pub word-closed : (a e : ℕ) → Found l at (Word a e) → Closed l at 0 NoFormula
-  word-closed a e t f = rw (t .tokens-are) (word-unclosed f (slice a e l) (tokens (drop e l)))
-
-  -- The ways out of `formula_at`, but for forms with a node
-
-  pub end-parsed : Found l at End → Parsed l at NoFormula
-  unfolding itemsOf
-  end-parsed t = rw (t .tokens-are)
-
-  pub closing-parsed : (i : ℕ) → Found l at (Close i) → Parsed l at NoFormula
-  unfolding itemsOf
-  closing-parsed i t = rw (t .tokens-are) (closing-begins (itemsOf (tokens (drop i l))))
-
-  pub name-parsed : (a e : ℕ) → Found l at (Word a e) → beginsWithLetter (slice a e l) ≡ true
-      → Parsed l at (Formula e 1)
-  unfolding itemsOf depthOf sizeOf
-  name-parsed a e t h = record {
-    sentence = Sentence.name (slice a e l);
-    items-are = rw (t .tokens-are, h);
-    depth-is = refl;
-    onward = omega (arith, t .inside .0, t .inside .1);
+module _ {l : List ℕ} {at a e : ℕ} (t : Found l at (Word a e)) where
+  pub name-head : beginsWithLetter (slice a e l) ≡ true → NameAt l at a e
+  name-head h = record {
+    items-are = rw (t .tokens-are) (items-name (tokens (drop e l)) (slice a e l) h);
+    onward = t .inside .0;
+    filled = t .inside .1;
     within = t .inside .2;
-    room = omega (arith, t .inside .0, t .inside .1);
   }
 
-  pub word-parsed : (a e : ℕ) → Found l at (Word a e) → beginsWithLetter (slice a e l) ≡ false → Parsed l at NoFormula
-  unfolding itemsOf
-  word-parsed a e t h = rw (t .tokens-are, h)
+  pub word-head : beginsWithLetter (slice a e l) ≡ false → HeadAt l at NoHead
+  word-head h = rw (t .tokens-are, items-word (tokens (drop e l)) (slice a e l) h)
 
-  module _ (i : ℕ) (t : Found l at (Open i)) where
-    pub opening-end-parsed : Found l i End → Parsed l at NoFormula
-    unfolding itemsOf
-    opening-end-parsed u = rw (t .tokens-are, u .tokens-are)
+module _ {l : List ℕ} {at i : ℕ} (t : Found l at (Open i)) where
+  pub opening-head : {r : Next} → Found l i r → OneOf (0 ∷ (1 ∷ (2 ∷ []))) (tagOf the-type r) → HeadAt l at NoHead
+  opening-head u h = rw (t .tokens-are, found-behind u h)
 
-    pub opening-opening-parsed : (j : ℕ) → Found l i (Open j) → Parsed l at NoFormula
-    unfolding itemsOf
-    opening-opening-parsed j u = rw (t .tokens-are, u .tokens-are)
+  module _ {a e k : ℕ} (u : Found l i (Word a e)) (q : k ≡ nodeOf (slice a e l)) where
+    form-items : itemsOf (tokens (drop at l)) ≡ withForm k (itemsOf (tokens (drop e l)))
+    form-items = rw (t .tokens-are, u .tokens-are, q) (items-form (tokens (drop e l)) (slice a e l))
 
-    pub opening-closing-parsed : (j : ℕ) → Found l i (Close j) → Parsed l at NoFormula
-    unfolding itemsOf
-    opening-closing-parsed j u = rw (t .tokens-are, u .tokens-are)
+    pub other-head : 68 < k → HeadAt l at NoHead
+    other-head h = rw form-items (other-begins k (itemsOf (tokens (drop e l))) h)
 
--- a form with node k begins at place at, and its operands behind place e
-pub record Headed (l : List ℕ) (at k e : ℕ) : Type 0 where
-  pub items-are : itemsOf (tokens (drop at l)) ≡ withForm k (itemsOf (tokens (drop e l)))
-  pub onward : at + 2 ≤ e
-  pub within : e ≤ length l
+    pub form-head : k ≤ 68 → FormAt l at k e
+    form-head h = record {
+      items-are = form-items;
+      low = rw q (node-ge _);
+      high = h;
+      onward = omega (arith, t .inside .0, u .inside .0, u .inside .1);
+      within = u .inside .2;
+    }
 
-pub headed : (l : List ℕ) (at i a e k : ℕ) → Found l at (Open i) → Found l i (Word a e) → k ≡ nodeOf (slice a e l)
-    → Headed l at k e
-unfolding itemsOf
-headed l at i a e k t u q = record {
-  items-are = rw (t .tokens-are, u .tokens-are, q);
-  onward = omega (arith, t .inside .0, u .inside .0, u .inside .1);
-  within = u .inside .2;
+-- The way out of `closed_form` with a formula
+
+pub closing-closed : (l : List ℕ) (at d next : ℕ) → Found l at (Close next) → Closed l at d (Formula next d)
+closing-closed l at d next t = (
+  refl,
+  record {
+    items-are = λ f. rw (t .tokens-are, items-closing) (closed-among f (itemsOf (tokens (drop next l))));
+    onward = t .inside .0;
+    within = t .inside .1;
+  },
+)
+
+-- The ways out of `formula_at`
+
+pub name-parsed : {l : List ℕ} {at a e : ℕ} → NameAt l at a e → FormulaAt l at e 1
+unfolding depthOf sizeOf
+name-parsed {l} {at} {a} {e} t = record {
+  sentence = Sentence.name (slice a e l);
+  items-are = t .items-are;
+  depth-is = refl;
+  onward = omega (arith, t .onward, t .filled);
+  within = t .within;
+  room = omega (arith, t .onward, t .filled);
 }
 
--- The ways out of `formula_at` for a form with a node
-
-module _ (l : List ℕ) (at k e : ℕ) (q : Headed l at k e) where
-  pub other-parsed : 68 < k → Parsed l at NoFormula
-  other-parsed h = rw (q .items-are) (other-begins k (itemsOf (tokens (drop e l))) h)
-
+module _ {l : List ℕ} {at k e : ℕ} (q : FormAt l at k e) where
   pub operand-parsed : Parsed l e NoFormula → Parsed l at NoFormula
   operand-parsed h = rw (q .items-are) (operand-begins k (itemsOf (tokens (drop e l))) h)
 
@@ -134,7 +121,7 @@ module _ (l : List ℕ) (at k e : ℕ) (q : Headed l at k e) where
     room = omega (arith, q .onward, c .1 .onward);
   }
 
-  module _ (j d : ℕ) (o : FormulaAt l e j d) where
+  module _ {j d : ℕ} (o : FormulaAt l e j d) where
     pub negation-parsed : (r : Parse) → k ≡ 64 → Closed l j (d + 1) r → Parsed l at r
     unfolding depthOf sizeOf
     negation-parsed r z c =
@@ -146,12 +133,12 @@ module _ (l : List ℕ) (at k e : ℕ) (q : Headed l at k e) where
     second-parsed n h =
         rw (q .items-are, o .items-are) (second-begins k (o .sentence) (itemsOf (tokens (drop j l))) n h)
 
-    pub joined-parsed : (i d' m : ℕ) (r : Parse) → k ≤ 68 → (k ≡ 64 → ⊥) → FormulaAt l j i d' → m ≡ max d d'
+    pub joined-parsed : {i d' m : ℕ} (r : Parse) → (k ≡ 64 → ⊥) → FormulaAt l j i d' → m ≡ max d d'
         → Closed l i (m + 1) r → Parsed l at r
     unfolding depthOf sizeOf
-    joined-parsed i d' m r z n p em c =
+    joined-parsed {i} {d'} {m} r n p em c =
         closed-parsed (Sentence.joined k (o .sentence) (p .sentence)) i (m + 1) r c
         (q .items-are ∙ ap (withForm k) (o .items-are ∙ ap (prepend (Item.formula (o .sentence))) (p .items-are))
-        ∙ joined-items k (o .sentence) (p .sentence) (itemsOf (tokens (drop i l))) z n)
+        ∙ joined-items k (o .sentence) (p .sentence) (itemsOf (tokens (drop i l))) (q .high) n)
         (omega (arith, o .depth-is, p .depth-is)) (omega (arith, o .onward, p .onward))
         (omega (arith, o .room, p .room))

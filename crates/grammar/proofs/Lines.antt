@@ -1,4 +1,8 @@
--- Laws of lines: one for each way out of the functions that find a line's form.
+-- Laws of the forms of lines: one for each way out of the functions that find them, and what a form brings.
+--
+--   endsItems       (of Parsing) the line's closing bracket is all that is left
+--   Body k x        the literals of x, as many as a line of kind k takes
+--   bringsOf x      what a line of the form x brings
 -- Assumes nothing.
 use mathlib.Core.Path.{_≡_, refl, sym, ap, _∙_, subst}
 use mathlib.Core.Bool.{true, false, true≢false}
@@ -6,32 +10,38 @@ use mathlib.Core.List.{List, [], _∷_}
 use mathlib.Core.Option.{Option}
 use Prim.Native.Nat.{ℕ, _≤_}
 use native.Mathlib.Omega.{arith}
-use lib.Dec.{eqb}
 use lib.ListN.{length, drop}
 use lib.Seq.{slice}
+use denote.Enum.Declared.{tagOf}
+use types.Run.{OneOf, miss}
 use borrow.Author.Tests.{eqb-true}
 use Rattle.words.specs.Choice.{pick}
 use Rattle.text.specs.Tokens.{Token, tokens}
 use Rattle.text.specs.Words.{beginsWithLetter}
-use Rattle.text.specs.Scanning.{Found}
-use Rattle.text.specs.declared.tokens.Next.the-variants.{Word}
-use Rattle.formulas.specs.Parsing.{Items, beginsFormula, closedAmong, FormulaAt}
+use Rattle.text.specs.Scanning.{Found, firstToken}
+use Rattle.text.specs.declared.tokens.Next.{Next}
+use Rattle.text.specs.declared.tokens.Next.the-variants.{End, Open, Close, Word}
+use Rattle.text.proofs.tokens.Next.{the-type}
 use Rattle.formulas.specs.Sentence.{Sentence}
 use Rattle.formulas.specs.Items.{prepend, Item, itemsOf}
-use Rattle.formulas.proofs.Firsts.{Filled, Unclosed, Unnamed}
+use Rattle.formulas.specs.Parsing.{Items, beginsFormula, closedAmong, FormulaAt, Parsed}
+use Rattle.formulas.specs.declared.formula.Parse.{Parse}
+use Rattle.formulas.specs.declared.formula.Parse.the-variants.{NoFormula, Formula}
+use Rattle.formulas.proofs.Formulas.{found-as, parsed-as}
+use Rattle.formulas.proofs.Firsts.{Filled}
 use Rattle.grammar.specs.Line.{Line, Literal, takes, bringing}
 use Rattle.grammar.specs.LineOf.{withBody, seenOf, withItems, kindOf, lineOf}
-use Rattle.grammar.specs.Parsing.{endsItems, literalsAmong, bodyIn, fitsBody, hasBody, BodyMakes, SeenMakes}
-use Rattle.grammar.specs.Parsing.{QueryMakes, Part, endsLine, FormIs, FormAfter, FormFound, Brought}
+use Rattle.grammar.specs.Parsing.{endsItems, bodyIn, fitsBody, hasBody, BodyMakes, SeenMakes, QueryMakes}
+use Rattle.grammar.specs.Parsing.{endsLine, FormIs, FormAfter, FormFound, Brought}
 use Rattle.grammar.specs.declared.line.Form.{Form}
 use Rattle.grammar.specs.declared.line.Form.the-variants.{Skipped, NoForm, Clause, Never, Seen, Query}
 use Rattle.grammar.specs.declared.line.Brings.{Brings}
-use Rattle.grammar.proofs.Others.{Wordless, Lasting}
-use Rattle.grammar.proofs.Bodies.{lasting-filled}
+use Rattle.grammar.proofs.Others.{found-unclosed, found-unnamed, found-filled}
 use Rattle.grammar.proofs.KindLaws.{fit-body, unfit-body, unfit-kind, no-kind, kind-unnamed, kind-named}
 use Rattle.grammar.proofs.KindLaws.{never-kind, seen-kind}
 
--- the line's closing bracket is all that is left
+-- The ways out of `ends_line`
+
 unclosed-ends : (x : Items) → closedAmong (Sentence.name []) x ≡ Option.none → endsItems x ≡ false
 unclosed-ends Option.none h = refl
 unclosed-ends (Option.some []) h = refl
@@ -43,32 +53,23 @@ closing-filled Option.none h = refl
 closing-filled (Option.some []) h = absurd h
 closing-filled (Option.some (i ∷ l)) h = refl
 
-ends-is : (x : Items) → endsItems x ≡ true → x ≡ Option.some (Item.closing ∷ [])
-ends-is Option.none h = absurd (true≢false (sym h))
-ends-is (Option.some []) h = absurd (true≢false (sym h))
-ends-is (Option.some (Item.formula f ∷ l)) h = absurd (true≢false (sym h))
-ends-is (Option.some (Item.closing ∷ [])) h = refl
-ends-is (Option.some (Item.closing ∷ (i ∷ l))) h = absurd (true≢false (sym h))
+module _ {l : List ℕ} {at : ℕ} {r : Next} (t : Found l at r) where
+  pub ends-unclosed : OneOf (0 ∷ (1 ∷ (3 ∷ []))) (tagOf the-type r) → false ≡ endsLine l at
+  unfolding endsLine
+  ends-unclosed h = sym (unclosed-ends (itemsOf (tokens (drop at l))) (found-unclosed t h .unclosed (Sentence.name [])))
 
-pub ends-unclosed : {ts : List Token} → Unclosed ts → endsItems (itemsOf ts) ≡ false
-ends-unclosed {ts} h = unclosed-ends (itemsOf ts) (h .unclosed (Sentence.name []))
+  module _ {i : ℕ} (e : r ≡ Close i) {s : Next} (u : Found l i s) where
+    pub ends-more : OneOf (1 ∷ (2 ∷ (3 ∷ []))) (tagOf the-type s) → false ≡ endsLine l at
+    unfolding endsLine itemsOf
+    ends-more h =
+        sym (rw (found-as t e .tokens-are) (closing-filled (itemsOf (tokens (drop i l))) (found-filled u h)))
 
-module _ {ts us : List Token} (e : ts ≡ Token.closing ∷ us) where
-  pub ends-closed : us ≡ [] → endsItems (itemsOf ts) ≡ true
-  unfolding itemsOf
-  ends-closed f = rw (e, f)
+    pub ends-last : s ≡ End → true ≡ endsLine l at
+    unfolding endsLine itemsOf
+    ends-last f = sym (rw (found-as t e .tokens-are, found-as u f .tokens-are))
 
-  pub ends-more : Lasting us → endsItems (itemsOf ts) ≡ false
-  unfolding itemsOf
-  ends-more h = rw e (closing-filled (itemsOf us) (lasting-filled us h))
+-- Literals, as many as a line of kind k takes
 
--- a clause by its head and its literals
-pub clause-is : (k : ℕ) {ts us : List Token} {w : List ℕ} → k ≤ 2 → ts ≡ Token.word w ∷ us → beginsWithLetter w ≡ true
-    → withItems k (itemsOf ts) ≡ withBody k (Line.clause k w) (bodyIn us)
-unfolding itemsOf
-clause-is k {us = us} {w = w} i e n = rw (e, n) (kind-named k i w (itemsOf us))
-
--- literals, as many as a line of kind k takes
 record Body (k : ℕ) (x : Option (List Literal)) : Type 0 where
   literals : List Literal
   literals-are : x ≡ Option.some literals
@@ -84,8 +85,9 @@ one-literal (x ∷ []) h = (x, refl)
 one-literal (x ∷ (y ∷ ls)) h = absurd (omega arith)
 
 module _ {l : List ℕ} {at : ℕ} {x : Line} where
-  pub body-makes : (k : ℕ) (make : List Literal → Line) → x ≡ withBody k make (bodyIn (tokens (drop at l)))
+  body-makes : (k : ℕ) (make : List Literal → Line) → x ≡ withBody k make (bodyIn (tokens (drop at l)))
       → hasBody l at k ≡ true → BodyMakes l at make x
+  unfolding hasBody
   body-makes k make e h =
       let b = body-of k (bodyIn (tokens (drop at l))) h in
       record {
@@ -94,115 +96,147 @@ module _ {l : List ℕ} {at : ℕ} {x : Line} where
         line-is = e ∙ ap (withBody k make) (b .literals-are) ∙ fit-body k make (b .literals) (b .fits);
       }
 
-  pub seen-makes : x ≡ withBody 4 seenOf (bodyIn (tokens (drop at l))) → hasBody l at 4 ≡ true → SeenMakes l at x
+  seen-makes : x ≡ withBody 4 seenOf (bodyIn (tokens (drop at l))) → hasBody l at 4 ≡ true → SeenMakes l at x
+  unfolding hasBody
   seen-makes e h =
       let b = body-of 4 (bodyIn (tokens (drop at l))) h in
       let o = one-literal (b .literals) (eqb-true (length (b .literals)) 1 (b .fits)) in
       let f = b .literals-are ∙ ap Option.some (o .1) in
       record { reading = o .0; literals-are = f; line-is = e ∙ ap (withBody 4 seenOf) f }
 
--- a query
+-- The ways out of `clause_form`
+
+pub clause-is : (k : ℕ) {ts us : List Token} {w : List ℕ} → k ≤ 2 → ts ≡ Token.word w ∷ us → beginsWithLetter w ≡ true
+    → withItems k (itemsOf ts) ≡ withBody k (Line.clause k w) (bodyIn us)
+unfolding itemsOf
+clause-is k {us = us} {w = w} i e n = rw (e, n) (kind-named k i w (itemsOf us))
+
+module _ {l : List ℕ} {at k : ℕ} {r : Next} where
+  pub clause-wordless : Found l at r → k ≤ 2 → OneOf (0 ∷ (1 ∷ (2 ∷ []))) (tagOf the-type r) → FormAfter l at k NoForm
+  clause-wordless t i h = record { form-is = kind-unnamed k i (itemsOf (tokens (drop at l))) (found-unnamed t h) }
+
+  module _ {a e : ℕ} (w : r ≡ Word a e) (t : Found l at r) (i : k ≤ 2) where
+    pub clause-word : beginsWithLetter (slice a e l) ≡ false → FormAfter l at k NoForm
+    unfolding itemsOf
+    clause-word h = record {
+      form-is = kind-unnamed k i (itemsOf (tokens (drop at l))) (rw (found-as t w .tokens-are, h));
+    }
+
+    module _ (n : beginsWithLetter (slice a e l) ≡ true) where
+      pub clause-unfit : hasBody l e k ≡ false → FormAfter l at k NoForm
+      unfolding hasBody
+      clause-unfit h = record {
+        form-is = clause-is k i (found-as t w .tokens-are) n ∙ unfit-body k _ (bodyIn (tokens (drop e l))) h;
+      }
+
+      pub clause-found : hasBody l e k ≡ true → FormAfter l at k (Clause k a e e)
+      clause-found h =
+          let g = found-as t w in
+          let makes = body-makes k (Line.clause k (slice a e l)) (clause-is k i (g .tokens-are) n) h in
+          record { form-is = (i, (g .inside .1, g .inside .2), makes) }
+
+-- The ways out of `query_form`
+
 query-line : (f : Sentence) (x : Items)
     → withItems 5 (prepend (Item.formula f) x) ≡ pick (endsItems x) (Line.query f) Line.noForm
 query-line f Option.none = refl
 query-line f (Option.some l) = refl
 
-pub query-none : (x : Items) → beginsFormula x ≡ false → withItems 5 x ≡ Line.noForm
-query-none Option.none h = refl
-query-none (Option.some []) h = refl
-query-none (Option.some (Item.closing ∷ l)) h = refl
-query-none (Option.some (Item.formula f ∷ l)) h = absurd (true≢false h)
+none-line : (x : Items) → beginsFormula x ≡ false → withItems 5 x ≡ Line.noForm
+none-line Option.none h = refl
+none-line (Option.some []) h = refl
+none-line (Option.some (Item.closing ∷ l)) h = refl
+none-line (Option.some (Item.formula f ∷ l)) h = absurd (true≢false h)
 
-module _ {l : List ℕ} {at next d : ℕ} (q : FormulaAt l at next d) where
-  pub query-unended : endsLine l next ≡ false → withItems 5 (itemsOf (tokens (drop at l))) ≡ Line.noForm
-  query-unended h = rw (q .items-are) (query-line (q .sentence) (itemsOf (tokens (drop next l))) ∙ rw h)
+ends-is : (x : Items) → endsItems x ≡ true → x ≡ Option.some (Item.closing ∷ [])
+ends-is Option.none h = absurd (true≢false (sym h))
+ends-is (Option.some []) h = absurd (true≢false (sym h))
+ends-is (Option.some (Item.formula f ∷ l)) h = absurd (true≢false (sym h))
+ends-is (Option.some (Item.closing ∷ [])) h = refl
+ends-is (Option.some (Item.closing ∷ (i ∷ l))) h = absurd (true≢false (sym h))
 
-  pub query-ended : endsLine l next ≡ true → QueryMakes l at d (withItems 5 (itemsOf (tokens (drop at l))))
-  query-ended h =
-      let e = ap (prepend (Item.formula (q .sentence))) (ends-is (itemsOf (tokens (drop next l))) h) in
-      let f = q .items-are ∙ e in
-      record { sentence = q .sentence; items-are = f; depth-is = q .depth-is; line-is = ap (withItems 5) f }
+module _ {l : List ℕ} {at : ℕ} {r : Parse} where
+  pub query-none : r ≡ NoFormula → Parsed l at r → FormAfter l at 5 NoForm
+  query-none e p = record { form-is = none-line (itemsOf (tokens (drop at l))) (parsed-as l at p e) }
 
-pub form-as : {l : List ℕ} {at k j : ℕ} {r : Form} → FormAfter l at k r → j ≡ k → FormAfter l at j r
-form-as {l} {at} {r = r} f e = subst (λ k. FormAfter l at k r) (sym e) f
+  module _ {next d : ℕ} (e : r ≡ Formula next d) (p : Parsed l at r) where
+    formula : FormulaAt l at next d
+    formula = parsed-as l at p e
 
--- the line of a clause, its head from place a to place e
-pub record ClauseAt (l : List ℕ) (at k a e : ℕ) : Type 0 where
-  pub kind-le : k ≤ 2
-  pub part : Part l a e
-  pub line-is : withItems k (itemsOf (tokens (drop at l)))
-      ≡ withBody k (Line.clause k (slice a e l)) (bodyIn (tokens (drop e l)))
+    pub query-unended : endsLine l next ≡ false → FormAfter l at 5 NoForm
+    unfolding endsLine
+    query-unended h = record {
+      form-is = rw (formula .items-are) (query-line (formula .sentence) (itemsOf (tokens (drop next l))) ∙ rw h);
+    }
 
-module _ {l : List ℕ} {at k : ℕ} (i : k ≤ 2) where
-  pub clause-unnamed : Unnamed (tokens (drop at l)) → FormAfter l at k NoForm
-  clause-unnamed h = record { form-is = kind-unnamed k i (itemsOf (tokens (drop at l))) (h .unnamed) }
+    pub query-found : endsLine l next ≡ true → FormAfter l at 5 (Query at d)
+    unfolding endsLine
+    query-found h =
+        let q = formula in
+        let f = q .items-are ∙ ap (prepend (Item.formula (q .sentence))) (ends-is (itemsOf (tokens (drop next l))) h) in
+        record {
+          form-is = record {
+            sentence = q .sentence;
+            items-are = f;
+            depth-is = q .depth-is;
+            line-is = ap (withItems 5) f;
+          };
+        }
 
-  pub clause-at : {a e : ℕ} → Found l at (Word a e) → beginsWithLetter (slice a e l) ≡ true → ClauseAt l at k a e
-  clause-at t h = record {
-    kind-le = i;
-    part = (t .inside .1, t .inside .2);
-    line-is = clause-is k i (t .tokens-are) h;
-  }
+-- The ways out of `form_of_kind`
 
-module _ {l : List ℕ} {at k a e : ℕ} (c : ClauseAt l at k a e) where
-  pub clause-unfit : hasBody l e k ≡ false → FormAfter l at k NoForm
-  clause-unfit h = record {
-    form-is = c .line-is ∙ unfit-body k (Line.clause k (slice a e l)) (bodyIn (tokens (drop e l))) h;
-  }
+module _ {l : List ℕ} {at k : ℕ} where
+  pub form-as : {j : ℕ} {r : Form} → k ≡ j → FormAfter l at j r → FormAfter l at k r
+  form-as {r = r} e f = subst (λ j. FormAfter l at j r) (sym e) f
 
-  pub clause-form : hasBody l e k ≡ true → FormAfter l at k (Clause k a e e)
-  clause-form h = record {
-    form-is = (c .kind-le, c .part, body-makes k (Line.clause k (slice a e l)) (c .line-is) h);
-  }
+  pub form-unfit : 3 ≤ k → (k ≡ 5 → ⊥) → hasBody l at k ≡ false → FormAfter l at k NoForm
+  unfolding hasBody
+  form-unfit i n h = record { form-is = unfit-kind k (itemsOf (tokens (drop at l))) i n h }
 
-module _ (l : List ℕ) (at : ℕ) {k : ℕ} where
-  pub unfit-form : 3 ≤ k → (k ≡ 5 → ⊥) → hasBody l at k ≡ false → FormAfter l at k NoForm
-  unfit-form i n h = record { form-is = unfit-kind k (itemsOf (tokens (drop at l))) i n h }
+  pub form-never : k ≡ 3 → hasBody l at k ≡ true → FormAfter l at k (Never at)
+  form-never e h =
+      let makes = body-makes 3 Line.never (never-kind (itemsOf (tokens (drop at l)))) (rw e at h) in
+      form-as e (record { form-is = makes })
 
-  pub other-form : 6 ≤ k → FormAfter l at k NoForm
-  other-form i = record { form-is = no-kind k (itemsOf (tokens (drop at l))) i }
+  pub form-seen : k ≡ 4 → hasBody l at k ≡ true → FormAfter l at k (Seen at)
+  form-seen e h =
+      form-as e (record { form-is = seen-makes (seen-kind (itemsOf (tokens (drop at l)))) (rw e at h) })
 
-  pub never-form : k ≡ 3 → hasBody l at k ≡ true → FormAfter l at k (Never at)
-  never-form e h =
-      form-as (record { form-is = body-makes 3 Line.never (never-kind (itemsOf (tokens (drop at l)))) (rw e at h) }) e
+  pub form-other : 3 ≤ k → (k ≡ 3 → ⊥) → (k ≡ 4 → ⊥) → (k ≡ 5 → ⊥) → FormAfter l at k NoForm
+  form-other i a b c = record { form-is = no-kind k (itemsOf (tokens (drop at l))) (omega arith) }
 
-  pub seen-form : k ≡ 4 → hasBody l at k ≡ true → FormAfter l at k (Seen at)
-  seen-form e h = form-as (record { form-is = seen-makes (seen-kind (itemsOf (tokens (drop at l)))) (rw e at h) }) e
+-- The ways out of `form_of`
 
--- a line by its first tokens
-module _ {ts : List Token} where
-  pub line-end : ts ≡ [] → lineOf ts ≡ Line.skipped
-  unfolding lineOf
-  line-end e = rw e
-
-  module _ {us : List Token} where
-    pub line-closing : ts ≡ Token.closing ∷ us → lineOf ts ≡ Line.noForm
-    unfolding lineOf
-    line-closing e = rw e
-
-    pub line-word : {w : List ℕ} → ts ≡ Token.word w ∷ us → lineOf ts ≡ Line.noForm
-    unfolding lineOf
-    line-word e = rw e
-
-opened-wordless : (ts : List Token) → Wordless ts → lineOf (Token.opening ∷ ts) ≡ Line.noForm
+opened-line : (l : List ℕ) (r : Next) → OneOf (0 ∷ (1 ∷ (2 ∷ []))) (tagOf the-type r)
+    → lineOf (Token.opening ∷ firstToken l r) ≡ Line.noForm
 unfolding lineOf
-opened-wordless [] h = refl
-opened-wordless (Token.opening ∷ ts) h = refl
-opened-wordless (Token.closing ∷ ts) h = refl
-opened-wordless (Token.word w ∷ ts) h = absurd h
+opened-line l End h = refl
+opened-line l (Open n) h = refl
+opened-line l (Close n) h = refl
+opened-line l (Word a e) h = absurd (miss (0 ∷ (1 ∷ (2 ∷ []))) 3 tt h)
 
-module _ {ts us : List Token} (e : ts ≡ Token.opening ∷ us) where
-  pub line-wordless : Wordless us → lineOf ts ≡ Line.noForm
-  line-wordless h = rw e (opened-wordless us h)
-
-  pub line-kind : {vs : List Token} {w : List ℕ} → us ≡ Token.word w ∷ vs
-      → lineOf ts ≡ withItems (kindOf w) (itemsOf vs)
+module _ {l : List ℕ} {r : Next} (t : Found l 0 r) where
+  pub line-skipped : r ≡ End → FormFound l Skipped
   unfolding lineOf
-  line-kind f = rw (e, f)
+  line-skipped e = record { form-is = rw (found-as t e .tokens-are) }
 
-pub form-found : {l : List ℕ} {at k : ℕ} {r : Form} → FormAfter l at k r
-    → lineOf (tokens l) ≡ withItems k (itemsOf (tokens (drop at l))) → FormFound l r
-form-found {l} {r = r} f e = record { form-is = subst (FormIs l r) (sym e) (f .form-is) }
+  pub line-closing : {i : ℕ} → r ≡ Close i → FormFound l NoForm
+  unfolding lineOf
+  line-closing e = record { form-is = rw (found-as t e .tokens-are) }
+
+  pub line-word : {a e : ℕ} → r ≡ Word a e → FormFound l NoForm
+  unfolding lineOf
+  line-word e = record { form-is = rw (found-as t e .tokens-are) }
+
+  module _ {i : ℕ} (o : r ≡ Open i) {s : Next} (u : Found l i s) where
+    pub line-wordless : OneOf (0 ∷ (1 ∷ (2 ∷ []))) (tagOf the-type s) → FormFound l NoForm
+    line-wordless h = record { form-is = rw (found-as t o .tokens-are, u .tokens-are) (opened-line l s h) }
+
+    pub line-found : {a e k : ℕ} {x : Form} → s ≡ Word a e → k ≡ kindOf (slice a e l) → FormAfter l e k x → FormFound l x
+    unfolding lineOf
+    line-found {e = e} {x = x} w q f = record {
+      form-is = rw (found-as t o .tokens-are, found-as u w .tokens-are, ← q) (f .form-is);
+    }
 
 -- What a line of a form brings
 

@@ -64,7 +64,7 @@ abbrev pub fitsBody : ℕ → Option (List Literal) → Bool
 fitsBody k Option.none = false
 fitsBody k (Option.some ls) = takes k (length ls)
 
-abbrev pub hasBody : List ℕ → ℕ → ℕ → Bool
+unfoldable pub hasBody : List ℕ → ℕ → ℕ → Bool
 hasBody l at k = fitsBody k (bodyIn (tokens (drop at l)))
 
 -- the literals from place at on make the line x
@@ -103,7 +103,7 @@ pub record FormAfter (l : List ℕ) (at kind : ℕ) (r : Form) : Type 0 where
   pub form-is : FormIs l r (withItems kind (itemsOf (tokens (drop at l))))
 
 -- a closing bracket is all that is left of the line from place at on
-abbrev pub endsLine : List ℕ → ℕ → Bool
+unfoldable pub endsLine : List ℕ → ℕ → Bool
 endsLine l at = endsItems (itemsOf (tokens (drop at l)))
 
 pub record FormFound (l : List ℕ) (r : Form) : Type 0 where

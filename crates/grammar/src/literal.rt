@@ -45,10 +45,10 @@ pub fn literal(l: &[u8], at: usize) -> Lit
     match token(l, at) {
         Next::End => Lit::NoLiteral,
         Next::Word(a, e) => {
-            if is_name(l, a, e) {
-                return Lit::Literal(false, a, e, e);
+            if !is_name(l, a, e) {
+                return Lit::NoLiteral;
             }
-            Lit::NoLiteral
+            Lit::Literal(false, a, e, e)
         }
         Next::Open(i) => negated_name(l, i),
         Next::Close(i) => {

@@ -5,6 +5,8 @@
 -- Places: the place of a word among words.
 -- LineLaws: the lines of a file.
 -- TokenLaws: the words and brackets of a line.
+-- TokenCounts: a line has at most as many tokens as bytes.
+-- NameLaws: the names of tokens, by the first of them.
 -- Words: what the words of a line are made of.
 -- Names: the names of a line.
 -- Places: the place of a word among words.
@@ -15,6 +17,8 @@ pub mod Same
 pub mod Places
 pub mod LineLaws
 pub mod TokenLaws
+pub mod TokenCounts
+pub mod NameLaws
 pub mod Words
 pub mod Names
 pub mod Places

@@ -1,7 +1,8 @@
 -- `keyword::place_of` meets its contract. The invariant: the words that are not passed stand in t. Assumes nothing.
 use borrow.Author.Needs.{needs}
 use mathlib.Core.Path.{sym, _∙_}
-use Prim.Native.Nat.{_-_, _≤_}
+use mathlib.Core.List.{List}
+use Prim.Native.Nat.{ℕ, _-_, _≤_}
 use native.Mathlib.Omega.{arith}
 use lib.ListN.{length}
 use lib.Seq.{slice}
@@ -17,14 +18,17 @@ Inv-loop l a e words n t₀ i₀ t i = Ahead t n i (slice a e l) (placeOf (wordR
 abbrev μ-loop : tie.MeasureT-loop
 μ-loop l a e words n t₀ i₀ t i = n - i
 
--- where a turn begins: what is ahead, and the end of the next word
+-- where a turn begins, the table that is left there, and that it has a word
 abbrev Turn : Type 0
 Turn = tie.In-loop Inv-loop μ-loop
 
 abbrev turn : tie.After-is-same Inv-loop μ-loop → Turn
 turn c = c .before .before .before
 
-fits : (c : Turn) → wordEnd (c .before .loop .t .now) ≤ length (c .before .loop .t .now)
+abbrev table : Turn → List ℕ
+table c = c .before .loop .t .now
+
+fits : (c : Turn) → wordEnd (table c) ≤ length (table c)
 fits c = word-fits (c .before .loop .inv) (search needs)
 
 loop-holds : tie.Need-loop-holds Inv-loop μ-loop
@@ -53,7 +57,8 @@ is-same-requires c κs = search needs
 
 returns : tie.Need-returns Inv-loop μ-loop
 returns c =
-    word-found (turn (c .before) .before .loop .inv) (search needs) (sym (c .before .is-same .ensures) ∙ c .if1 .taken)
+    let s = c .before in
+    word-found (turn s .before .loop .inv) (search needs) (sym (s .is-same .ensures) ∙ c .if1 .taken)
 
 sub-t : tie.Need-sub-t Inv-loop μ-loop
 sub-t c = omega (arith, fits (turn (c .before)))
@@ -72,8 +77,9 @@ loop-less c = search needs
 
 loop-again : tie.Need-loop-again Inv-loop μ-loop
 loop-again c =
-    let k = turn (c .before .before) in
-    word-passed (k .before .loop .inv) (search needs) (sym (c .before .before .is-same .ensures) ∙ c .before .if1 .left)
+    let d = c .before in
+    let s = d .before in
+    word-passed (turn s .before .loop .inv) (search needs) (sym (s .is-same .ensures) ∙ d .if1 .left)
 
 returns-2 : tie.Need-returns-2 Inv-loop μ-loop
 returns-2 c = none-ahead (c .before .loop .inv) (search needs)
