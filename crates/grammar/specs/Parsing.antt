@@ -5,7 +5,7 @@
 --   hasBody l at k       from place at to the line's end there are literals, as many as a line of kind k takes
 --   FormFound l r        r is the form of the line l, with the places of its parts
 use mathlib.Core.Path.{_≡_}
-use mathlib.Core.Bool.{Bool, true, false}
+use mathlib.Core.Bool.{Bool, false}
 use mathlib.Core.List.{List, [], _∷_}
 use mathlib.Core.Option.{Option}
 use Prim.Native.Nat.{ℕ, _≤_, _<_}
