@@ -5,7 +5,7 @@
 --   hasBody l at k       from place at to the line's end there are literals, as many as a line of kind k takes
 --   FormFound l r        r is the form of the line l, with the places of its parts
 use mathlib.Core.Path.{_≡_}
-use mathlib.Core.Bool.{Bool, true, false}
+use mathlib.Core.Bool.{Bool, false}
 use mathlib.Core.List.{List, [], _∷_}
 use mathlib.Core.Option.{Option}
 use Prim.Native.Nat.{ℕ, _≤_, _<_}
@@ -20,7 +20,7 @@ use Rattle.grammar.specs.declared.literal.Lit.{Lit}
 use Rattle.grammar.specs.declared.literal.Lit.the-variants as lit
 use Rattle.grammar.specs.declared.line.Form.{Form}
 use Rattle.grammar.specs.declared.line.Form.the-variants.{Skipped, NoForm, Clause, Never, Seen, Query}
-use Rattle.grammar.specs.declared.line.Brings.{Brings}
+use Rattle.grammar.specs.declared.brings.Brings.{Brings}
 use Rattle.grammar.specs.Line.{Line, Literal, takes, brings}
 use Rattle.grammar.specs.LineOf.{literalsOf, isEnd, withItems, lineOf}
 
