@@ -26,7 +26,7 @@ new-differs : (ns : List (List ℕ)) (w : List ℕ) (i : ℕ) → length ns ≤ 
     → ⊥
 new-differs ns w i h l e = omega (arith, place-first ns w i l e)
 
-pub distinct-push : (ns : List (List ℕ)) (w : List ℕ) → length ns ≤ atomOf ns w → Distinct ns
+distinct-push : (ns : List (List ℕ)) (w : List ℕ) → length ns ≤ atomOf ns w → Distinct ns
     → Distinct (ns ++ (w ∷ []))
 unfolding Distinct
 distinct-push ns w h d =
@@ -70,15 +70,15 @@ module _ (ns : List (List ℕ)) (w : List ℕ) where
       (λ t. let h = ltb-true _ _ t in f (with-name-known h) h)
       (λ t. let h = ltb-false _ _ t in g (with-name-new h) h)
 
-  pub with-name-length : length ns ≤ length (withName ns w)
+  with-name-length : length ns ≤ length (withName ns w)
   with-name-length =
       by-name (λ e h. rw e (le-refl (length ns))) (λ e h. rw (e, length-append ns (w ∷ [])) (omega arith))
 
   -- a name that is found keeps its number
-  pub with-name-atom : (v : List ℕ) → atomOf ns v < length ns → atomOf (withName ns w) v ≡ atomOf ns v
+  with-name-atom : (v : List ℕ) → atomOf ns v < length ns → atomOf (withName ns w) v ≡ atomOf ns v
   with-name-atom v h = by-name (λ e k. rw e) (λ e k. rw e (place-append ns (w ∷ []) v h))
 
-  pub with-name-found : atomOf (withName ns w) w < length (withName ns w)
+  with-name-found : atomOf (withName ns w) w < length (withName ns w)
   with-name-found =
       by-name
       (λ e h. rw e h)
@@ -87,7 +87,7 @@ module _ (ns : List (List ℕ)) (w : List ℕ) where
       let f = place-first (ns ++ (w ∷ [])) w (length ns) (omega arith) (getD-append-seam ns w [] []) in
       rw e (omega arith))
 
-  pub with-name-distinct : Distinct ns → Distinct (withName ns w)
+  with-name-distinct : Distinct ns → Distinct (withName ns w)
   with-name-distinct d = by-name (λ e h. rw e d) (λ e h. rw e (distinct-push ns w h d))
 
 -- several names
@@ -118,7 +118,7 @@ with-names-atom ns (w ∷ ws) v h =
     with-names-atom (withName ns w) ws v (omega arith) ∙ e
 
 -- and is found still
-pub with-names-kept : (ns ws : List (List ℕ)) (v : List ℕ) → atomOf ns v < length ns
+with-names-kept : (ns ws : List (List ℕ)) (v : List ℕ) → atomOf ns v < length ns
     → atomOf (withNames ns ws) v < length (withNames ns ws)
 with-names-kept ns ws v h =
     let e = with-names-atom ns ws v h in

@@ -1,22 +1,25 @@
 -- Laws of a table that holds names: a name compared with a row, its row, and one name more. Assumes nothing.
 use mathlib.Core.Path.{_≡_, refl, sym, ap, _∙_}
+use mathlib.Core.Bool.{true}
 use mathlib.Core.List.{List, [], _∷_, _++_}
 use Prim.Native.Nat.{ℕ, zero, suc, _+_, _*_, _≤_, _<_}
 use native.Mathlib.Nat.{not-suc-le-zero, le-of-suc-le-suc, zero-add}
 use native.Mathlib.Omega.{arith}
 use lib.ListN.{length, getD, length-append}
 use lib.Seq.{slice, sets}
-use borrow.Author.Tests.{ne-eqb}
+use Rattle.words.proofs.Tests.{gives-same}
 use Rattle.program.specs.Case.{nameSize}
 use Rattle.text.specs.Bytes.{sameBytes}
 use Rattle.text.proofs.Places.{first-place}
+use Rattle.text.proofs.Same.{same-refl, same-eq}
 use Rattle.table.specs.Filled.{padded}
 use Rattle.table.proofs.Filled.{padded-length}
 use Rattle.table.proofs.Kept.{sets-filled}
 use Rattle.names.specs.Names.{atomOf, rowsOf}
-use Rattle.names.specs.Row.{rowAt, rowOf}
-use Rattle.names.specs.Held.{NoZero, Named, AllNamed, Holds}
+use Rattle.names.specs.Row.{rowAt, beforeZero, rowOf}
+use Rattle.names.specs.Held.{Named, AllNamed, Holds}
 use Rattle.names.proofs.Rows.{rows-length, rows-push, filled-row}
+use Rattle.names.proofs.RowNames.{row-name}
 
 -- Named
 
@@ -25,23 +28,17 @@ all-named-at AllNamed.none i h = absurd (not-suc-le-zero h)
 all-named-at (AllNamed.more g a) zero h = g
 all-named-at (AllNamed.more g a) (suc i) h = all-named-at a i (le-of-suc-le-suc h)
 
-pub all-named-push : {ns : List (List ℕ)} {w : List ℕ} → AllNamed ns → Named w → AllNamed (ns ++ (w ∷ []))
+all-named-push : {ns : List (List ℕ)} {w : List ℕ} → AllNamed ns → Named w → AllNamed (ns ++ (w ∷ []))
 all-named-push AllNamed.none g = AllNamed.more g AllNamed.none
 all-named-push (AllNamed.more f a) g = AllNamed.more f (all-named-push a g)
 
 -- two names are the same where their rows are
-same-padded : (k : ℕ) {v w : List ℕ} → length v ≤ k → length w ≤ k → NoZero v → NoZero w
-    → sameBytes (padded k v) (padded k w) ≡ sameBytes v w
-unfolding sameBytes padded
-same-padded zero a b NoZero.none NoZero.none = refl
-same-padded zero a b (NoZero.more x c) d = absurd (not-suc-le-zero a)
-same-padded zero a b NoZero.none (NoZero.more y d) = absurd (not-suc-le-zero b)
-same-padded (suc k) a b NoZero.none NoZero.none =
-    same-padded k (omega arith) (omega arith) NoZero.none NoZero.none
-same-padded (suc k) a b NoZero.none (NoZero.more y d) = rw (ne-eqb 0 _ (λ e. y (sym e)))
-same-padded (suc k) a b (NoZero.more x c) NoZero.none = rw (ne-eqb _ 0 x)
-same-padded (suc k) a b (NoZero.more x c) (NoZero.more y d) =
-    rw (same-padded k (le-of-suc-le-suc a) (le-of-suc-le-suc b) c d)
+same-row : {v w : List ℕ} → Named v → Named w → sameBytes (padded 16 v) (padded 16 w) ≡ sameBytes v w
+same-row {v} {w} g h =
+    let name-same : sameBytes (padded 16 v) (padded 16 w) ≡ true → v ≡ w =
+    λ t. sym (row-name g) ∙ ap beforeZero (same-eq _ _ t) ∙ row-name h
+    in
+    gives-same _ _ (λ t. rw (name-same t) (same-refl w)) (λ t. rw (same-eq v w t) (same-refl (padded 16 w)))
 
 -- Holds
 
@@ -53,8 +50,7 @@ module _ {ns : List (List ℕ)} {t : List ℕ} (h : Holds ns t) (k : nameSize �
     held-same : (i : ℕ) → i < length ns → sameBytes (rowAt t i) (padded 16 w) ≡ sameBytes (getD ns i []) w
     held-same i l =
         let f = h .few in
-        let a = all-named-at (h .all-named) i l in
-        rw (held-row i (omega arith)) (same-padded 16 (a .short) (g .short) (a .no-zero) (g .no-zero))
+        rw (held-row i (omega arith)) (same-row (all-named-at (h .all-named) i l) g)
 
     -- a name's row is its number
     pub row-atom : rowOf t (length ns) w ≡ atomOf ns w

@@ -16,7 +16,7 @@ use Rattle.text.proofs.Slices.{slice-more}
 
 -- the lines of what is left of f from place i on, behind the part l of a line
 module _ (f l : List ℕ) (i : ℕ) where
-  pub lines-in : i < length f → (getD f i 0 ≡ 10 → ⊥)
+  lines-in : i < length f → (getD f i 0 ≡ 10 → ⊥)
       → linesFrom l (drop i f) ≡ linesFrom (l ++ (getD f i 0 ∷ [])) (drop (i + 1) f)
   unfolding linesFrom
   lines-in h n = rw (add-one, drop-cons f i 0 h) (rw (ne-eqb _ _ n))
@@ -25,11 +25,11 @@ module _ (f l : List ℕ) (i : ℕ) where
   unfolding linesFrom
   lines-stop h e = rw (add-one, drop-cons f i 0 h) (rw (eq-eqb _ _ e))
 
-pub last-line : (l : List ℕ) → 0 < length l → lastLine l ≡ l ∷ []
+last-line : (l : List ℕ) → 0 < length l → lastLine l ≡ l ∷ []
 last-line [] n = absurd (not-suc-le-zero n)
 last-line (b ∷ l) n = refl
 
-pub lines-end : (f l : List ℕ) (i : ℕ) → 0 < length l → length f ≤ i
+lines-end : (f l : List ℕ) (i : ℕ) → 0 < length l → length f ≤ i
     → linesFrom l (drop i f) ≡ l ∷ lines (drop (i + 1) f)
 unfolding linesFrom
 lines-end f l i n h =

@@ -20,28 +20,28 @@ use Rattle.text.proofs.Slices.{slice-more}
 
 -- the tokens of what is left of l from place i on, behind the part w of a word
 module _ (l w : List ℕ) (i : ℕ) where
-  pub tokens-in : i < length l → isWordByte (getD l i 0) ≡ true
+  tokens-in : i < length l → isWordByte (getD l i 0) ≡ true
       → tokensFrom w (drop i l) ≡ tokensFrom (w ++ (getD l i 0 ∷ [])) (drop (i + 1) l)
   unfolding tokensFrom
   tokens-in h t = rw (add-one, drop-cons l i 0 h) (rw t)
 
-  pub tokens-off : i < length l → isWordByte (getD l i 0) ≡ false
+  tokens-off : i < length l → isWordByte (getD l i 0) ≡ false
       → tokensFrom w (drop i l) ≡ ended w (bracket (getD l i 0) (tokens (drop (i + 1) l)))
   unfolding tokensFrom
   tokens-off h t = rw (add-one, drop-cons l i 0 h) (rw t)
 
-pub ended-word : (w : List ℕ) (ts : List Token) → 0 < length w → ended w ts ≡ Token.word w ∷ ts
+ended-word : (w : List ℕ) (ts : List Token) → 0 < length w → ended w ts ≡ Token.word w ∷ ts
 ended-word [] ts h = absurd (not-suc-le-zero h)
 ended-word (b ∷ w) ts h = refl
 
-pub word-stops : (l w : List ℕ) (i : ℕ) → 0 < length w → i < length l → isWordByte (getD l i 0) ≡ false
+word-stops : (l w : List ℕ) (i : ℕ) → 0 < length w → i < length l → isWordByte (getD l i 0) ≡ false
     → tokensFrom w (drop i l) ≡ Token.word w ∷ tokens (drop i l)
 word-stops l w i n h t =
     tokens-off l w i h t
     ∙ ended-word w _ n
     ∙ ap (λ (ts : List Token). Token.word w ∷ ts) (sym (tokens-off l [] i h t))
 
-pub word-ends : (l w : List ℕ) (i : ℕ) → 0 < length w → length l ≤ i
+word-ends : (l w : List ℕ) (i : ℕ) → 0 < length w → length l ≤ i
     → tokensFrom w (drop i l) ≡ Token.word w ∷ tokens (drop i l)
 unfolding tokensFrom
 word-ends l w i n h = rw (drop-of-length-le l h) (ended-word w [] n)
@@ -81,19 +81,19 @@ module _ {l : List ℕ} {at i : ℕ} (h : InWord l at i) where
 
 -- what stands at place i
 module _ (l : List ℕ) (i : ℕ) where
-  pub tokens-opening : i < length l → getD l i 0 ≡ 40 → tokens (drop i l) ≡ Token.opening ∷ tokens (drop (i + 1) l)
+  tokens-opening : i < length l → getD l i 0 ≡ 40 → tokens (drop i l) ≡ Token.opening ∷ tokens (drop (i + 1) l)
   unfolding isWordByte
   tokens-opening h e = tokens-off l [] i h (rw e) ∙ rw e
 
-  pub tokens-closing : i < length l → getD l i 0 ≡ 41 → tokens (drop i l) ≡ Token.closing ∷ tokens (drop (i + 1) l)
+  tokens-closing : i < length l → getD l i 0 ≡ 41 → tokens (drop i l) ≡ Token.closing ∷ tokens (drop (i + 1) l)
   unfolding isWordByte
   tokens-closing h e = tokens-off l [] i h (rw e) ∙ rw e
 
-  pub tokens-gap : i < length l → isWordByte (getD l i 0) ≡ false → (getD l i 0 ≡ 40 → ⊥) → (getD l i 0 ≡ 41 → ⊥)
+  tokens-gap : i < length l → isWordByte (getD l i 0) ≡ false → (getD l i 0 ≡ 40 → ⊥) → (getD l i 0 ≡ 41 → ⊥)
       → tokens (drop i l) ≡ tokens (drop (i + 1) l)
   tokens-gap h t o e = tokens-off l [] i h t ∙ simp (ne-eqb _ _ o, ne-eqb _ _ e)
 
-  pub tokens-none : length l ≤ i → tokens (drop i l) ≡ []
+  tokens-none : length l ≤ i → tokens (drop i l) ≡ []
   unfolding tokensFrom
   tokens-none h = rw (drop-of-length-le l h)
 

@@ -26,7 +26,7 @@ WordBytes (Token.opening ∷ ts) = WordBytes ts
 WordBytes (Token.closing ∷ ts) = WordBytes ts
 WordBytes (Token.word w ∷ ts) = IsWord w × WordBytes ts
 
-pub ended-bytes : (w : List ℕ) (ts : List Token) → allOf isWordByte w ≡ true → WordBytes ts → WordBytes (ended w ts)
+ended-bytes : (w : List ℕ) (ts : List Token) → allOf isWordByte w ≡ true → WordBytes ts → WordBytes (ended w ts)
 ended-bytes [] ts h k = k
 ended-bytes (b ∷ w) ts h k = ((omega arith, h), k)
 
@@ -35,11 +35,11 @@ picked-bytes : (t : Bool) (x y : List Token) → (t ≡ true → WordBytes x) �
 picked-bytes true x y f g = f refl
 picked-bytes false x y f g = g refl
 
-pub bracket-bytes : (b : ℕ) (ts : List Token) → WordBytes ts → WordBytes (bracket b ts)
+bracket-bytes : (b : ℕ) (ts : List Token) → WordBytes ts → WordBytes (bracket b ts)
 bracket-bytes b ts h =
     picked-bytes (eqb b 40) _ _ (λ _. h) (λ _. picked-bytes (eqb b 41) _ _ (λ _. h) (λ _. h))
 
-pub tokens-from-bytes : (w l : List ℕ) → allOf isWordByte w ≡ true → WordBytes (tokensFrom w l)
+tokens-from-bytes : (w l : List ℕ) → allOf isWordByte w ≡ true → WordBytes (tokensFrom w l)
 unfolding tokensFrom allOf
 tokens-from-bytes w [] h = ended-bytes w [] h tt
 tokens-from-bytes w (b ∷ l) h =
@@ -52,7 +52,7 @@ unfolding allOf
 tokens-word-bytes l = tokens-from-bytes [] l refl
 
 -- each name of a line is so
-pub names-are-words : (b : Bool) (ts : List Token) → WordBytes ts → Each IsWord (namesFrom b ts)
+names-are-words : (b : Bool) (ts : List Token) → WordBytes ts → Each IsWord (namesFrom b ts)
 unfolding namesFrom
 names-are-words b [] h = tt
 names-are-words b (Token.opening ∷ ts) h = names-are-words true ts h

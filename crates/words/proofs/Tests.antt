@@ -46,6 +46,12 @@ pub not-gives : {a b : Bool} → Gives a b → Gives (not b) (not a)
 not-gives {a = true} {b} f e = absurd (false≢true (sym (ap not (f refl)) ∙ e))
 not-gives {a = false} {b} f e = refl
 
+-- tests that make each other pass
+pub gives-same : (a b : Bool) → Gives a b → Gives b a → a ≡ b
+gives-same true b f g = sym (f refl)
+gives-same false true f g = g refl
+gives-same false false f g = refl
+
 -- a test that fails makes those fail that would make it pass
 pub gives-false : (a b : Bool) → Gives b a → a ≡ false → false ≡ b
 gives-false a true f e = sym e ∙ f refl
