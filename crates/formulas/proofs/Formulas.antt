@@ -2,19 +2,16 @@
 -- Assumes nothing.
 use mathlib.Core.Path.{_≡_, refl, ap, subst, _∙_}
 use mathlib.Core.Bool.{true, false}
-use mathlib.Core.List.{List, [], _∷_}
+use mathlib.Core.List.{List}
 use Prim.Native.Nat.{ℕ, _+_, _*_, _≤_, _<_, max}
 use native.Mathlib.Omega.{arith}
 use lib.ListN.{drop}
 use lib.Seq.{slice}
-use denote.Enum.Declared.{tagOf}
-use types.Run.{OneOf}
 use Rattle.text.specs.Tokens.{tokens}
 use Rattle.text.specs.declared.tokens.Next.{Next}
 use Rattle.text.specs.declared.tokens.Next.the-variants.{Open, Close, Word}
 use Rattle.text.specs.Scanning.{Found}
 use Rattle.text.specs.Words.{beginsWithLetter}
-use Rattle.text.proofs.tokens.Next.{the-type}
 use Rattle.formulas.specs.Sentence.{Sentence, depthOf}
 use Rattle.formulas.specs.Keyword.{nodeOf}
 use Rattle.formulas.specs.Items.{prepend, Item, withForm, itemsOf}
@@ -26,7 +23,7 @@ use Rattle.formulas.specs.Parsing.{sizeOf, NameAt, FormAt, HeadAt, Formu
 use Rattle.formulas.proofs.Keywords.{node-ge}
 use Rattle.formulas.proofs.Sentences.{depth-le-size}
 use Rattle.formulas.proofs.Reading.{items-closing, items-name, items-word, items-form}
-use Rattle.formulas.proofs.FirstItem.{found-behind}
+use Rattle.formulas.proofs.FirstItem.{NotWord, found-behind}
 use Rattle.formulas.proofs.Forms.{closed-among, negation-items, joined-items}
 use Rattle.formulas.proofs.Forms.{other-begins, operand-begins, second-begins}
 
@@ -59,7 +56,7 @@ module _ {l : List ℕ} {at a e : ℕ} (t : Found l at (Word a e)) where
   word-head h = rw (t .tokens-are, items-word (tokens (drop e l)) (slice a e l) h)
 
 module _ {l : List ℕ} {at i : ℕ} (t : Found l at (Open i)) where
-  pub opening-head : {r : Next} → Found l i r → OneOf (0 ∷ (1 ∷ (2 ∷ []))) (tagOf the-type r) → HeadAt l at NoHead
+  pub opening-head : {r : Next} → Found l i r → NotWord r → HeadAt l at NoHead
   opening-head u h = rw (t .tokens-are, found-behind u h)
 
   module _ {a e k : ℕ} (u : Found l i (Word a e)) (q : k ≡ nodeOf (slice a e l)) where

@@ -7,8 +7,8 @@ use native.Mathlib.Omega.{arith}
 use lib.ListN.{length}
 use lib.Seq.{slice}
 use Rattle.text.specs.Words.{placeOf}
-use Rattle.formulas.specs.Keyword.{wordEnd, wordRows}
-use Rattle.formulas.proofs.Keywords.{Ahead, all-ahead, none-ahead, word-fits, word-found, word-passed}
+use Rattle.formulas.specs.WordTable.{wordEnd, wordRows}
+use Rattle.formulas.proofs.WordTables.{Ahead, all-ahead, none-ahead, word-fits, word-found, word-passed}
 use Rattle.formulas.proofs.keyword.place_of.Statement.{statement}
 use Rattle.formulas.proofs.keyword.place_of.Tie as tie
 
