@@ -1,11 +1,12 @@
 -- Formulas at a place of a line: one law for each way out of `head_at`, `closed_form` and `formula_at`.
 -- Assumes nothing.
-use mathlib.Core.Path.{_≡_, refl, ap, subst, _∙_}
-use mathlib.Core.Bool.{true, false}
+use mathlib.Core.Path.{_≡_, refl, sym, ap, subst, _∙_}
+use mathlib.Core.Bool.{Bool, true, false}
 use mathlib.Core.List.{List}
+use mathlib.Core.Option.{Option}
 use Prim.Native.Nat.{ℕ, _+_, _*_, _≤_, _<_, max}
 use native.Mathlib.Omega.{arith}
-use lib.ListN.{drop}
+use lib.ListN.{length, drop}
 use lib.Seq.{slice}
 use Rattle.text.specs.Tokens.{tokens}
 use Rattle.text.specs.declared.tokens.Next.{Next}
@@ -16,14 +17,13 @@ use Rattle.formulas.specs.Sentence.{Sentence, depthOf}
 use Rattle.formulas.specs.Keyword.{nodeOf}
 use Rattle.formulas.specs.Items.{prepend, Item, withForm, itemsOf}
 use Rattle.formulas.specs.declared.formula.Head.{Head}
-use Rattle.formulas.specs.declared.formula.Head.the-variants.{NoHead}
 use Rattle.formulas.specs.declared.formula.Parse.{Parse}
 use Rattle.formulas.specs.declared.formula.Parse.the-variants.{NoFormula, Formula}
-use Rattle.formulas.specs.Parsing.{sizeOf, NameAt, FormAt, HeadAt, FormulaAt, Parsed, closedAmong, Closed}
+use Rattle.formulas.specs.Parsing.{sizeOf, beginsFormula, NameAt, FormAt, HeadAt, FormulaAt, Parsed, closedAmong, Closed}
 use Rattle.formulas.proofs.Keywords.{node-ge}
 use Rattle.formulas.proofs.Sentences.{depth-le-size}
 use Rattle.formulas.proofs.Reading.{items-closing, items-name, items-word, items-form}
-use Rattle.formulas.proofs.FirstItem.{NotWord, found-behind}
+use Rattle.formulas.proofs.FirstItem.{NotWord, NotClose, found-behind, found-unclosed}
 use Rattle.formulas.proofs.Forms.{closed-among, negation-items, joined-items}
 use Rattle.formulas.proofs.Forms.{other-begins, operand-begins, second-begins}
 
@@ -43,49 +43,70 @@ parsed-as l at t e = subst (Parsed l at) e t
 
 -- The ways out of `head_at`
 
-module _ {l : List ℕ} {at a e : ℕ} (t : Found l at (Word a e)) where
-  pub name-head : beginsWithLetter (slice a e l) ≡ true → NameAt l at a e
-  name-head h = record {
-    items-are = rw (t .tokens-are) (items-name (tokens (drop e l)) (slice a e l) h);
-    onward = t .inside .0;
-    filled = t .inside .1;
-    within = t .inside .2;
-  }
+module _ {l : List ℕ} {at : ℕ} {r : Next} (t : Found l at r) where
+  module _ {a e : ℕ} (p : r ≡ Word a e) where
+    pub word-filled : a < e
+    word-filled = found-as t p .inside .1
 
-  pub word-head : beginsWithLetter (slice a e l) ≡ false → HeadAt l at NoHead
-  word-head h = rw (t .tokens-are, items-word (tokens (drop e l)) (slice a e l) h)
+    pub word-onward : a ≤ e
+    word-onward = omega (arith, word-filled)
 
-module _ {l : List ℕ} {at i : ℕ} (t : Found l at (Open i)) where
-  pub opening-head : {r : Next} → Found l i r → NotWord r → HeadAt l at NoHead
-  opening-head u h = rw (t .tokens-are, found-behind u h)
+    pub word-within : e ≤ length l
+    word-within = found-as t p .inside .2
 
-  module _ {a e k : ℕ} (u : Found l i (Word a e)) (q : k ≡ nodeOf (slice a e l)) where
-    form-items : itemsOf (tokens (drop at l)) ≡ withForm k (itemsOf (tokens (drop e l)))
-    form-items = rw (t .tokens-are, u .tokens-are, q) (items-form (tokens (drop e l)) (slice a e l))
+    -- by the answer b whether the word is a name
+    module _ {b : Bool} (q : b ≡ beginsWithLetter (slice a e l)) where
+      pub name-head : b ≡ true → NameAt l at a e
+      name-head h = let t' = found-as t p in record {
+        items-are = rw (t' .tokens-are) (items-name (tokens (drop e l)) (slice a e l) (sym q ∙ h));
+        onward = t' .inside .0;
+        filled = t' .inside .1;
+        within = t' .inside .2;
+      }
 
-    pub other-head : 68 < k → HeadAt l at NoHead
-    other-head h = rw form-items (other-begins k (itemsOf (tokens (drop e l))) h)
+      pub word-head : b ≡ false → beginsFormula (itemsOf (tokens (drop at l))) ≡ false
+      word-head h = rw (found-as t p .tokens-are, items-word (tokens (drop e l)) (slice a e l) (sym q ∙ h))
 
-    pub form-head : k ≤ 68 → FormAt l at k e
-    form-head h = record {
-      items-are = form-items;
-      low = rw q (node-ge _);
-      high = h;
-      onward = omega (arith, t .inside .0, u .inside .0, u .inside .1);
-      within = u .inside .2;
-    }
+  module _ {i : ℕ} {s : Next} (p : r ≡ Open i) (u : Found l i s) where
+    pub opening-head : NotWord s → beginsFormula (itemsOf (tokens (drop at l))) ≡ false
+    opening-head h = rw (found-as t p .tokens-are, found-behind u h)
 
--- The way out of `closed_form` with a formula
+    -- by the node k of the word behind the bracket
+    module _ {a e k : ℕ} (o : s ≡ Word a e) (q : k ≡ nodeOf (slice a e l)) where
+      form-items : itemsOf (tokens (drop at l)) ≡ withForm k (itemsOf (tokens (drop e l)))
+      form-items =
+          rw (found-as t p .tokens-are, found-as u o .tokens-are, q) (items-form (tokens (drop e l)) (slice a e l))
 
-pub closing-closed : (l : List ℕ) (at d next : ℕ) → Found l at (Close next) → Closed l at d (Formula next d)
-closing-closed l at d next t = (
-  refl,
-  record {
-    items-are = λ f. rw (t .tokens-are, items-closing) (closed-among f (itemsOf (tokens (drop next l))));
-    onward = t .inside .0;
-    within = t .inside .1;
-  },
-)
+      pub other-head : 68 < k → beginsFormula (itemsOf (tokens (drop at l))) ≡ false
+      other-head h = rw form-items (other-begins k (itemsOf (tokens (drop e l))) h)
+
+      pub form-head : k ≤ 68 → FormAt l at k e
+      form-head h =
+          let t' = found-as t p in
+          let u' = found-as u o in
+          record {
+            items-are = form-items;
+            low = rw q (node-ge _);
+            high = h;
+            onward = omega (arith, t' .inside .0, u' .inside .0, u' .inside .1);
+            within = u' .inside .2;
+          }
+
+-- The ways out of `closed_form`
+
+module _ {l : List ℕ} {at : ℕ} {r : Next} (t : Found l at r) where
+  pub closing-closed : {d next : ℕ} → r ≡ Close next → Closed l at d (Formula next d)
+  closing-closed {d} {next} p = let t' = found-as t p in (
+    refl,
+    record {
+      items-are = λ f. rw (t' .tokens-are, items-closing) (closed-among f (itemsOf (tokens (drop next l))));
+      onward = t' .inside .0;
+      within = t' .inside .1;
+    },
+  )
+
+  pub other-closed : NotClose r → (f : Sentence) → closedAmong f (itemsOf (tokens (drop at l))) ≡ Option.none
+  other-closed h = found-unclosed t h .unclosed
 
 -- The ways out of `formula_at`
 
