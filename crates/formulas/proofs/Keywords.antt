@@ -44,3 +44,12 @@ module _ (w : List ℕ) where
   node-word h =
       let z : (64 + placeOf formWords w) - 64 ≡ placeOf formWords w = omega arith in
       rw z (place-name formWords w (omega arith))
+
+-- by the place r of a word
+module _ (w : List ℕ) {r : ℕ} (e : r ≡ placeOf formWords w) where
+  pub place-few : r ≤ 5
+  place-few = omega (arith, place-le formWords w)
+
+  pub place-node : 64 + r ≡ nodeOf w
+  unfolding nodeOf
+  place-node = omega arith

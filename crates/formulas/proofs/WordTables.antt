@@ -2,7 +2,7 @@
 --
 --   Ahead t n i w p     p is the place of w among n words, of which i are passed and the table t has the others
 -- Assumes nothing.
-use mathlib.Core.Path.{_≡_, _∙_}
+use mathlib.Core.Path.{_≡_, sym, _∙_}
 use mathlib.Core.Bool.{Bool, true, false}
 use mathlib.Core.List.{List}
 use Prim.Native.Nat.{ℕ, suc, _+_, _-_, _≤_, _<_}
@@ -21,9 +21,8 @@ pub record Ahead (t : List ℕ) (n i : ℕ) (w : List ℕ) (p : ℕ) : Type 0 wh
   pub has : HasWords t (n - i)
   pub place-is : p ≡ i + placeOf (wordRows t (n - i)) w
 
-module _ (t : List ℕ) (n : ℕ) (w : List ℕ) where
-  pub all-ahead : HasWords t n → Ahead t n 0 w (placeOf (wordRows t n) w)
-  all-ahead h = record { within = omega arith; has = rw sub-zero h; place-is = rw sub-zero (omega arith) }
+pub all-ahead : {t : List ℕ} {n : ℕ} {w : List ℕ} → HasWords t n → Ahead t n 0 w (placeOf (wordRows t n) w)
+all-ahead h = record { within = omega arith; has = rw sub-zero h; place-is = rw sub-zero (omega arith) }
 
 module _ {t : List ℕ} {n i : ℕ} {w : List ℕ} {p : ℕ} (q : Ahead t n i w p) where
   pub none-ahead : n ≤ i → n ≡ p
@@ -36,21 +35,25 @@ module _ {t : List ℕ} {n i : ℕ} {w : List ℕ} {p : ℕ} (q : Ahead t n i w 
     pub word-fits : wordEnd t ≤ length t
     word-fits = (rw left at (q .has)) .0
 
-    -- the first word that is ahead, as the code reads it
-    tested : {b : Bool} → sameBytes w (take (wordEnd t - 1) (drop 1 t)) ≡ b
-        → sameBytes (take (getD t 0 0) (drop 1 t)) w ≡ b
-    tested e = let z : wordEnd t - 1 ≡ getD t 0 0 = omega arith in same-comm _ w ∙ rw z at e
+    pub word-there : 0 < length t
+    word-there = omega (arith, word-fits)
 
-    pub word-found : sameBytes w (take (wordEnd t - 1) (drop 1 t)) ≡ true → i ≡ p
-    word-found e = omega (arith, rw (left, place-here _ _ _ (tested e)) at (q .place-is))
+    -- by the answer b whether w is the first word that is ahead, as the code reads it
+    module _ {b : Bool} (e : b ≡ sameBytes w (take (wordEnd t - 1) (drop 1 t))) where
+      tested : {d : Bool} → b ≡ d → sameBytes (take (getD t 0 0) (drop 1 t)) w ≡ d
+      tested k =
+          let z : wordEnd t - 1 ≡ getD t 0 0 = omega arith in
+          same-comm _ w ∙ rw z at (sym e) ∙ k
 
-    -- the table behind it, as the code has it
-    pub word-passed : sameBytes w (take (wordEnd t - 1) (drop 1 t)) ≡ false
-        → Ahead (take (length t - wordEnd t) (drop (wordEnd t) t)) n (i + 1) w p
-    word-passed e =
-        let f : length (drop (wordEnd t) t) ≤ length t - wordEnd t = omega (arith, length-drop (wordEnd t) t) in
-        rw (take-all _ _ f) record {
-          within = omega arith;
-          has = (rw left at (q .has)) .1;
-          place-is = omega (arith, rw (left, place-later _ _ _ (tested e)) at (q .place-is));
-        }
+      pub word-found : b ≡ true → i ≡ p
+      word-found k = omega (arith, rw (left, place-here _ _ _ (tested k)) at (q .place-is))
+
+      -- the table behind it, as the code has it
+      pub word-passed : b ≡ false → Ahead (take (length t - wordEnd t) (drop (wordEnd t) t)) n (i + 1) w p
+      word-passed k =
+          let f : length (drop (wordEnd t) t) ≤ length t - wordEnd t = omega (arith, length-drop (wordEnd t) t) in
+          rw (take-all _ _ f) record {
+            within = omega arith;
+            has = (rw left at (q .has)) .1;
+            place-is = omega (arith, rw (left, place-later _ _ _ (tested k)) at (q .place-is));
+          }
