@@ -4,7 +4,7 @@ use mathlib.Core.Path.{_≡_, refl, sym, ap, subst, _∙_}
 use mathlib.Core.Bool.{Bool, true, false}
 use mathlib.Core.List.{List}
 use mathlib.Core.Option.{Option}
-use Prim.Native.Nat.{ℕ, _+_, _*_, _≤_, _<_, max}
+use Prim.Native.Nat.{ℕ, _+_, _-_, _*_, _≤_, _<_, max}
 use native.Mathlib.Omega.{arith}
 use lib.ListN.{length, drop}
 use lib.Seq.{slice}
@@ -17,6 +17,7 @@ use Rattle.formulas.specs.Sentence.{Sentence, depthOf}
 use Rattle.formulas.specs.Keyword.{nodeOf}
 use Rattle.formulas.specs.Items.{prepend, Item, withForm, itemsOf}
 use Rattle.formulas.specs.declared.formula.Head.{Head}
+use Rattle.formulas.specs.declared.formula.Head.the-variants.{NoHead, Name, Form}
 use Rattle.formulas.specs.declared.formula.Parse.{Parse}
 use Rattle.formulas.specs.declared.formula.Parse.the-variants.{NoFormula, Formula}
 use Rattle.formulas.specs.Parsing.{sizeOf, beginsFormula, NameAt, FormAt, HeadAt, FormulaAt, Parsed, closedAmong, Closed}
@@ -28,7 +29,7 @@ use Rattle.formulas.proofs.Forms.{closed-among, negation-items, joined-
 use Rattle.formulas.proofs.Forms.{other-begins, operand-begins, second-begins}
 
 -- a formula's depth is at most the bytes it takes
-pub depth-le-bytes : {l : List ℕ} {at next d : ℕ} → FormulaAt l at next d → at + d ≤ next
+depth-le-bytes : {l : List ℕ} {at next d : ℕ} → FormulaAt l at next d → at + d ≤ next
 depth-le-bytes r = omega (arith, depth-le-size (r .sentence), r .room, r .depth-is, r .onward)
 
 -- what was found, by what the answer is
@@ -110,53 +111,87 @@ module _ {l : List ℕ} {at : ℕ} {r : Next} (t : Found l at r) where
 
 -- The ways out of `formula_at`
 
-pub name-parsed : {l : List ℕ} {at a e : ℕ} → NameAt l at a e → FormulaAt l at e 1
-unfolding depthOf sizeOf
-name-parsed {l} {at} {a} {e} t = record {
-  sentence = Sentence.name (slice a e l);
-  items-are = t .items-are;
-  depth-is = refl;
-  onward = omega (arith, t .onward, t .filled);
-  within = t .within;
-  room = omega (arith, t .onward, t .filled);
+-- the form f with node k, where its closing bracket is at or behind place j
+closed-parsed : {l : List ℕ} {at k e : ℕ} (q : FormAt l at k e) (f : Sentence) (j d : ℕ) (r : Parse) → Closed l j d r
+    → itemsOf (tokens (drop at l)) ≡ closedAmong f (itemsOf (tokens (drop j l))) → d ≡ depthOf f
+    → e < j → e + 2 * sizeOf f ≤ j + 4 → Parsed l at r
+closed-parsed q f j d NoFormula c h eq n m = rw (h, c f)
+closed-parsed q f j d (Formula next d') c h eq n m = record {
+  sentence = f;
+  items-are = h ∙ c .1 .items-are f;
+  depth-is = c .0 ∙ eq;
+  onward = omega (arith, q .onward, c .1 .onward);
+  within = c .1 .within;
+  room = omega (arith, q .onward, c .1 .onward);
 }
 
-module _ {l : List ℕ} {at k e : ℕ} (q : FormAt l at k e) where
-  pub operand-parsed : Parsed l e NoFormula → Parsed l at NoFormula
-  operand-parsed h = rw (q .items-are) (operand-begins k (itemsOf (tokens (drop e l))) h)
+module _ (l : List ℕ) (at : ℕ) {h : Head} (t : HeadAt l at h) where
+  pub no-head-parsed : h ≡ NoHead → beginsFormula (itemsOf (tokens (drop at l))) ≡ false
+  no-head-parsed p = head-as l at t p
 
-  -- the form f, where its closing bracket is at or behind place j
-  closed-parsed : (f : Sentence) (j d : ℕ) (r : Parse) → Closed l j d r
-      → itemsOf (tokens (drop at l)) ≡ closedAmong f (itemsOf (tokens (drop j l))) → d ≡ depthOf f
-      → e < j → e + 2 * sizeOf f ≤ j + 4 → Parsed l at r
-  closed-parsed f j d NoFormula c h eq n m = rw (h, c f)
-  closed-parsed f j d (Formula next d') c h eq n m = record {
-    sentence = f;
-    items-are = h ∙ c .1 .items-are f;
-    depth-is = c .0 ∙ eq;
-    onward = omega (arith, q .onward, c .1 .onward);
-    within = c .1 .within;
-    room = omega (arith, q .onward, c .1 .onward);
+  pub name-parsed : {a e : ℕ} → h ≡ Name a e → FormulaAt l at e 1
+  unfolding depthOf sizeOf
+  name-parsed {a} {e} p = let n = head-as l at t p in record {
+    sentence = Sentence.name (slice a e l);
+    items-are = n .items-are;
+    depth-is = refl;
+    onward = omega (arith, n .onward, n .filled);
+    within = n .within;
+    room = omega (arith, n .onward, n .filled);
   }
 
-  module _ {j d : ℕ} (o : FormulaAt l e j d) where
-    pub negation-parsed : (r : Parse) → k ≡ 64 → Closed l j (d + 1) r → Parsed l at r
-    unfolding depthOf sizeOf
-    negation-parsed r z c =
-        closed-parsed (Sentence.negation (o .sentence)) j (d + 1) r c
-        (q .items-are ∙ ap (withForm k) (o .items-are) ∙ negation-items k (o .sentence) (itemsOf (tokens (drop j l))) z)
-        (omega (arith, o .depth-is)) (o .onward) (omega (arith, o .room))
+  -- a form with node k
+  module _ {k e : ℕ} (p : h ≡ Form k e) where
+    form : FormAt l at k e
+    form = head-as l at t p
 
-    pub second-parsed : (k ≡ 64 → ⊥) → Parsed l j NoFormula → Parsed l at NoFormula
-    second-parsed n h =
-        rw (q .items-are, o .items-are) (second-begins k (o .sentence) (itemsOf (tokens (drop j l))) n h)
+    pub form-less : {m : ℕ} → length l - at ≡ m → length l - e < m
+    form-less q = omega (arith, form .onward, form .within)
 
-    pub joined-parsed : {i d' m : ℕ} (r : Parse) → (k ≡ 64 → ⊥) → FormulaAt l j i d' → m ≡ max d d'
-        → Closed l i (m + 1) r → Parsed l at r
-    unfolding depthOf sizeOf
-    joined-parsed {i} {d'} {m} r n p em c =
-        closed-parsed (Sentence.joined k (o .sentence) (p .sentence)) i (m + 1) r c
-        (q .items-are ∙ ap (withForm k) (o .items-are ∙ ap (prepend (Item.formula (o .sentence))) (p .items-are))
-        ∙ joined-items k (o .sentence) (p .sentence) (itemsOf (tokens (drop i l))) (q .high) n)
-        (omega (arith, o .depth-is, p .depth-is)) (omega (arith, o .onward, p .onward))
-        (omega (arith, o .room, p .room))
+    -- its first operand
+    module _ {r : Parse} (o : Parsed l e r) where
+      pub operand-parsed : r ≡ NoFormula → beginsFormula (itemsOf (tokens (drop at l))) ≡ false
+      operand-parsed q = rw (form .items-are) (operand-begins k (itemsOf (tokens (drop e l))) (parsed-as l e o q))
+
+      module _ {j d : ℕ} (q : r ≡ Formula j d) where
+        first : FormulaAt l e j d
+        first = parsed-as l e o q
+
+        pub first-less : {m : ℕ} → length l - at ≡ m → length l - j < m
+        first-less eq = omega (arith, form .onward, first .onward, first .within)
+
+        pub first-depth : {m : ℕ} → length l < m → d + 1 < m
+        first-depth less = omega (arith, depth-le-bytes first, form .onward, first .within)
+
+        pub negation-parsed : (s : Parse) → k ≡ 64 → Closed l j (d + 1) s → Parsed l at s
+        unfolding depthOf sizeOf
+        negation-parsed s z c =
+            closed-parsed form (Sentence.negation (first .sentence)) j (d + 1) s c
+            (form .items-are ∙ ap (withForm k) (first .items-are)
+            ∙ negation-items k (first .sentence) (itemsOf (tokens (drop j l))) z)
+            (omega (arith, first .depth-is)) (first .onward) (omega (arith, first .room))
+
+        -- and its second operand
+        module _ (n : k ≡ 64 → ⊥) {s : Parse} (w : Parsed l j s) where
+          pub second-parsed : s ≡ NoFormula → beginsFormula (itemsOf (tokens (drop at l))) ≡ false
+          second-parsed z =
+              rw (form .items-are, first .items-are)
+              (second-begins k (first .sentence) (itemsOf (tokens (drop j l))) n (parsed-as l j w z))
+
+          module _ {i d' m : ℕ} (z : s ≡ Formula i d') (em : m ≡ max d d') where
+            second : FormulaAt l j i d'
+            second = parsed-as l j w z
+
+            pub second-depth : {n : ℕ} → length l < n → m + 1 < n
+            second-depth less =
+                omega (arith, depth-le-bytes first, depth-le-bytes second, form .onward, first .within, second .within)
+
+            pub joined-parsed : (x : Parse) → Closed l i (m + 1) x → Parsed l at x
+            unfolding depthOf sizeOf
+            joined-parsed x c =
+                closed-parsed form (Sentence.joined k (first .sentence) (second .sentence)) i (m + 1) x c
+                (form .items-are ∙ ap (withForm k) (first .items-are
+                ∙ ap (prepend (Item.formula (first .sentence))) (second .items-are))
+                ∙ joined-items k (first .sentence) (second .sentence) (itemsOf (tokens (drop i l))) (form .high) n)
+                (omega (arith, first .depth-is, second .depth-is)) (omega (arith, first .onward, second .onward))
+                (omega (arith, first .room, second .room))
