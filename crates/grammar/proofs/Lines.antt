@@ -14,7 +14,7 @@ use lib.ListN.{length, drop}
 use lib.Seq.{slice}
 use denote.Enum.Declared.{tagOf}
 use types.Run.{OneOf, miss}
-use borrow.Author.Tests.{eqb-true}
+use borrow.Author.Tests.{eqb-true, ne-eqb}
 use Rattle.words.specs.Choice.{pick}
 use Rattle.text.specs.Tokens.{Token, tokens}
 use Rattle.text.specs.Words.{beginsWithLetter}
@@ -28,17 +28,16 @@ use Rattle.formulas.specs.Parsing.{Items, beginsFormula, closedAmong, FormulaAt
 use Rattle.formulas.specs.declared.formula.Parse.{Parse}
 use Rattle.formulas.specs.declared.formula.Parse.the-variants.{NoFormula, Formula}
 use Rattle.formulas.proofs.Formulas.{found-as, parsed-as}
-use Rattle.formulas.proofs.Firsts.{Filled}
+use Rattle.formulas.proofs.Reading.{items-end, items-closing, items-name, items-word}
+use Rattle.formulas.proofs.FirstItem.{Filled, found-unclosed, found-unnamed, found-filled}
 use Rattle.grammar.specs.Line.{Line, Literal, takes, bringing}
-use Rattle.grammar.specs.LineOf.{withBody, seenOf, withItems, kindOf, lineOf}
-use Rattle.grammar.specs.Parsing.{endsItems, bodyIn, fitsBody, hasBody, BodyMakes, SeenMakes, QueryMakes}
-use Rattle.grammar.specs.Parsing.{endsLine, FormIs, FormAfter, FormFound, Brought}
+use Rattle.grammar.specs.LineOf.{withBody, seenOf, bodyLine, withItems, kindOf, lineOf}
+use Rattle.grammar.specs.Parsing.{endsItems, bodyIn, fitsBody, hasBody, BodyMakes}
+use Rattle.grammar.specs.Parsing.{endsLine, FormAfter, FormFound, Brought}
 use Rattle.grammar.specs.declared.line.Form.{Form}
 use Rattle.grammar.specs.declared.line.Form.the-variants.{Skipped, NoForm, Clause, Never, Seen, Query}
-use Rattle.grammar.specs.declared.line.Brings.{Brings}
-use Rattle.grammar.proofs.Others.{found-unclosed, found-unnamed, found-filled}
-use Rattle.grammar.proofs.KindLaws.{fit-body, unfit-body, unfit-kind, no-kind, kind-unnamed, kind-named}
-use Rattle.grammar.proofs.KindLaws.{never-kind, seen-kind}
+use Rattle.grammar.specs.declared.brings.Brings.{Brings}
+use Rattle.grammar.proofs.KindLaws.{fit-body, unfit-body, kind-unnamed, kind-named, body-kind}
 
 -- The ways out of `ends_line`
 
@@ -60,13 +59,14 @@ module _ {l : List ℕ} {at : ℕ} {r : Next} (t : Found l at r) where
 
   module _ {i : ℕ} (e : r ≡ Close i) {s : Next} (u : Found l i s) where
     pub ends-more : OneOf (1 ∷ (2 ∷ (3 ∷ []))) (tagOf the-type s) → false ≡ endsLine l at
-    unfolding endsLine itemsOf
+    unfolding endsLine
     ends-more h =
-        sym (rw (found-as t e .tokens-are) (closing-filled (itemsOf (tokens (drop i l))) (found-filled u h)))
+        let more = closing-filled (itemsOf (tokens (drop i l))) (found-filled u h) in
+        sym (rw (found-as t e .tokens-are, items-closing) more)
 
     pub ends-last : s ≡ End → true ≡ endsLine l at
-    unfolding endsLine itemsOf
-    ends-last f = sym (rw (found-as t e .tokens-are, found-as u f .tokens-are))
+    unfolding endsLine
+    ends-last f = sym (rw (found-as t e .tokens-are, items-closing, found-as u f .tokens-are, items-end))
 
 -- Literals, as many as a line of kind k takes
 
@@ -78,11 +78,6 @@ record Body (k : ℕ) (x : Option (List Literal)) : Type 0 where
 body-of : (k : ℕ) (x : Option (List Literal)) → fitsBody k x ≡ true → Body k x
 body-of k Option.none h = absurd (true≢false (sym h))
 body-of k (Option.some ls) h = record { literals = ls; literals-are = refl; fits = h }
-
-one-literal : (ls : List Literal) → length ls ≡ 1 → (x : Literal) × (ls ≡ x ∷ [])
-one-literal [] h = absurd (omega arith)
-one-literal (x ∷ []) h = (x, refl)
-one-literal (x ∷ (y ∷ ls)) h = absurd (omega arith)
 
 module _ {l : List ℕ} {at : ℕ} {x : Line} where
   body-makes : (k : ℕ) (make : List Literal → Line) → x ≡ withBody k make (bodyIn (tokens (drop at l)))
@@ -96,20 +91,11 @@ module _ {l : List ℕ} {at : ℕ} {x : Line} where
         line-is = e ∙ ap (withBody k make) (b .literals-are) ∙ fit-body k make (b .literals) (b .fits);
       }
 
-  seen-makes : x ≡ withBody 4 seenOf (bodyIn (tokens (drop at l))) → hasBody l at 4 ≡ true → SeenMakes l at x
-  unfolding hasBody
-  seen-makes e h =
-      let b = body-of 4 (bodyIn (tokens (drop at l))) h in
-      let o = one-literal (b .literals) (eqb-true (length (b .literals)) 1 (b .fits)) in
-      let f = b .literals-are ∙ ap Option.some (o .1) in
-      record { reading = o .0; literals-are = f; line-is = e ∙ ap (withBody 4 seenOf) f }
-
 -- The ways out of `clause_form`
 
 pub clause-is : (k : ℕ) {ts us : List Token} {w : List ℕ} → k ≤ 2 → ts ≡ Token.word w ∷ us → beginsWithLetter w ≡ true
     → withItems k (itemsOf ts) ≡ withBody k (Line.clause k w) (bodyIn us)
-unfolding itemsOf
-clause-is k {us = us} {w = w} i e n = rw (e, n) (kind-named k i w (itemsOf us))
+clause-is k {us = us} {w = w} i e n = rw (e, items-name us w n) (kind-named k i w (itemsOf us))
 
 module _ {l : List ℕ} {at k : ℕ} {r : Next} where
   pub clause-wordless : Found l at r → k ≤ 2 → OneOf (0 ∷ (1 ∷ (2 ∷ []))) (tagOf the-type r) → FormAfter l at k NoForm
@@ -117,9 +103,9 @@ module _ {l : List ℕ} {at k : ℕ} {r : Next} where
 
   module _ {a e : ℕ} (w : r ≡ Word a e) (t : Found l at r) (i : k ≤ 2) where
     pub clause-word : beginsWithLetter (slice a e l) ≡ false → FormAfter l at k NoForm
-    unfolding itemsOf
     clause-word h = record {
-      form-is = kind-unnamed k i (itemsOf (tokens (drop at l))) (rw (found-as t w .tokens-are, h));
+      form-is = kind-unnamed k i (itemsOf (tokens (drop at l)))
+          (rw (found-as t w .tokens-are, items-word (tokens (drop e l)) (slice a e l) h));
     }
 
     module _ (n : beginsWithLetter (slice a e l) ≡ true) where
@@ -185,25 +171,64 @@ module _ {l : List ℕ} {at : ℕ} {r : Parse} where
 
 -- The ways out of `form_of_kind`
 
+one-literal : (x : Option (List Literal)) → fitsBody 4 x ≡ true → (a : Literal) × (x ≡ Option.some (a ∷ []))
+one-literal Option.none h = absurd (true≢false (sym h))
+one-literal (Option.some []) h = absurd (omega (arith, eqb-true 0 1 h))
+one-literal (Option.some (a ∷ [])) h = (a, refl)
+one-literal (Option.some (a ∷ (b ∷ ls))) h = absurd (omega (arith, eqb-true (length (a ∷ (b ∷ ls))) 1 h))
+
+some-literals : {l m : List Literal} → Option.some l ≡ Option.some m → l ≡ m
+some-literals e = cc
+
+module _ (k : ℕ) (ls : List Literal) where
+  never-kind : k ≡ 3 → bodyLine k ls ≡ Line.never ls
+  never-kind e = rw e
+
+  seen-kind : k ≡ 4 → bodyLine k ls ≡ seenOf ls
+  seen-kind e = rw e
+
+  other-kind : (k ≡ 3 → ⊥) → (k ≡ 4 → ⊥) → bodyLine k ls ≡ Line.noForm
+  other-kind a b = rw (ne-eqb k 3 a, ne-eqb k 4 b)
+
 module _ {l : List ℕ} {at k : ℕ} where
   pub form-as : {j : ℕ} {r : Form} → k ≡ j → FormAfter l at j r → FormAfter l at k r
   form-as {r = r} e f = subst (λ j. FormAfter l at j r) (sym e) f
 
-  pub form-unfit : 3 ≤ k → (k ≡ 5 → ⊥) → hasBody l at k ≡ false → FormAfter l at k NoForm
-  unfolding hasBody
-  form-unfit i n h = record { form-is = unfit-kind k (itemsOf (tokens (drop at l))) i n h }
+  module _ (i : 3 ≤ k) (n : k ≡ 5 → ⊥) where
+    pub form-unfit : hasBody l at k ≡ false → FormAfter l at k NoForm
+    unfolding hasBody
+    form-unfit h = record {
+      form-is = body-kind k (itemsOf (tokens (drop at l))) i n ∙ unfit-body k _ (bodyIn (tokens (drop at l))) h;
+    }
 
-  pub form-never : k ≡ 3 → hasBody l at k ≡ true → FormAfter l at k (Never at)
-  form-never e h =
-      let makes = body-makes 3 Line.never (never-kind (itemsOf (tokens (drop at l)))) (rw e at h) in
-      form-as e (record { form-is = makes })
+    module _ (h : hasBody l at k ≡ true) where
+      bodied : BodyMakes l at (bodyLine k) (withItems k (itemsOf (tokens (drop at l))))
+      bodied = body-makes k (bodyLine k) (body-kind k (itemsOf (tokens (drop at l))) i n) h
 
-  pub form-seen : k ≡ 4 → hasBody l at k ≡ true → FormAfter l at k (Seen at)
-  form-seen e h =
-      form-as e (record { form-is = seen-makes (seen-kind (itemsOf (tokens (drop at l)))) (rw e at h) })
+      pub form-never : k ≡ 3 → FormAfter l at k (Never at)
+      form-never e = record {
+        form-is = record {
+          literals = bodied .literals;
+          literals-are = bodied .literals-are;
+          line-is = bodied .line-is ∙ never-kind k (bodied .literals) e;
+        };
+      }
 
-  pub form-other : 3 ≤ k → (k ≡ 3 → ⊥) → (k ≡ 4 → ⊥) → (k ≡ 5 → ⊥) → FormAfter l at k NoForm
-  form-other i a b c = record { form-is = no-kind k (itemsOf (tokens (drop at l))) (omega arith) }
+      pub form-seen : k ≡ 4 → FormAfter l at k (Seen at)
+      unfolding hasBody
+      form-seen e =
+          let o = one-literal (bodyIn (tokens (drop at l))) (rw e at h) in
+          let f = some-literals (sym (bodied .literals-are) ∙ o .1) in
+          record {
+            form-is = record {
+              reading = o .0;
+              literals-are = o .1;
+              line-is = bodied .line-is ∙ seen-kind k (bodied .literals) e ∙ ap seenOf f;
+            };
+          }
+
+      pub form-other : (k ≡ 3 → ⊥) → (k ≡ 4 → ⊥) → FormAfter l at k NoForm
+      form-other a b = record { form-is = bodied .line-is ∙ other-kind k (bodied .literals) a b }
 
 -- The ways out of `form_of`
 
@@ -232,9 +257,10 @@ module _ {l : List ℕ} {r : Next} (t : Found l 0 r) where
     pub line-wordless : OneOf (0 ∷ (1 ∷ (2 ∷ []))) (tagOf the-type s) → FormFound l NoForm
     line-wordless h = record { form-is = rw (found-as t o .tokens-are, u .tokens-are) (opened-line l s h) }
 
-    pub line-found : {a e k : ℕ} {x : Form} → s ≡ Word a e → k ≡ kindOf (slice a e l) → FormAfter l e k x → FormFound l x
+    pub line-found : {a e k : ℕ} {x : Form} → s ≡ Word a e → k ≡ kindOf (slice a e l) → FormAfter l e k x
+        → FormFound l x
     unfolding lineOf
-    line-found {e = e} {x = x} w q f = record {
+    line-found w q f = record {
       form-is = rw (found-as t o .tokens-are, found-as u w .tokens-are, ← q) (f .form-is);
     }
 

@@ -2,7 +2,7 @@
 -- `has_body` has passed.
 --
 --   fitsBehind k n x     n literals and those of x are as many as a line of kind k takes
---   Counted l at k i n   behind n literals from place at on, the literals from place i on decide what hasBody l at k does
+--   Counted l at k i n   hasBody l at k is told by n literals and those from place i on
 -- Assumes nothing.
 use mathlib.Core.Path.{_≡_, refl, sym, ap, _∙_, subst}
 use mathlib.Core.Bool.{Bool, true, false, true≢false}
@@ -11,12 +11,10 @@ use mathlib.Core.Option.{Option}
 use Prim.Native.Nat.{ℕ, suc, _+_, _-_, _≤_, _<_}
 use native.Mathlib.Nat.{add-zero, zero-add}
 use native.Mathlib.Omega.{arith}
-use lib.Dec.{ltb}
 use lib.ListN.{length, drop}
 use lib.Seq.{slice}
 use denote.Enum.Declared.{tagOf}
 use types.Run.{OneOf}
-use borrow.Author.Tests.{ne-eqb}
 use Rattle.text.specs.Tokens.{Token, tokens}
 use Rattle.text.specs.Words.{beginsWithLetter}
 use Rattle.text.specs.Scanning.{Found}
@@ -25,19 +23,18 @@ use Rattle.text.specs.declared.tokens.Next.the-variants.{End, Open, Close, Word
 use Rattle.text.proofs.tokens.Next.{the-type}
 use Rattle.formulas.specs.Sentence.{Sentence}
 use Rattle.formulas.specs.Keyword.{nodeOf}
-use Rattle.formulas.specs.Items.{prepend, Item, closed, withForm, itemsOf}
+use Rattle.formulas.specs.Items.{prepend, Item, withForm, itemsOf}
 use Rattle.formulas.specs.Parsing.{Items, closedAmong}
-use Rattle.formulas.proofs.Operands.{withTwo}
-use Rattle.formulas.proofs.Items.{picked-items, negation-items}
+use Rattle.formulas.proofs.Reading.{FormRead, form-read, items-end, items-closing, items-name, items-word, items-form}
+use Rattle.formulas.proofs.Forms.{negation-items}
+use Rattle.formulas.proofs.FirstItem.{Filled, nameFirst, found-unclosed, found-unnamed, found-filled, found-behind}
 use Rattle.formulas.proofs.Formulas.{found-as}
-use Rattle.formulas.proofs.Firsts.{Filled, nameFirst}
 use Rattle.grammar.specs.Line.{Literal, takes}
 use Rattle.grammar.specs.LineOf.{withSentence, literalsOf}
 use Rattle.grammar.specs.Parsing.{literalsAmong, bodyIn, LiteralInside, LiteralIn, LiteralFound, NegationFound}
 use Rattle.grammar.specs.Parsing.{fitsBody, hasBody}
 use Rattle.grammar.specs.declared.literal.Lit.{Lit}
 use Rattle.grammar.specs.declared.literal.Lit.the-variants as lit
-use Rattle.grammar.proofs.Others.{found-unclosed, found-unnamed, found-filled, found-behind}
 
 -- The literals among items
 
@@ -53,39 +50,24 @@ among-closing Option.none h = refl
 among-closing (Option.some []) h = absurd h
 among-closing (Option.some (i ∷ l)) h = refl
 
--- a form that is no literal
-closed-none : (f : Sentence) (l : List Item)
-    → ((x : Option (List Literal)) → withSentence f x ≡ Option.none) → literalsAmong (closed f l) ≡ Option.none
+-- a form that is no negation, and a negation of no name
+other-none : {k : ℕ} {x y : Items} → FormRead k x y → (k ≡ 64 → ⊥) → literalsAmong y ≡ Option.none
 unfolding literalsOf
-closed-none f [] h = refl
-closed-none f (Item.closing ∷ l) h = h (literalsOf l)
-closed-none f (Item.formula g ∷ l) h = refl
+other-none FormRead.no-form n = refl
+other-none (FormRead.negation q) n = absurd (n q)
+other-none (FormRead.joined h q) n = refl
 
-two-none : (k : ℕ) (l : List Item) → literalsAmong (withTwo k l) ≡ Option.none
-two-none k [] = refl
-two-none k (Item.closing ∷ l) = refl
-two-none k (Item.formula f ∷ []) = refl
-two-none k (Item.formula f ∷ (Item.closing ∷ l)) = refl
-two-none k (Item.formula f ∷ (Item.formula g ∷ l)) = closed-none (Sentence.joined k f g) l (λ x. refl)
+negation-none : (f : Sentence) (m : List Item) → nameFirst (Option.some (Item.formula f ∷ m)) ≡ false
+    → (x : Option (List Literal)) → withSentence (Sentence.negation f) x ≡ Option.none
+negation-none (Sentence.name w) m h x = absurd (true≢false h)
+negation-none (Sentence.negation f) m h x = refl
+negation-none (Sentence.joined k f g) m h x = refl
 
-abbrev NoLiterals : Items → Type 0
-NoLiterals x = literalsAmong x ≡ Option.none
-
-among-other : (k : ℕ) (x : Items) → (k ≡ 64 → ⊥) → literalsAmong (withForm k x) ≡ Option.none
-unfolding withForm
-among-other k Option.none h = refl
-among-other k (Option.some l) h = rw (ne-eqb k 64 h) (picked-items NoLiterals (ltb 68 k) _ _ refl (two-none k l))
-
-among-unnamed : (x : Items) → nameFirst x ≡ false → literalsAmong (withForm 64 x) ≡ Option.none
-unfolding withForm
-among-unnamed Option.none h = refl
-among-unnamed (Option.some []) h = refl
-among-unnamed (Option.some (Item.closing ∷ l)) h = refl
-among-unnamed (Option.some (Item.formula (Sentence.name w) ∷ l)) h = absurd (true≢false h)
-among-unnamed (Option.some (Item.formula (Sentence.negation f) ∷ l)) h =
-    closed-none (Sentence.negation (Sentence.negation f)) l (λ x. refl)
-among-unnamed (Option.some (Item.formula (Sentence.joined k f g) ∷ l)) h =
-    closed-none (Sentence.negation (Sentence.joined k f g)) l (λ x. refl)
+unnamed-none : {k : ℕ} {x y : Items} → FormRead k x y → nameFirst x ≡ false → literalsAmong y ≡ Option.none
+unfolding literalsOf
+unnamed-none FormRead.no-form h = refl
+unnamed-none (FormRead.negation {g} {m} q) h = negation-none g (Item.closing ∷ m) h (literalsOf m)
+unnamed-none (FormRead.joined b q) h = refl
 
 -- a negated name
 abbrev negated : List ℕ → Sentence
@@ -109,45 +91,42 @@ module _ {l : List ℕ} {at : ℕ} {r : Next} (t : Found l at r) where
 
   module _ {a e k : ℕ} (w : r ≡ Word a e) (q : k ≡ nodeOf (slice a e l)) where
     opened-form : bodyIn (Token.opening ∷ tokens (drop at l)) ≡ literalsAmong (withForm k (itemsOf (tokens (drop e l))))
-    unfolding itemsOf
-    opened-form = rw (found-as t w .tokens-are, q)
+    opened-form = rw (found-as t w .tokens-are, items-form, q)
 
     pub opened-other : (k ≡ 64 → ⊥) → NegationFound l at lit.NoLiteral
-    opened-other n = no-literal (opened-form ∙ among-other k (itemsOf (tokens (drop e l))) n)
+    opened-other n = no-literal (opened-form ∙ other-none (form-read k (itemsOf (tokens (drop e l)))) n)
 
     module _ (n : k ≡ 64) {s : Next} (u : Found l e s) where
       opened-not : nameFirst (itemsOf (tokens (drop e l))) ≡ false → NegationFound l at lit.NoLiteral
-      opened-not h = no-literal (opened-form ∙ rw n (among-unnamed (itemsOf (tokens (drop e l))) h))
+      opened-not h = no-literal (opened-form ∙ unnamed-none (form-read k (itemsOf (tokens (drop e l)))) h)
 
       pub negation-wordless : OneOf (0 ∷ (1 ∷ (2 ∷ []))) (tagOf the-type s) → NegationFound l at lit.NoLiteral
       negation-wordless h = opened-not (found-unnamed u h)
 
       module _ {b f : ℕ} (v : s ≡ Word b f) where
         pub negation-word : beginsWithLetter (slice b f l) ≡ false → NegationFound l at lit.NoLiteral
-        unfolding itemsOf
-        negation-word h = opened-not (rw (found-as u v .tokens-are, h))
+        negation-word h = opened-not (rw (found-as u v .tokens-are, items-word (tokens (drop f l)) (slice b f l) h))
 
         module _ (m : beginsWithLetter (slice b f l) ≡ true) {y : Next} (z : Found l f y) where
           opened-name : bodyIn (Token.opening ∷ tokens (drop at l))
               ≡ literalsAmong (closedAmong (negated (slice b f l)) (itemsOf (tokens (drop f l))))
-          unfolding itemsOf
           opened-name =
-              let w = Sentence.name (slice b f l) in
-              opened-form ∙ rw (found-as u v .tokens-are, m)
-              (ap literalsAmong (negation-items k w (itemsOf (tokens (drop f l))) n))
+              let w = slice b f l in
+              opened-form ∙ rw (found-as u v .tokens-are, items-name (tokens (drop f l)) w m)
+              (ap literalsAmong (negation-items k (Sentence.name w) (itemsOf (tokens (drop f l))) n))
 
           pub negation-unclosed : OneOf (0 ∷ (1 ∷ (3 ∷ []))) (tagOf the-type y) → NegationFound l at lit.NoLiteral
           negation-unclosed h =
               no-literal (opened-name ∙ ap literalsAmong (found-unclosed z h .unclosed (negated (slice b f l))))
 
           negation-closed : {next : ℕ} → y ≡ Close next → NegationFound l at (lit.Literal true b f next)
-          unfolding itemsOf
           negation-closed {next} d =
               let g = found-as t w in
               let i = found-as u v in
               let j = found-as z d in
+              let rest = itemsOf (tokens (drop next l)) in
               record {
-                literals-are = opened-name ∙ rw (j .tokens-are) (among-negated (slice b f l) (itemsOf (tokens (drop next l))));
+                literals-are = opened-name ∙ rw (j .tokens-are, items-closing) (among-negated (slice b f l) rest);
                 inside = (omega arith, j .inside .1, i .inside .1, i .inside .2);
               }
 
@@ -167,20 +146,20 @@ inside-from l at i (lit.Literal b a e n) h k = (omega arith, k .1, k .2, k .3)
 
 module _ {l : List ℕ} {at : ℕ} {r : Next} (t : Found l at r) where
   pub literal-end : r ≡ End → LiteralFound l at lit.NoLiteral
-  unfolding itemsOf literalsOf
-  literal-end e = no-literal (rw (found-as t e .tokens-are))
+  unfolding literalsOf
+  literal-end e = no-literal (rw (found-as t e .tokens-are, items-end))
 
   module _ {a e : ℕ} (w : r ≡ Word a e) where
     pub literal-word : beginsWithLetter (slice a e l) ≡ false → LiteralFound l at lit.NoLiteral
-    unfolding itemsOf
-    literal-word h = no-literal (rw (found-as t w .tokens-are, h))
+    literal-word h = no-literal (rw (found-as t w .tokens-are, items-word (tokens (drop e l)) (slice a e l) h))
 
     pub literal-name : beginsWithLetter (slice a e l) ≡ true → LiteralFound l at (lit.Literal false a e e)
-    unfolding itemsOf
     literal-name h =
         let g = found-as t w in
+        let v = slice a e l in
+        let us = tokens (drop e l) in
         record {
-          literals-are = rw (g .tokens-are, h) (among-name (slice a e l) (itemsOf (tokens (drop e l))));
+          literals-are = rw (g .tokens-are, items-name us v h) (among-name v (itemsOf us));
           inside = (omega arith, g .inside .2, g .inside .1, g .inside .2);
         }
 
@@ -194,13 +173,16 @@ module _ {l : List ℕ} {at : ℕ} {r : Next} (t : Found l at r) where
 
   module _ {i : ℕ} (w : r ≡ Close i) {s : Next} (u : Found l i s) where
     pub literal-more : OneOf (1 ∷ (2 ∷ (3 ∷ []))) (tagOf the-type s) → LiteralFound l at lit.NoLiteral
-    unfolding itemsOf
     literal-more h =
-        no-literal (rw (found-as t w .tokens-are) (among-closing (itemsOf (tokens (drop i l))) (found-filled u h)))
+        let none = among-closing (itemsOf (tokens (drop i l))) (found-filled u h) in
+        no-literal (rw (found-as t w .tokens-are, items-closing) none)
 
     pub literal-last : s ≡ End → LiteralFound l at lit.BodyEnd
-    unfolding itemsOf literalsOf
-    literal-last e = record { literals-are = rw (found-as t w .tokens-are, found-as u e .tokens-are); inside = tt }
+    unfolding literalsOf
+    literal-last e = record {
+      literals-are = rw (found-as t w .tokens-are, items-closing, found-as u e .tokens-are, items-end);
+      inside = tt;
+    }
 
 -- How many literals there are
 

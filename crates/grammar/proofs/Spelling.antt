@@ -9,11 +9,11 @@ use mathlib.Core.Bool.{Bool, true, false, not, true≢false}
 use mathlib.Core.List.{List, [], _∷_, _++_, append-assoc, append-nil}
 use mathlib.Core.Logic.{_⊎_, inl, inr}
 use mathlib.Core.Option.{Option}
-use Prim.Native.Nat.{ℕ, zero, suc, _<_}
+use Prim.Native.Nat.{ℕ, _≤_, _<_}
 use native.Mathlib.Omega.{arith}
-use lib.Dec.{ltb}
+use lib.Dec.{eqb, ltb}
 use lib.ListN.{length, getD}
-use borrow.Author.Tests.{ltb-true, lt-ltb}
+use borrow.Author.Tests.{ltb-true, lt-ltb, eqb-true}
 use Rattle.words.specs.Choice.{pick}
 use Rattle.text.specs.Tokens.{Token}
 use Rattle.text.specs.Words.{beginsWithLetter}
@@ -21,16 +21,25 @@ use Rattle.text.proofs.ByteLaws.{and-true-both}
 use Rattle.formulas.specs.Parsing.{Items}
 use Rattle.formulas.specs.Sentence.{Sentence, formTokens, tokensOf, isSentence}
 use Rattle.formulas.specs.Items.{prepend, Item, itemsOf}
+use Rattle.formulas.proofs.Reading.{items-end, items-closing}
 use Rattle.formulas.proofs.Spelling.{tokensOf-read, spelledItems, AreSentences, Spells, items-spell}
 use Rattle.grammar.specs.Line.{Literal, Line, lineWords, ofLiteral, bodyTokens, lineTokens, areNamed, takes}
 use Rattle.grammar.specs.Line.{isLine}
-use Rattle.grammar.specs.LineOf.{withSentence, literalsOf, withBody, seenOf, clauseOf, queryOf, ofKind}
+use Rattle.grammar.specs.LineOf.{withSentence, literalsOf, withBody, seenOf, clauseOf, queryOf, bodyLine, ofKind}
 use Rattle.grammar.specs.LineOf.{withItems, kindOf, lineOf, isNoForm}
 use Rattle.grammar.specs.Parsing.{literalsAmong, bodyIn}
-use Rattle.grammar.proofs.KindLaws.{word-kind, kind-word, fit-body, never-kind, seen-kind}
+use Rattle.grammar.proofs.KindLaws.{word-kind, kind-word, fit-body, body-kind}
 use Rattle.grammar.proofs.Lines.{clause-is}
 
 -- What is spelled is read
+
+closing-read : itemsOf (Token.closing ∷ []) ≡ Option.some (Item.closing ∷ [])
+closing-read = rw (items-closing, items-end)
+
+-- a formula and the line's closing bracket
+pub sentence-read : (f : Sentence) → isSentence f ≡ true
+    → itemsOf (tokensOf f ++ (Token.closing ∷ [])) ≡ Option.some (Item.formula f ∷ (Item.closing ∷ []))
+sentence-read f h = tokensOf-read f (Token.closing ∷ []) h ∙ ap (prepend (Item.formula f)) closing-read
 
 among-literal : (x : Literal) (y : Items)
     → literalsAmong (prepend (Item.formula (ofLiteral x)) y) ≡ prepend x (literalsAmong y)
@@ -41,8 +50,8 @@ among-literal (Literal.literal true w) Option.none = refl
 among-literal (Literal.literal true w) (Option.some m) = refl
 
 body-read : (ls : List Literal) → areNamed ls ≡ true → bodyIn (bodyTokens ls ++ (Token.closing ∷ [])) ≡ Option.some ls
-unfolding bodyTokens areNamed itemsOf literalsOf
-body-read [] h = refl
+unfolding bodyTokens areNamed literalsOf
+body-read [] h = ap literalsAmong closing-read
 body-read (x ∷ ls) h =
     let k = and-true-both _ _ h in
     let us = bodyTokens ls ++ (Token.closing ∷ []) in
@@ -50,40 +59,57 @@ body-read (x ∷ ls) h =
     (among-literal x (itemsOf us) ∙ ap (prepend x) (body-read ls (k .1)))
 
 -- the line with the word of kind k and the tokens ts behind it
-word-read : (k : ℕ) (ts : List Token) → k < 6
+word-read : (k : ℕ) (ts : List Token) → k < length lineWords
     → lineOf (formTokens (getD lineWords k []) ts) ≡ withItems k (itemsOf (ts ++ (Token.closing ∷ [])))
 unfolding lineOf
 word-read k ts h = rw (word-kind k h)
 
-clause-read : (k : ℕ) (w : List ℕ) (ls : List Literal) → isLine (Line.clause k w ls) ≡ true
-    → lineOf (lineTokens (Line.clause k w ls)) ≡ Line.clause k w ls
-unfolding isLine lineTokens
-clause-read k w ls h =
+-- and where these are literals
+literals-read : (k : ℕ) (ts : List Token) (ls : List Literal) → k < length lineWords → 3 ≤ k → (k ≡ 5 → ⊥)
+    → bodyIn (ts ++ (Token.closing ∷ [])) ≡ Option.some ls → takes k (length ls) ≡ true
+    → lineOf (formTokens (getD lineWords k []) ts) ≡ bodyLine k ls
+literals-read k ts ls h i n e t =
+    word-read k ts h ∙ body-kind k (itemsOf (ts ++ (Token.closing ∷ []))) i n ∙ ap (withBody k (bodyLine k)) e
+    ∙ fit-body k (bodyLine k) ls t
+
+-- what a clause that passes isLine is made of
+pub record ClauseParts (k : ℕ) (w : List ℕ) (ls : List Literal) : Type 0 where
+  pub kind-lt : k < 3
+  pub head : beginsWithLetter w ≡ true
+  pub body : areNamed ls ≡ true
+  pub fits : takes k (length ls) ≡ true
+
+pub clause-parts : {k : ℕ} {w : List ℕ} {ls : List Literal} → isLine (Line.clause k w ls) ≡ true → ClauseParts k w ls
+unfolding isLine
+clause-parts {k} h =
     let a = and-true-both _ _ h in
     let b = and-true-both _ _ (a .0) in
     let c = and-true-both _ _ (b .0) in
-    let i = ltb-true k 3 (c .0) in
-    word-read k (Token.word w ∷ bodyTokens ls) (omega arith) ∙ clause-is k (omega arith) refl (c .1)
-    ∙ ap (withBody k (Line.clause k w)) (body-read ls (b .1)) ∙ fit-body k (Line.clause k w) ls (a .1)
+    record { kind-lt = ltb-true k 3 (c .0); head = c .1; body = b .1; fits = a .1 }
+
+clause-read : (k : ℕ) (w : List ℕ) (ls : List Literal) → isLine (Line.clause k w ls) ≡ true
+    → lineOf (lineTokens (Line.clause k w ls)) ≡ Line.clause k w ls
+unfolding lineTokens
+clause-read k w ls h =
+    let p = clause-parts h in
+    word-read k (Token.word w ∷ bodyTokens ls) (omega arith) ∙ clause-is k (omega arith) refl (p .head)
+    ∙ ap (withBody k (Line.clause k w)) (body-read ls (p .body)) ∙ fit-body k (Line.clause k w) ls (p .fits)
 
 never-read : (ls : List Literal) → isLine (Line.never ls) ≡ true → lineOf (lineTokens (Line.never ls)) ≡ Line.never ls
 unfolding isLine lineTokens
 never-read ls h =
-    let a = and-true-both _ _ h in
-    word-read 3 (bodyTokens ls) (omega arith) ∙ never-kind (itemsOf (bodyTokens ls ++ (Token.closing ∷ [])))
-    ∙ ap (withBody 3 Line.never) (body-read ls (a .0)) ∙ fit-body 3 Line.never ls (a .1)
+    let a = and-true-both (areNamed ls) (takes 3 (length ls)) h in
+    literals-read 3 (bodyTokens ls) ls (omega arith) (omega arith) (λ z. omega arith) (body-read ls (a .0)) (a .1)
 
 seen-read : (x : Literal) → isLine (Line.seen x) ≡ true → lineOf (lineTokens (Line.seen x)) ≡ Line.seen x
-unfolding isLine lineTokens itemsOf literalsOf
+unfolding isLine lineTokens literalsOf
 seen-read x h =
-    let e = ap literalsAmong (tokensOf-read (ofLiteral x) (Token.closing ∷ []) h) in
-    word-read 4 (tokensOf (ofLiteral x)) (omega arith)
-    ∙ seen-kind (itemsOf (tokensOf (ofLiteral x) ++ (Token.closing ∷ [])))
-    ∙ ap (withBody 4 seenOf) (e ∙ among-literal x (Option.some (Item.closing ∷ [])))
+    let e = ap literalsAmong (sentence-read (ofLiteral x) h) ∙ among-literal x (Option.some (Item.closing ∷ [])) in
+    literals-read 4 (tokensOf (ofLiteral x)) (x ∷ []) (omega arith) (omega arith) (λ z. omega arith) e refl
 
 query-read : (f : Sentence) → isLine (Line.query f) ≡ true → lineOf (lineTokens (Line.query f)) ≡ Line.query f
-unfolding isLine lineTokens itemsOf
-query-read f h = word-read 5 (tokensOf f) (omega arith) ∙ ap (withItems 5) (tokensOf-read f (Token.closing ∷ []) h)
+unfolding isLine lineTokens
+query-read f h = word-read 5 (tokensOf f) (omega arith) ∙ ap (withItems 5) (sentence-read f h)
 
 pub line-read : (x : Line) → isLine x ≡ true → lineOf (lineTokens x) ≡ x
 unfolding isLine lineTokens lineOf
@@ -126,16 +152,17 @@ module _ (w : List ℕ) (ts : List Token) where
   abbrev opened : List Token
   opened = Token.opening ∷ (Token.word w ∷ ts)
 
-  picked-right : (b : Bool) (x : Line) → (b ≡ true → Right opened x) → Right opened (pick b x Line.noForm)
-  picked-right true x h = h refl
-  picked-right false x h = inl refl
+  picked-right : (b : Bool) (x y : Line) → (b ≡ true → Right opened x) → (b ≡ false → Right opened y)
+      → Right opened (pick b x y)
+  picked-right true x y h i = h refl
+  picked-right false x y h i = i refl
 
   -- literals, as many as a line of kind k takes
   body-right : (k : ℕ) (make : List Literal → Line) (m : List Item) (x : Option (List Literal)) → BodySpells m x
       → ((ls : List Literal) → BodySpells m (Option.some ls) → takes k (length ls) ≡ true → Right opened (make ls))
       → Right opened (withBody k make x)
   body-right k make m Option.none b h = inl refl
-  body-right k make m (Option.some ls) b h = picked-right (takes k (length ls)) (make ls) (h ls b)
+  body-right k make m (Option.some ls) b h = picked-right (takes k (length ls)) (make ls) _ (h ls b) (λ e. inl refl)
 
   clause-right : (k : ℕ) (m : List Item) → k < 3 → w ≡ getD lineWords k [] → Spells ts (Option.some m)
       → Right opened (clauseOf k m)
@@ -148,22 +175,6 @@ module _ (w : List ℕ) (ts : List Token) where
       body-right k (Line.clause k v) m (literalsOf m) (body-spells m (h .1 .1))
       (λ ls b t. inr (rw (lt-ltb k 3 i, h .1 .0, b .1, t), rw (e, h .0, b .0)))
 
-  never-right : (m : List Item) → w ≡ getD lineWords 3 [] → Spells ts (Option.some m) → Right opened (ofKind 3 m)
-  unfolding lineTokens isLine
-  never-right m e h =
-      body-right 3 Line.never m (literalsOf m) (body-spells m (h .1)) (λ ls b t. inr (rw (b .1, t), rw (e, h .0, b .0)))
-
-  one-right : (m : List Item) (ls : List Literal) → w ≡ getD lineWords 4 [] → Spells ts (Option.some m)
-      → BodySpells m (Option.some ls) → Right opened (seenOf ls)
-  unfolding lineTokens isLine areNamed bodyTokens
-  one-right m [] e h b = inl refl
-  one-right m (x ∷ (y ∷ ls)) e h b = inl refl
-  one-right m (x ∷ []) e h b = inr (and-true-both _ _ (b .1) .0, rw (e, h .0, b .0, append-nil))
-
-  seen-right : (m : List Item) → w ≡ getD lineWords 4 [] → Spells ts (Option.some m) → Right opened (ofKind 4 m)
-  seen-right m e h =
-      body-right 4 seenOf m (literalsOf m) (body-spells m (h .1)) (λ ls b t. one-right m ls e h b)
-
   query-right : (m : List Item) → w ≡ getD lineWords 5 [] → Spells ts (Option.some m) → Right opened (queryOf m)
   unfolding spelledItems lineTokens isLine
   query-right [] e h = inl refl
@@ -173,17 +184,38 @@ module _ (w : List ℕ) (ts : List Token) where
   query-right (Item.formula f ∷ (Item.closing ∷ (i ∷ m))) e h = inl refl
   query-right (Item.formula f ∷ (Item.closing ∷ [])) e h = inr (h .1 .0, rw (e, h .0))
 
-  kind-right : (k : ℕ) (m : List Item) → (k < 6 → w ≡ getD lineWords k []) → Spells ts (Option.some m)
-      → Right opened (ofKind k m)
-  kind-right zero m e h = clause-right 0 m (omega arith) (e (omega arith)) h
-  kind-right (suc zero) m e h = clause-right 1 m (omega arith) (e (omega arith)) h
-  kind-right (suc (suc zero)) m e h = clause-right 2 m (omega arith) (e (omega arith)) h
-  kind-right (suc (suc (suc zero))) m e h = never-right m (e (omega arith)) h
-  kind-right (suc (suc (suc (suc zero)))) m e h = seen-right m (e (omega arith)) h
-  kind-right (suc (suc (suc (suc (suc zero))))) m e h = query-right m (e (omega arith)) h
-  kind-right (suc (suc (suc (suc (suc (suc k)))))) m e h = inl refl
+  -- lines of literals alone
+  seen-right : (m : List Item) (ls : List Literal) → w ≡ getD lineWords 4 [] → Spells ts (Option.some m)
+      → BodySpells m (Option.some ls) → Right opened (seenOf ls)
+  unfolding lineTokens isLine areNamed bodyTokens
+  seen-right m [] e h b = inl refl
+  seen-right m (x ∷ (y ∷ ls)) e h b = inl refl
+  seen-right m (x ∷ []) e h b = inr (and-true-both _ _ (b .1) .0, rw (e, h .0, b .0, append-nil))
 
-  items-right : (k : ℕ) (x : Items) → (k < 6 → w ≡ getD lineWords k []) → Spells ts x → Right opened (withItems k x)
+  module _ (m : List Item) (ls : List Literal) (h : Spells ts (Option.some m)) (b : BodySpells m (Option.some ls)) where
+    never-right : w ≡ getD lineWords 3 [] → takes 3 (length ls) ≡ true → Right opened (Line.never ls)
+    unfolding lineTokens isLine
+    never-right e t = inr (rw (b .1, t), rw (e, h .0, b .0))
+
+    literals-right : (k : ℕ) → (k < length lineWords → w ≡ getD lineWords k []) → takes k (length ls) ≡ true
+        → Right opened (bodyLine k ls)
+    literals-right k e t =
+        picked-right (eqb k 3) (Line.never ls) _
+        (λ q. let z = eqb-true k 3 q in never-right (rw z at (e (omega arith))) (rw z at t))
+        (λ _. picked-right (eqb k 4) (seenOf ls) _
+        (λ q. let z = eqb-true k 4 q in seen-right m ls (rw z at (e (omega arith))) h b) (λ _. inl refl))
+
+  kind-right : (k : ℕ) (m : List Item) → (k < length lineWords → w ≡ getD lineWords k []) → Spells ts (Option.some m)
+      → Right opened (ofKind k m)
+  kind-right k m e h =
+      picked-right (ltb k 3) (clauseOf k m) _ (λ q. let i = ltb-true k 3 q in clause-right k m i (e (omega arith)) h)
+      (λ _. picked-right (eqb k 5) (queryOf m) _
+      (λ q. let z = eqb-true k 5 q in query-right m (rw z at (e (omega arith))) h)
+      (λ _. body-right k (bodyLine k) m (literalsOf m) (body-spells m (h .1))
+      (λ ls b t. literals-right m ls h b k e t)))
+
+  items-right : (k : ℕ) (x : Items) → (k < length lineWords → w ≡ getD lineWords k []) → Spells ts x
+      → Right opened (withItems k x)
   items-right k Option.none e h = inl refl
   items-right k (Option.some m) e h = kind-right k m e h
 

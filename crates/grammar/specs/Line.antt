@@ -18,7 +18,7 @@ use Rattle.text.specs.Bytes.{bytes}
 use Rattle.text.specs.Tokens.{Token}
 use Rattle.text.specs.Words.{beginsWithLetter}
 use Rattle.formulas.specs.Sentence.{Sentence, formTokens, tokensOf, depthOf, isSentence, sentenceNames}
-use Rattle.grammar.specs.declared.line.Brings.{Brings}
+use Rattle.grammar.specs.declared.brings.Brings.{Brings}
 
 -- the literal of the name w, negated where the test holds
 pub data Literal : Type 0 where

@@ -7,7 +7,8 @@
 use mathlib.Core.Bool.{Bool, true, false}
 use mathlib.Core.List.{List, [], _∷_}
 use mathlib.Core.Option.{Option}
-use Prim.Native.Nat.{ℕ, zero, suc}
+use Prim.Native.Nat.{ℕ}
+use lib.Dec.{eqb, ltb}
 use lib.ListN.{length}
 use Rattle.words.specs.Choice.{pick}
 use Rattle.text.specs.Tokens.{Token}
@@ -62,15 +63,13 @@ clauseOf k l = withFirst Line.noForm (λ f m. named (λ w. withBody k (Line.clau
 abbrev pub queryOf : List Item → Line
 queryOf l = withFirst Line.noForm (λ f m. pick (isEnd m) (Line.query f) Line.noForm) l
 
+-- the line of kind k with these literals alone: a constraint or a reading
+abbrev pub bodyLine : ℕ → List Literal → Line
+bodyLine k l = pick (eqb k 3) (Line.never l) (pick (eqb k 4) (seenOf l) Line.noForm)
+
 -- the line of kind k with these items
 abbrev pub ofKind : ℕ → List Item → Line
-ofKind zero l = clauseOf 0 l
-ofKind (suc zero) l = clauseOf 1 l
-ofKind (suc (suc zero)) l = clauseOf 2 l
-ofKind (suc (suc (suc zero))) l = withBody 3 Line.never (literalsOf l)
-ofKind (suc (suc (suc (suc zero)))) l = withBody 4 seenOf (literalsOf l)
-ofKind (suc (suc (suc (suc (suc zero))))) l = queryOf l
-ofKind (suc (suc (suc (suc (suc (suc k)))))) l = Line.noForm
+ofKind k l = pick (ltb k 3) (clauseOf k l) (pick (eqb k 5) (queryOf l) (withBody k (bodyLine k) (literalsOf l)))
 
 abbrev pub withItems : ℕ → Option (List Item) → Line
 withItems k Option.none = Line.noForm

@@ -20,7 +20,7 @@ use Rattle.grammar.specs.declared.literal.Lit.{Lit}
 use Rattle.grammar.specs.declared.literal.Lit.the-variants as lit
 use Rattle.grammar.specs.declared.line.Form.{Form}
 use Rattle.grammar.specs.declared.line.Form.the-variants.{Skipped, NoForm, Clause, Never, Seen, Query}
-use Rattle.grammar.specs.declared.line.Brings.{Brings}
+use Rattle.grammar.specs.declared.brings.Brings.{Brings}
 use Rattle.grammar.specs.Line.{Line, Literal, takes, brings}
 use Rattle.grammar.specs.LineOf.{literalsOf, isEnd, withItems, lineOf}
 

@@ -2,11 +2,14 @@
 ghost use Prim.Native.Nat.{_≤_};
 ghost use mathlib.Core.Path.{_≡_};
 ghost use lib.ListN.{length};
-ghost use Rattle.grammar.specs.Parsing.{FormFound, FormAfter, endsLine};
-use crate::kind::kind_of;
+ghost use lib.Seq.{slice};
+ghost use Rattle.grammar.specs.LineOf.{kindOf};
+ghost use Rattle.grammar.specs.Parsing.{FormFound, FormAfter, Brought, endsLine};
+use crate::brings::Brings;
 use crate::literal::has_body;
 use formulas::formula::Parse;
 use formulas::formula::formula_at;
+use formulas::keyword::place_of;
 use text::name::is_name;
 use text::tokens::Next;
 use text::tokens::token;
@@ -22,12 +25,15 @@ pub enum Form {
     Query(usize, usize),
 }
 
-// How many clauses, constraints and queries a line brings, and the depth of its formula, 0 without one.
-pub struct Brings {
-    pub clauses: usize,
-    pub constraints: usize,
-    pub queries: usize,
-    pub depth: usize,
+// The words of lines, in the order of their kinds, each behind its length.
+const LINE_WORDS: [u8; 31] = *b"\x04true\x05false\x02if\x05never\x04seen\x05query";
+
+// The kind of the line whose word is the part of l from a to e, or 6.
+fn kind_of(l: &[u8], a: usize, e: usize) -> usize
+    requires { ⌜ (a ≤ e) × (e ≤ length (now l)) ⌝ }
+    ensures { λ r. ⌜ r ≡ kindOf (slice a e (now (l .entry))) ⌝ }
+{
+    place_of(l, a, e, &LINE_WORDS, 6)
 }
 
 // Whether a closing bracket is all that is left of a line from a place on.
@@ -110,5 +116,49 @@ pub fn form_of(l: &[u8]) -> Form
             };
             form_of_kind(l, e, kind_of(l, a, e))
         }
+    }
+}
+
+// What the line of a form brings.
+pub fn brings(x: Form) -> Brings
+    ensures { λ r. ⌜ Brought x r ⌝ }
+{
+    match x {
+        Form::Skipped => Brings {
+            clauses: 0,
+            constraints: 0,
+            queries: 0,
+            depth: 0,
+        },
+        Form::NoForm => Brings {
+            clauses: 0,
+            constraints: 0,
+            queries: 0,
+            depth: 0,
+        },
+        Form::Clause(_, _, _, _) => Brings {
+            clauses: 1,
+            constraints: 0,
+            queries: 0,
+            depth: 0,
+        },
+        Form::Never(_) => Brings {
+            clauses: 0,
+            constraints: 1,
+            queries: 0,
+            depth: 0,
+        },
+        Form::Seen(_) => Brings {
+            clauses: 0,
+            constraints: 0,
+            queries: 0,
+            depth: 0,
+        },
+        Form::Query(_, depth) => Brings {
+            clauses: 0,
+            constraints: 0,
+            queries: 1,
+            depth: depth,
+        },
     }
 }

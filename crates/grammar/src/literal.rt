@@ -2,8 +2,8 @@
 ghost use mathlib.Core.Path.{_≡_};
 ghost use Prim.Native.Nat.{_≤_};
 ghost use lib.ListN.{length};
+ghost use Rattle.grammar.specs.Line.{takes};
 ghost use Rattle.grammar.specs.Parsing.{LiteralFound, NegationFound, hasBody};
-use crate::kind::takes;
 use formulas::keyword::node_of;
 use text::name::is_name;
 use text::tokens::Next;
@@ -58,6 +58,19 @@ pub fn literal(l: &[u8], at: usize) -> Lit
             Lit::BodyEnd
         }
     }
+}
+
+// Whether a line of a kind takes n literals.
+fn takes(kind: usize, n: usize) -> bool
+    ensures { λ r. ⌜ r ≡ takes kind n ⌝ }
+{
+    if kind < 2 {
+        return n == 0;
+    }
+    if kind == 4 {
+        return n == 1;
+    }
+    0 < n
 }
 
 // Whether a place is followed by literals to the end of the line, as many as a line of a kind takes.

@@ -1,6 +1,6 @@
 -- `line::form_of_kind` meets its contract: each return is one law of the lines of a kind. Assumes nothing.
 use borrow.Author.Needs.{needs}
-use Rattle.grammar.proofs.Others.{failed, passed}
+use Rattle.grammar.proofs.FoundWords.{failed, passed}
 use Rattle.grammar.proofs.Lines.{form-as, form-unfit, form-never, form-seen, form-other}
 use Rattle.grammar.proofs.line.form_of_kind.Statement.{statement}
 use Rattle.grammar.proofs.line.form_of_kind.Tie as tie
@@ -30,7 +30,7 @@ returns-5 : tie.Need-returns-5
 returns-5 c = search (needs, form-seen, passed)
 
 returns-6 : tie.Need-returns-6
-returns-6 c = search (needs, form-other)
+returns-6 c = search (needs, form-other, passed)
 
 pub form-of-kind-spec : {M : Type 1} → statement M
 form-of-kind-spec =

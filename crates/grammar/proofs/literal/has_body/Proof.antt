@@ -3,7 +3,8 @@
 use borrow.Author.Needs.{needs}
 use Prim.Native.Nat.{_-_}
 use lib.ListN.{length}
-use Rattle.grammar.proofs.Literals.{Counted, counted-none, counted-bad, counted-end, counted-few, counted-less, counted-more}
+use Rattle.grammar.proofs.Literals.{Counted, counted-none, counted-bad, counted-end, counted-few}
+use Rattle.grammar.proofs.Literals.{counted-less, counted-more}
 use Rattle.grammar.proofs.literal.has_body.Statement.{statement}
 use Rattle.grammar.proofs.literal.has_body.Tie as tie
 

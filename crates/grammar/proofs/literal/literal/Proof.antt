@@ -1,7 +1,8 @@
 -- `literal::literal` meets its contract: each return is one law of the tokens of a body. Assumes nothing.
 use borrow.Author.Needs.{needs}
-use Rattle.grammar.proofs.Others.{failed, passed, word-filled, word-within}
-use Rattle.grammar.proofs.Literals.{literal-end, literal-word, literal-name, literal-opened, literal-more, literal-last}
+use Rattle.grammar.proofs.FoundWords.{failed, passed, word-filled, word-within}
+use Rattle.grammar.proofs.Literals.{literal-end, literal-word, literal-name, literal-opened, literal-more}
+use Rattle.grammar.proofs.Literals.{literal-last}
 use Rattle.grammar.proofs.literal.literal.Statement.{statement}
 use Rattle.grammar.proofs.literal.literal.Tie as tie
 

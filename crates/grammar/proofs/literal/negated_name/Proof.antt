@@ -1,8 +1,8 @@
 -- `literal::negated_name` meets its contract: each return is one law of the tokens behind the bracket. Assumes nothing.
 use borrow.Author.Needs.{needs}
-use Rattle.grammar.proofs.Others.{failed, passed, word-filled, word-le, word-within}
-use Rattle.grammar.proofs.Literals.{opened-wordless, opened-other, negation-wordless, negation-word, negation-unclosed}
-use Rattle.grammar.proofs.Literals.{negation-found}
+use Rattle.grammar.proofs.FoundWords.{failed, passed, word-filled, word-le, word-within}
+use Rattle.grammar.proofs.Literals.{opened-wordless, opened-other, negation-wordless, negation-word}
+use Rattle.grammar.proofs.Literals.{negation-unclosed, negation-found}
 use Rattle.grammar.proofs.literal.negated_name.Statement.{statement}
 use Rattle.grammar.proofs.literal.negated_name.Tie as tie
 

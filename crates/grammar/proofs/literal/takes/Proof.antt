@@ -1,8 +1,8 @@
--- `kind::takes` meets its contract: its tests are those of the definition. Assumes nothing.
+-- `literal::takes` meets its contract: its tests are those of the definition. Assumes nothing.
 use borrow.Author.Tests.{lt-ltb, le-ltb, eq-eqb, ne-eqb}
 use native.Mathlib.Omega.{arith}
-use Rattle.grammar.proofs.kind.takes.Statement.{statement}
-use Rattle.grammar.proofs.kind.takes.Tie as tie
+use Rattle.grammar.proofs.literal.takes.Statement.{statement}
+use Rattle.grammar.proofs.literal.takes.Tie as tie
 
 returns : tie.Need-returns
 returns c = rw (lt-ltb (c .before .args .kind) 2 (c .if1 .taken))

@@ -1,8 +1,8 @@
--- `brings::brings` meets its contract: each return is what the law says of a line of this form. Assumes nothing.
+-- `line::brings` meets its contract: each return is what the law says of a line of this form. Assumes nothing.
 use borrow.Author.Needs.{needs}
 use Rattle.grammar.proofs.Lines.{brought-as}
-use Rattle.grammar.proofs.brings.brings.Statement.{statement}
-use Rattle.grammar.proofs.brings.brings.Tie as tie
+use Rattle.grammar.proofs.line.brings.Statement.{statement}
+use Rattle.grammar.proofs.line.brings.Tie as tie
 
 enum-told : tie.Need-enum-told
 enum-told c = search needs
