@@ -60,7 +60,7 @@ read-filled (Read.name e r) = tt
 read-filled (Read.negation e r) = tt
 read-filled (Read.joined b e r) = tt
 
-pub token-filled : (t : Token) (ts : List Token) → Filled (itemsOf (t ∷ ts))
+token-filled : (t : Token) (ts : List Token) → Filled (itemsOf (t ∷ ts))
 token-filled t ts = read-filled (items-read (t ∷ ts))
 
 opening-unclosed : {ts : List Token} {x : Items} (f : Sentence) → Read (Token.opening ∷ ts) x

@@ -35,10 +35,6 @@ module _ (w : List ℕ) where
   unfolding nodeOf
   node-ge = omega arith
 
-  pub node-le : nodeOf w ≤ 69
-  unfolding nodeOf
-  node-le = omega (arith, place-le formWords w)
-
   pub node-word : nodeOf w ≤ 68 → getD formWords (nodeOf w - 64) [] ≡ w
   unfolding nodeOf
   node-word h =
