@@ -3,6 +3,7 @@
 --   Filled x        x is none or not empty
 --   nameFirst x     x begins with a name
 --   Unclosed ts     the items of the tokens ts begin with no closing bracket
+--   NotClose r, NotWord r, NotEnd r, EndOrClose r     what the token r that was found is not, or is
 -- Assumes nothing.
 use mathlib.Core.Path.{_≡_, refl}
 use mathlib.Core.Bool.{Bool, true, false}
@@ -38,6 +39,18 @@ nameFirst (Option.some (Item.formula (Sentence.joined k f g) ∷ l)) = false
 pub record Unclosed (ts : List Token) : Type 0 where
   pub unclosed : (f : Sentence) → closedAmong f (itemsOf ts) ≡ Option.none
 
+abbrev pub NotClose : Next → Type 0
+NotClose r = OneOf (0 ∷ (1 ∷ (3 ∷ []))) (tagOf the-type r)
+
+abbrev pub NotWord : Next → Type 0
+NotWord r = OneOf (0 ∷ (1 ∷ (2 ∷ []))) (tagOf the-type r)
+
+abbrev pub NotEnd : Next → Type 0
+NotEnd r = OneOf (1 ∷ (2 ∷ (3 ∷ []))) (tagOf the-type r)
+
+abbrev pub EndOrClose : Next → Type 0
+EndOrClose r = OneOf (0 ∷ (2 ∷ [])) (tagOf the-type r)
+
 -- By the first token
 
 read-filled : {t : Token} {ts : List Token} {x : Items} → Read (t ∷ ts) x → Filled x
@@ -47,7 +60,7 @@ read-filled (Read.name e r) = tt
 read-filled (Read.negation e r) = tt
 read-filled (Read.joined b e r) = tt
 
-pub token-filled : (t : Token) (ts : List Token) → Filled (itemsOf (t ∷ ts))
+token-filled : (t : Token) (ts : List Token) → Filled (itemsOf (t ∷ ts))
 token-filled t ts = read-filled (items-read (t ∷ ts))
 
 opening-unclosed : {ts : List Token} {x : Items} (f : Sentence) → Read (Token.opening ∷ ts) x
@@ -77,7 +90,7 @@ word-unclosed f (Read.name e r) = refl
 -- By what was found, where it is not the token that was looked for
 
 module _ (l : List ℕ) where
-  first-unclosed : (r : Next) → OneOf (0 ∷ (1 ∷ (3 ∷ []))) (tagOf the-type r) → (f : Sentence)
+  first-unclosed : (r : Next) → NotClose r → (f : Sentence)
       → closedAmong f (itemsOf (firstToken l r)) ≡ Option.none
   unfolding itemsOf
   first-unclosed End h f = refl
@@ -85,22 +98,20 @@ module _ (l : List ℕ) where
   first-unclosed (Close n) h f = absurd (miss (0 ∷ (1 ∷ (3 ∷ []))) 2 tt h)
   first-unclosed (Word a e) h f = word-unclosed f (items-read (firstToken l (Word a e)))
 
-  first-unnamed : (r : Next) → OneOf (0 ∷ (1 ∷ (2 ∷ []))) (tagOf the-type r)
-      → nameFirst (itemsOf (firstToken l r)) ≡ false
+  first-unnamed : (r : Next) → NotWord r → nameFirst (itemsOf (firstToken l r)) ≡ false
   unfolding itemsOf
   first-unnamed End h = refl
   first-unnamed (Open n) h = opening-unnamed (items-read (firstToken l (Open n)))
   first-unnamed (Close n) h = closing-unnamed (items-read (firstToken l (Close n)))
   first-unnamed (Word a e) h = absurd (miss (0 ∷ (1 ∷ (2 ∷ []))) 3 tt h)
 
-  first-filled : (r : Next) → OneOf (1 ∷ (2 ∷ (3 ∷ []))) (tagOf the-type r) → Filled (itemsOf (firstToken l r))
+  first-filled : (r : Next) → NotEnd r → Filled (itemsOf (firstToken l r))
   first-filled End h = absurd (miss (1 ∷ (2 ∷ (3 ∷ []))) 0 tt h)
   first-filled (Open n) h = token-filled _ _
   first-filled (Close n) h = token-filled _ _
   first-filled (Word a e) h = token-filled _ _
 
-  first-begins : (r : Next) → OneOf (0 ∷ (2 ∷ [])) (tagOf the-type r)
-      → beginsFormula (itemsOf (firstToken l r)) ≡ false
+  first-begins : (r : Next) → EndOrClose r → beginsFormula (itemsOf (firstToken l r)) ≡ false
   unfolding itemsOf
   first-begins End h = refl
   first-begins (Open n) h = absurd (miss (0 ∷ (2 ∷ [])) 1 tt h)
@@ -108,8 +119,7 @@ module _ (l : List ℕ) where
   first-begins (Word a e) h = absurd (miss (0 ∷ (2 ∷ [])) 3 tt h)
 
   -- behind an opening bracket
-  second-begins : (r : Next) → OneOf (0 ∷ (1 ∷ (2 ∷ []))) (tagOf the-type r)
-      → itemsOf (Token.opening ∷ firstToken l r) ≡ Option.none
+  second-begins : (r : Next) → NotWord r → itemsOf (Token.opening ∷ firstToken l r) ≡ Option.none
   unfolding itemsOf
   second-begins End h = refl
   second-begins (Open n) h = refl
@@ -117,18 +127,17 @@ module _ (l : List ℕ) where
   second-begins (Word a e) h = absurd (miss (0 ∷ (1 ∷ (2 ∷ []))) 3 tt h)
 
 module _ {l : List ℕ} {at : ℕ} {r : Next} (t : Found l at r) where
-  pub found-unclosed : OneOf (0 ∷ (1 ∷ (3 ∷ []))) (tagOf the-type r) → Unclosed (tokens (drop at l))
+  pub found-unclosed : NotClose r → Unclosed (tokens (drop at l))
   found-unclosed h = record { unclosed = λ f. rw (t .tokens-are) (first-unclosed l r h f) }
 
-  pub found-unnamed : OneOf (0 ∷ (1 ∷ (2 ∷ []))) (tagOf the-type r) → nameFirst (itemsOf (tokens (drop at l))) ≡ false
+  pub found-unnamed : NotWord r → nameFirst (itemsOf (tokens (drop at l))) ≡ false
   found-unnamed h = rw (t .tokens-are) (first-unnamed l r h)
 
-  pub found-filled : OneOf (1 ∷ (2 ∷ (3 ∷ []))) (tagOf the-type r) → Filled (itemsOf (tokens (drop at l)))
+  pub found-filled : NotEnd r → Filled (itemsOf (tokens (drop at l)))
   found-filled h = rw (t .tokens-are) (first-filled l r h)
 
-  pub found-begins : OneOf (0 ∷ (2 ∷ [])) (tagOf the-type r) → beginsFormula (itemsOf (tokens (drop at l))) ≡ false
+  pub found-begins : EndOrClose r → beginsFormula (itemsOf (tokens (drop at l))) ≡ false
   found-begins h = rw (t .tokens-are) (first-begins l r h)
 
-  pub found-behind : OneOf (0 ∷ (1 ∷ (2 ∷ []))) (tagOf the-type r)
-      → itemsOf (Token.opening ∷ tokens (drop at l)) ≡ Option.none
+  pub found-behind : NotWord r → itemsOf (Token.opening ∷ tokens (drop at l)) ≡ Option.none
   found-behind h = rw (t .tokens-are) (second-begins l r h)

@@ -1,25 +1,19 @@
--- The numbers that words have, and the words that have them; tables of words.
---
---   Ahead t n i w p     p is the place of w among n words, of which i are passed and the table t has the others
--- Assumes nothing.
-use mathlib.Core.Path.{_≡_, refl, _∙_}
-use mathlib.Core.Bool.{Bool, true, false}
+-- The numbers that words have, and the words that have them. Assumes nothing.
+use mathlib.Core.Path.{_≡_, refl}
+use mathlib.Core.Bool.{true}
 use mathlib.Core.List.{List, []}
-use Prim.Native.Nat.{ℕ, suc, _+_, _-_, _≤_, _<_}
-use native.Mathlib.Nat.{sub-zero}
+use Prim.Native.Nat.{ℕ, _+_, _-_, _≤_, _<_}
 use native.Mathlib.Omega.{arith}
 use lib.Dec.{eqb}
-use lib.ListN.{length, take, drop, getD, length-drop}
-use lib.Seq.{take-all}
+use lib.ListN.{length, getD}
 use borrow.Author.Tests.{eqb-true}
 use Rattle.words.specs.Below.{every}
 use Rattle.words.proofs.Below.{every-at}
 use Rattle.text.specs.Bytes.{sameBytes}
 use Rattle.text.specs.Words.{placeOf}
-use Rattle.text.proofs.Same.{same-comm}
-use Rattle.text.proofs.Places.{place-here, place-later, place-none, place-le, place-name}
+use Rattle.text.proofs.Places.{place-le, place-name}
 use Rattle.formulas.specs.Sentence.{formWords}
-use Rattle.formulas.specs.Keyword.{nodeOf, wordEnd, wordRows, HasWords}
+use Rattle.formulas.specs.Keyword.{nodeOf}
 
 -- words of which no two are the same have the places where they stand
 pub own-place : (ws : List (List ℕ)) → every (length ws) (λ i. eqb (placeOf ws (getD ws i [])) i) ≡ true → (i : ℕ)
@@ -41,53 +35,17 @@ module _ (w : List ℕ) where
   unfolding nodeOf
   node-ge = omega arith
 
-  pub node-le : nodeOf w ≤ 69
-  unfolding nodeOf
-  node-le = omega (arith, place-le formWords w)
-
   pub node-word : nodeOf w ≤ 68 → getD formWords (nodeOf w - 64) [] ≡ w
   unfolding nodeOf
   node-word h =
       let z : (64 + placeOf formWords w) - 64 ≡ placeOf formWords w = omega arith in
       rw z (place-name formWords w (omega arith))
 
--- Tables of words
+-- by the place r of a word
+module _ (w : List ℕ) {r : ℕ} (e : r ≡ placeOf formWords w) where
+  pub place-few : r ≤ 5
+  place-few = omega (arith, place-le formWords w)
 
-pub record Ahead (t : List ℕ) (n i : ℕ) (w : List ℕ) (p : ℕ) : Type 0 where
-  pub within : i ≤ n
-  pub has : HasWords t (n - i)
-  pub place-is : p ≡ i + placeOf (wordRows t (n - i)) w
-
-module _ (t : List ℕ) (n : ℕ) (w : List ℕ) where
-  pub all-ahead : HasWords t n → Ahead t n 0 w (placeOf (wordRows t n) w)
-  all-ahead h = record { within = omega arith; has = rw sub-zero h; place-is = rw sub-zero (omega arith) }
-
-module _ {t : List ℕ} {n i : ℕ} {w : List ℕ} {p : ℕ} (q : Ahead t n i w p) where
-  pub none-ahead : n ≤ i → n ≡ p
-  none-ahead h = let z : n - i ≡ 0 = omega arith in omega (arith, rw (z, place-none) at (q .place-is))
-
-  module _ (h : i < n) where
-    left : n - i ≡ suc (n - (i + 1))
-    left = omega arith
-
-    pub word-fits : wordEnd t ≤ length t
-    word-fits = (rw left at (q .has)) .0
-
-    -- the first word that is ahead, as the code reads it
-    tested : {b : Bool} → sameBytes w (take (wordEnd t - 1) (drop 1 t)) ≡ b
-        → sameBytes (take (getD t 0 0) (drop 1 t)) w ≡ b
-    tested e = let z : wordEnd t - 1 ≡ getD t 0 0 = omega arith in same-comm _ w ∙ rw z at e
-
-    pub word-found : sameBytes w (take (wordEnd t - 1) (drop 1 t)) ≡ true → i ≡ p
-    word-found e = omega (arith, rw (left, place-here _ _ _ (tested e)) at (q .place-is))
-
-    -- the table behind it, as the code has it
-    pub word-passed : sameBytes w (take (wordEnd t - 1) (drop 1 t)) ≡ false
-        → Ahead (take (length t - wordEnd t) (drop (wordEnd t) t)) n (i + 1) w p
-    word-passed e =
-        let f : length (drop (wordEnd t) t) ≤ length t - wordEnd t = omega (arith, length-drop (wordEnd t) t) in
-        rw (take-all _ _ f) record {
-          within = omega arith;
-          has = (rw left at (q .has)) .1;
-          place-is = omega (arith, rw (left, place-later _ _ _ (tested e)) at (q .place-is));
-        }
+  pub place-node : 64 + r ≡ nodeOf w
+  unfolding nodeOf
+  place-node = omega arith

@@ -1,5 +1,6 @@
 -- Theorems: a proof of each claim.
--- Keywords: the numbers that words have, and tables of words.
+-- Keywords: the numbers that words have.
+-- WordTables: words in a table.
 -- Sentences: how a formula's depth, nodes and tokens bound each other, and its names.
 -- Reading: what tokens are read as, by cases.
 -- FirstItem: what items begin with, by the token in front.
@@ -9,6 +10,7 @@
 -- Formulas: formulas at a place of a line.
 pub mod Theorems
 pub mod Keywords
+pub mod WordTables
 pub mod Sentences
 pub mod Reading
 pub mod FirstItem

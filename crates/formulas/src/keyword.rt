@@ -4,7 +4,8 @@ ghost use Prim.Native.Nat.{_≤_};
 ghost use lib.ListN.{length};
 ghost use lib.Seq.{slice};
 ghost use Rattle.text.specs.Words.{placeOf};
-ghost use Rattle.formulas.specs.Keyword.{nodeOf, wordRows, HasWords};
+ghost use Rattle.formulas.specs.Keyword.{nodeOf};
+ghost use Rattle.formulas.specs.WordTable.{wordRows, HasWords};
 use text::bytes::is_same;
 
 // The words of forms, in the order of their nodes, each behind its length.

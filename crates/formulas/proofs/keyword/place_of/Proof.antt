@@ -1,14 +1,12 @@
 -- `keyword::place_of` meets its contract. The invariant: the words that are not passed stand in t. Assumes nothing.
 use borrow.Author.Needs.{needs}
-use mathlib.Core.Path.{sym, _∙_}
-use mathlib.Core.List.{List}
-use Prim.Native.Nat.{ℕ, _-_, _≤_}
+use Prim.Native.Nat.{_-_}
 use native.Mathlib.Omega.{arith}
-use lib.ListN.{length}
 use lib.Seq.{slice}
 use Rattle.text.specs.Words.{placeOf}
-use Rattle.formulas.specs.Keyword.{wordEnd, wordRows}
-use Rattle.formulas.proofs.Keywords.{Ahead, all-ahead, none-ahead, word-fits, word-found, word-passed}
+use Rattle.formulas.specs.WordTable.{wordRows}
+use Rattle.formulas.proofs.WordTables.{Ahead, all-ahead, none-ahead}
+use Rattle.formulas.proofs.WordTables.{word-there, word-fits, word-found, word-passed}
 use Rattle.formulas.proofs.keyword.place_of.Statement.{statement}
 use Rattle.formulas.proofs.keyword.place_of.Tie as tie
 
@@ -18,24 +16,11 @@ Inv-loop l a e words n t₀ i₀ t i = Ahead t n i (slice a e l) (placeOf (wordR
 abbrev μ-loop : tie.MeasureT-loop
 μ-loop l a e words n t₀ i₀ t i = n - i
 
--- where a turn begins, the table that is left there, and that it has a word
-abbrev Turn : Type 0
-Turn = tie.In-loop Inv-loop μ-loop
-
-abbrev turn : tie.After-is-same Inv-loop μ-loop → Turn
-turn c = c .before .before .before
-
-abbrev table : Turn → List ℕ
-table c = c .before .loop .t .now
-
-fits : (c : Turn) → wordEnd (table c) ≤ length (table c)
-fits c = word-fits (c .before .loop .inv) (search needs)
-
 loop-holds : tie.Need-loop-holds Inv-loop μ-loop
-loop-holds c = all-ahead _ _ _ (c .before .before .pre .2)
+loop-holds c = search (needs, all-ahead)
 
 shared-slice-read-next : tie.Need-shared-slice-read-next Inv-loop μ-loop
-shared-slice-read-next c = omega (arith, fits (c .before))
+shared-slice-read-next c = search (needs, word-there)
 
 cast-next : tie.Need-cast-next Inv-loop μ-loop
 cast-next c = omega (arith, c .shared-slice-known3 .given 0)
@@ -50,24 +35,22 @@ part-is-same-start : tie.Need-part-is-same-start Inv-loop μ-loop
 part-is-same-start c = search needs
 
 part-is-same-end : tie.Need-part-is-same-end Inv-loop μ-loop
-part-is-same-end c = let f = fits (c .before) in search needs
+part-is-same-end c = search (needs, word-fits)
 
 is-same-requires : tie.Need-is-same-requires Inv-loop μ-loop
 is-same-requires c κs = search needs
 
 returns : tie.Need-returns Inv-loop μ-loop
-returns c =
-    let s = c .before in
-    word-found (turn s .before .loop .inv) (search needs) (sym (s .is-same .ensures) ∙ c .if1 .taken)
+returns c = search (needs, word-found)
 
 sub-t : tie.Need-sub-t Inv-loop μ-loop
-sub-t c = omega (arith, fits (turn (c .before)))
+sub-t c = search (needs, word-fits)
 
 part-t-start : tie.Need-part-t-start Inv-loop μ-loop
-part-t-start c = let f = fits (turn (c .before)) in search needs
+part-t-start c = search (needs, word-fits)
 
 part-t-end : tie.Need-part-t-end Inv-loop μ-loop
-part-t-end c = let f = fits (turn (c .before)) in search needs
+part-t-end c = search needs
 
 add-i : tie.Need-add-i Inv-loop μ-loop
 add-i c = search needs
@@ -76,13 +59,10 @@ loop-less : tie.Need-loop-less Inv-loop μ-loop
 loop-less c = search needs
 
 loop-again : tie.Need-loop-again Inv-loop μ-loop
-loop-again c =
-    let d = c .before in
-    let s = d .before in
-    word-passed (turn s .before .loop .inv) (search needs) (sym (s .is-same .ensures) ∙ d .if1 .left)
+loop-again c = search (needs, word-passed)
 
 returns-2 : tie.Need-returns-2 Inv-loop μ-loop
-returns-2 c = none-ahead (c .before .loop .inv) (search needs)
+returns-2 c = search (needs, none-ahead)
 
 pub place-of-spec : {M : Type 1} → statement M
 place-of-spec =
