@@ -25,13 +25,13 @@ use Rattle.formulas.proofs.Reading.{Read, items-read, items-closing, it
 -- What is spelled is read
 
 -- what a form that passes isSentence is made of
-record JoinedSentence (k : ℕ) (f g : Sentence) : Type 0 where
-  low : 65 ≤ k
-  high : k ≤ 68
-  first : isSentence f ≡ true
-  second : isSentence g ≡ true
+pub record JoinedSentence (k : ℕ) (f g : Sentence) : Type 0 where
+  pub low : 65 ≤ k
+  pub high : k ≤ 68
+  pub first : isSentence f ≡ true
+  pub second : isSentence g ≡ true
 
-joined-sentence : (k : ℕ) (f g : Sentence) → isSentence (Sentence.joined k f g) ≡ true → JoinedSentence k f g
+pub joined-sentence : (k : ℕ) (f g : Sentence) → isSentence (Sentence.joined k f g) ≡ true → JoinedSentence k f g
 unfolding isSentence
 joined-sentence k f g h =
     let a = and-true-both _ _ h in

@@ -132,6 +132,15 @@ each-found ns [] = tt
 each-found ns (w ∷ ws) =
     (with-names-kept (withName ns w) ws w (with-name-found ns w), each-found (withName ns w) ws)
 
+-- names that are found add nothing
+with-names-known : (ns ws : List (List ℕ)) → Each (λ w. atomOf ns w < length ns) ws → withNames ns ws ≡ ns
+unfolding withNames
+with-names-known ns [] h = refl
+with-names-known ns (w ∷ ws) h = rw (with-name-known ns w (h .0)) (with-names-known ns ws (h .1))
+
+pub with-names-again : (ns ws : List (List ℕ)) → withNames (withNames ns ws) ws ≡ withNames ns ws
+with-names-again ns ws = with-names-known (withNames ns ws) ws (each-found ns ws)
+
 -- what holds of each of the names and of each that is added
 module _ (P : List ℕ → Type 0) where
   with-name-each : (ns : List (List ℕ)) (w : List ℕ) → Each P ns → P w → Each P (withName ns w)

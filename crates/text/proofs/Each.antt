@@ -18,6 +18,10 @@ module _ {A : Type 0} (P : A → Type 0) where
   each-append [] m h k = k
   each-append (x ∷ l) m h k = (h .0, each-append l m (h .1) k)
 
+  pub each-split : (l m : List A) → Each P (l ++ m) → Each P l × Each P m
+  each-split [] m h = (tt, h)
+  each-split (x ∷ l) m h = let k = each-split l m (h .1) in ((h .0, k .0), k .1)
+
 pub each-gives : {A : Type 0} (P Q : A → Type 0) → ((x : A) → P x → Q x) → (l : List A) → Each P l → Each Q l
 each-gives P Q f [] h = tt
 each-gives P Q f (x ∷ l) h = (f x (h .0), each-gives P Q f l (h .1))

@@ -9,7 +9,6 @@
 -- NameLaws: the names of tokens, by the first of them.
 -- Words: what the words of a line are made of.
 -- Names: the names of a line.
--- Places: the place of a word among words.
 -- Each: what holds of each entry of a list.
 pub mod Slices
 pub mod ByteLaws
@@ -21,5 +20,4 @@ pub mod TokenCounts
 pub mod NameLaws
 pub mod Words
 pub mod Names
-pub mod Places
 pub mod Each
