@@ -1,6 +1,5 @@
 // Taking a line: its checks, and what it adds to the record and the tables.
 ghost use mathlib.Core.Path.{_≡_};
-ghost use Prim.Native.Nat.{_≤_};
 ghost use Rattle.words.specs.Choice.{firstFailed};
 ghost use Rattle.text.specs.Tokens.{tokens};
 ghost use Rattle.text.specs.Words.{namesIn};

@@ -44,7 +44,7 @@ joined-from (suc (suc zero)) f g h = refl
 joined-from (suc (suc (suc zero))) f g h = refl
 joined-from (suc (suc (suc (suc j)))) f g h = absurd (omega arith)
 
-pub joined-nodes : (k : ℕ) (f g : Formula) → 65 ≤ k → k ≤ 68 → nodes (joined (k - 65) f g) ≡ k ∷ (nodes f ++ nodes g)
+joined-nodes : (k : ℕ) (f g : Formula) → 65 ≤ k → k ≤ 68 → nodes (joined (k - 65) f g) ≡ k ∷ (nodes f ++ nodes g)
 joined-nodes k f g h l =
     let e : k - 65 + 65 ≡ k = omega arith in
     joined-from (k - 65) f g (omega arith) ∙ ap (λ n. n ∷ (nodes f ++ nodes g)) e

@@ -30,7 +30,7 @@ unfolding clauseWords
 clause-words-append [] ds = refl
 clause-words-append (c ∷ cs) ds = rw (clause-words-append cs ds)
 
-pub clause-words-length : (cs : List ClauseRow) → length (clauseWords cs) ≡ 3 * length cs
+clause-words-length : (cs : List ClauseRow) → length (clauseWords cs) ≡ 3 * length cs
 unfolding clauseWords
 clause-words-length [] = refl
 clause-words-length (c ∷ cs) = omega (arith, clause-words-length cs)
@@ -58,7 +58,7 @@ unfolding constraintWords
 constraint-words-append [] ds = refl
 constraint-words-append (c ∷ cs) ds = rw (constraint-words-append cs ds)
 
-pub constraint-words-length : (cs : List ConstraintRow) → length (constraintWords cs) ≡ 2 * length cs
+constraint-words-length : (cs : List ConstraintRow) → length (constraintWords cs) ≡ 2 * length cs
 unfolding constraintWords
 constraint-words-length [] = refl
 constraint-words-length (c ∷ cs) = omega (arith, constraint-words-length cs)

@@ -24,7 +24,7 @@ use Rattle.grammar.specs.Parsing.{FormIs, bodyIn}
 use Rattle.names.specs.Names.{atomOf}
 use Rattle.names.specs.Row.{rowOf}
 use Rattle.store.specs.declared.masks.Masks.{Masks}
-use Rattle.store.specs.Lent.{Lent, lent}
+use Rattle.store.specs.Lent.{lent}
 use Rattle.store.specs.Saying.{saidBy}
 use Rattle.store.specs.Held.{Long}
 use Rattle.store.specs.Masks.{masksBy}
@@ -47,7 +47,7 @@ no-query zero h = refl
 no-query (suc n) h = absurd (omega (arith, rw (le-leb 1 (suc n) (omega arith)) at h))
 
 -- the masks m are those of the literals at place at of the line l, by the first n names in the table na
-abbrev pub MasksOf : List ℕ → ℕ → List ℕ → ℕ → Masks → Type 0
+abbrev MasksOf : List ℕ → ℕ → List ℕ → ℕ → Masks → Type 0
 MasksOf l at na n m = (ls : List Literal) → bodyIn (tokens (drop at l)) ≡ Option.some ls → m ≡ masksBy (rowOf na n) ls
 
 module _ {l : List ℕ} {x : Form} {c : Case} {y : Line} (s : Storable l x c y) where
