@@ -29,7 +29,7 @@ use Rattle.grammar.specs.LineOf.{withSentence, literalsOf, withBody, see
 use Rattle.grammar.specs.LineOf.{withItems, kindOf, lineOf, isNoForm}
 use Rattle.grammar.specs.Parsing.{literalsAmong, bodyIn}
 use Rattle.grammar.proofs.KindLaws.{word-kind, kind-word, fit-body, body-kind}
-use Rattle.grammar.proofs.Lines.{clause-is}
+use Rattle.grammar.proofs.Forms.{clause-is}
 
 -- What is spelled is read
 

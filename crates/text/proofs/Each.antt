@@ -1,7 +1,5 @@
 -- What holds of each entry of a list. Assumes nothing.
-use mathlib.Core.Path.{sym, subst}
-use mathlib.Core.List.{List, [], _∷_, _++_, List·Memᴰ, List·Memᴰ·not-nil, List·Memᴰ·cases-cons}
-use mathlib.Core.Logic.{⊎-elim}
+use mathlib.Core.List.{List, [], _∷_, _++_}
 use Prim.Native.Nat.{ℕ, zero, suc, _<_}
 use native.Mathlib.Nat.{not-suc-le-zero, le-of-suc-le-suc}
 use lib.ListN.{length, getD}
@@ -11,11 +9,6 @@ Each P [] = Unit {0}
 Each P (x ∷ l) = P x × Each P l
 
 module _ {A : Type 0} (P : A → Type 0) where
-  pub each-member : (l : List A) (x : A) → Each P l → List·Memᴰ x l → P x
-  each-member [] x h m = absurd (List·Memᴰ·not-nil m)
-  each-member (y ∷ l) x h m =
-      ⊎-elim (λ e. subst P (sym e) (h .0)) (λ k. each-member l x (h .1) k) (List·Memᴰ·cases-cons m)
-
   pub each-at : (l : List A) (i : ℕ) (d : A) → Each P l → i < length l → P (getD l i d)
   each-at [] i d h k = absurd (not-suc-le-zero k)
   each-at (x ∷ l) zero d h k = h .0

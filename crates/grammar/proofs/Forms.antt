@@ -1,6 +1,6 @@
--- Laws of the forms of lines: one for each way out of the functions that find them, and what a form brings.
+-- Laws of the forms that are found in a line: one for each way out of the functions that find them, and what a form
+-- brings.
 --
---   endsItems       (of Parsing) the line's closing bracket is all that is left
 --   Body k x        the literals of x, as many as a line of kind k takes
 --   bringsOf x      what a line of the form x brings
 -- Assumes nothing.
