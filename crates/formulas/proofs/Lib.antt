@@ -1,6 +1,7 @@
 -- Theorems: a proof of each claim.
 -- Keywords: the numbers that words have, and tables of words.
 -- Sentences: how a formula's depth, nodes and tokens bound each other, and its names.
+-- NameSentence: the formula that is a name.
 -- Reading: what tokens are read as, by cases.
 -- FirstItem: what items begin with, by the token in front.
 -- Forms: a form in front of items.
@@ -10,6 +11,7 @@
 pub mod Theorems
 pub mod Keywords
 pub mod Sentences
+pub mod NameSentence
 pub mod Reading
 pub mod FirstItem
 pub mod Forms
