@@ -37,6 +37,7 @@ use Rattle.grammar.specs.Parsing.{endsLine, FormAfter, FormFound, Brough
 use Rattle.grammar.specs.declared.line.Form.{Form}
 use Rattle.grammar.specs.declared.line.Form.the-variants.{Skipped, NoForm, Clause, Never, Seen, Query}
 use Rattle.grammar.specs.declared.brings.Brings.{Brings}
+use Rattle.grammar.proofs.line.Form as form
 use Rattle.grammar.proofs.KindLaws.{fit-body, unfit-body, kind-unnamed, kind-named, body-kind}
 
 -- The ways out of `ends_line`
@@ -263,6 +264,15 @@ brought (Clause k a e at) l y h = rw (h .2 .line-is)
 brought (Never at) l y h = rw (h .line-is)
 brought (Seen at) l y h = rw (h .line-is)
 brought (Query at d) l y h = rw (h .line-is, h .depth-is)
+
+-- the forms that bring nothing
+pub brought-nothing : (x : Form) → OneOf (0 ∷ (1 ∷ (4 ∷ []))) (tagOf form.the-type x) → Brought x (bringing 0 0 0 0)
+brought-nothing Skipped h = brought Skipped
+brought-nothing NoForm h = brought NoForm
+brought-nothing (Clause k a e at) h = absurd (miss (0 ∷ (1 ∷ (4 ∷ []))) 2 tt h)
+brought-nothing (Never at) h = absurd (miss (0 ∷ (1 ∷ (4 ∷ []))) 3 tt h)
+brought-nothing (Seen at) h = brought (Seen at)
+brought-nothing (Query at d) h = absurd (miss (0 ∷ (1 ∷ (4 ∷ []))) 5 tt h)
 
 pub brought-as : {x : Form} (y : Form) → x ≡ y → Brought x (bringsOf y)
 brought-as y e = subst (λ z. Brought z (bringsOf y)) (sym e) (brought y)
