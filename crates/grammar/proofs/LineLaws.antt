@@ -12,27 +12,28 @@ use mathlib.Core.Logic.{inl, inr}
 use Prim.Native.Nat.{ℕ, zero, suc, _*_, _≤_, _<_}
 use native.Mathlib.Omega.{arith}
 use lib.Dec.{ltb}
-use lib.ListN.{length}
+use lib.ListN.{length, getD}
 use borrow.Author.Tests.{ltb-true, eqb-true}
 use Rattle.text.specs.Tokens.{Token}
-use Rattle.text.specs.Words.{namesFrom, namesIn}
+use Rattle.text.specs.Words.{namesIn}
+use Rattle.text.proofs.NameLaws.{names-end, names-closing, names-name, names-form}
 use Rattle.text.proofs.ByteLaws.{and-true-both}
-use Rattle.formulas.specs.Sentence.{sentenceNames, tokensOf}
+use Rattle.formulas.specs.Sentence.{sentenceNames, formTokens, tokensOf}
+use Rattle.formulas.proofs.NameSentence.{name-names, negation-names}
 use Rattle.formulas.proofs.Sentences.{sentence-names}
 use Rattle.formulas.specs.Parsing.{sizeOf}
 use Rattle.formulas.specs.Items.{Item}
 use Rattle.formulas.proofs.Sizes.{formula-size}
-use Rattle.grammar.specs.Line.{Literal, Line, ofLiteral, bodyTokens, lineTokens, areNamed, takes, isLine}
-use Rattle.grammar.specs.Line.{bodyNames, lineNames}
+use Rattle.grammar.specs.Line.{Literal, Line, lineWords, ofLiteral, bodyTokens, lineTokens, areNamed, takes}
+use Rattle.grammar.specs.Line.{isLine, bodyNames, lineNames}
 use Rattle.grammar.specs.LineOf.{lineOf}
 use Rattle.grammar.proofs.Spelling.{sentence-read, clause-parts, Right, line-right, line-spells}
 
 -- Names
 
 literal-names : (x : Literal) → sentenceNames (ofLiteral x) ≡ bodyNames (x ∷ [])
-unfolding sentenceNames
-literal-names (Literal.literal false w) = refl
-literal-names (Literal.literal true w) = refl
+literal-names (Literal.literal false w) = name-names w
+literal-names (Literal.literal true w) = negation-names w
 
 body-names : (ls : List Literal) (ts : List Token) → namesIn (bodyTokens ls ++ ts) ≡ bodyNames ls ++ namesIn ts
 unfolding bodyTokens
@@ -40,14 +41,21 @@ body-names [] ts = refl
 body-names (Literal.literal b w ∷ ls) ts =
     rw (append-assoc, sentence-names (ofLiteral (Literal.literal b w)), literal-names, body-names ls)
 
+-- a line with the word w, of whose tokens ns are the names
+form-names : (w : List ℕ) (ts : List Token) {ns : List (List ℕ)}
+    → namesIn (ts ++ (Token.closing ∷ [])) ≡ ns ++ namesIn (Token.closing ∷ []) → namesIn (formTokens w ts) ≡ ns
+form-names w ts h = names-form (ts ++ (Token.closing ∷ [])) w ∙ h ∙ rw (names-closing, names-end, append-nil)
+
 pub names-are : (x : Line) → namesIn (lineTokens x) ≡ lineNames x
-unfolding lineTokens namesFrom
-names-are Line.skipped = refl
-names-are Line.noForm = refl
-names-are (Line.clause k w ls) = rw (body-names ls, append-nil)
-names-are (Line.never ls) = rw (body-names ls, append-nil)
-names-are (Line.seen x) = rw (sentence-names (ofLiteral x), append-nil, literal-names)
-names-are (Line.query f) = rw (sentence-names f, append-nil)
+unfolding lineTokens
+names-are Line.skipped = names-end
+names-are Line.noForm = names-end
+names-are (Line.clause k w ls) =
+    form-names (getD lineWords k []) (Token.word w ∷ bodyTokens ls) (rw (names-name, body-names ls))
+names-are (Line.never ls) = form-names (getD lineWords 3 []) (bodyTokens ls) (body-names ls _)
+names-are (Line.seen x) =
+    form-names (getD lineWords 4 []) (tokensOf (ofLiteral x)) (sentence-names (ofLiteral x) _) ∙ literal-names x
+names-are (Line.query f) = form-names (getD lineWords 5 []) (tokensOf f) (sentence-names f _)
 
 pub line-names : (ts : List Token) → isLine (lineOf ts) ≡ true → namesIn ts ≡ lineNames (lineOf ts)
 line-names ts h = sym (ap namesIn (line-spells ts h)) ∙ names-are (lineOf ts)

@@ -1,6 +1,6 @@
--- Laws of the forms of lines: one for each way out of the functions that find them, and what a form brings.
+-- Laws of the forms that are found in a line: one for each way out of the functions that find them, and what a form
+-- brings.
 --
---   endsItems       (of Parsing) the line's closing bracket is all that is left
 --   Body k x        the literals of x, as many as a line of kind k takes
 --   bringsOf x      what a line of the form x brings
 -- Assumes nothing.
@@ -37,6 +37,7 @@ use Rattle.grammar.specs.Parsing.{endsLine, FormAfter, FormFound, Brough
 use Rattle.grammar.specs.declared.line.Form.{Form}
 use Rattle.grammar.specs.declared.line.Form.the-variants.{Skipped, NoForm, Clause, Never, Seen, Query}
 use Rattle.grammar.specs.declared.brings.Brings.{Brings}
+use Rattle.grammar.proofs.line.Form as form
 use Rattle.grammar.proofs.KindLaws.{fit-body, unfit-body, kind-unnamed, kind-named, body-kind}
 
 -- The ways out of `ends_line`
@@ -177,58 +178,40 @@ one-literal (Option.some []) h = absurd (omega (arith, eqb-true 0 1 h))
 one-literal (Option.some (a ∷ [])) h = (a, refl)
 one-literal (Option.some (a ∷ (b ∷ ls))) h = absurd (omega (arith, eqb-true (length (a ∷ (b ∷ ls))) 1 h))
 
-some-literals : {l m : List Literal} → Option.some l ≡ Option.some m → l ≡ m
-some-literals e = cc
+other-kind : (k : ℕ) (ls : List Literal) → (k ≡ 3 → ⊥) → (k ≡ 4 → ⊥) → bodyLine k ls ≡ Line.noForm
+other-kind k ls a b = rw (ne-eqb k 3 a, ne-eqb k 4 b)
 
-module _ (k : ℕ) (ls : List Literal) where
-  never-kind : k ≡ 3 → bodyLine k ls ≡ Line.never ls
-  never-kind e = rw e
-
-  seen-kind : k ≡ 4 → bodyLine k ls ≡ seenOf ls
-  seen-kind e = rw e
-
-  other-kind : (k ≡ 3 → ⊥) → (k ≡ 4 → ⊥) → bodyLine k ls ≡ Line.noForm
-  other-kind a b = rw (ne-eqb k 3 a, ne-eqb k 4 b)
+-- a line of literals alone
+literals-line : (l : List ℕ) (at k : ℕ) → 3 ≤ k → (k ≡ 5 → ⊥)
+    → withItems k (itemsOf (tokens (drop at l))) ≡ withBody k (bodyLine k) (bodyIn (tokens (drop at l)))
+literals-line l at k i n = body-kind k (itemsOf (tokens (drop at l))) i n
 
 module _ {l : List ℕ} {at k : ℕ} where
   pub form-as : {j : ℕ} {r : Form} → k ≡ j → FormAfter l at j r → FormAfter l at k r
   form-as {r = r} e f = subst (λ j. FormAfter l at j r) (sym e) f
 
-  module _ (i : 3 ≤ k) (n : k ≡ 5 → ⊥) where
-    pub form-unfit : hasBody l at k ≡ false → FormAfter l at k NoForm
-    unfolding hasBody
-    form-unfit h = record {
-      form-is = body-kind k (itemsOf (tokens (drop at l))) i n ∙ unfit-body k _ (bodyIn (tokens (drop at l))) h;
-    }
+  pub form-unfit : 3 ≤ k → (k ≡ 5 → ⊥) → hasBody l at k ≡ false → FormAfter l at k NoForm
+  unfolding hasBody
+  form-unfit i n h = record {
+    form-is = literals-line l at k i n ∙ unfit-body k (bodyLine k) (bodyIn (tokens (drop at l))) h;
+  }
 
-    module _ (h : hasBody l at k ≡ true) where
-      bodied : BodyMakes l at (bodyLine k) (withItems k (itemsOf (tokens (drop at l))))
-      bodied = body-makes k (bodyLine k) (body-kind k (itemsOf (tokens (drop at l))) i n) h
+  pub form-never : k ≡ 3 → hasBody l at k ≡ true → FormAfter l at k (Never at)
+  form-never e h =
+      let makes = body-makes 3 Line.never (literals-line l at 3 (omega arith) (λ z. omega arith)) (rw e at h) in
+      form-as e (record { form-is = makes })
 
-      pub form-never : k ≡ 3 → FormAfter l at k (Never at)
-      form-never e = record {
-        form-is = record {
-          literals = bodied .literals;
-          literals-are = bodied .literals-are;
-          line-is = bodied .line-is ∙ never-kind k (bodied .literals) e;
-        };
-      }
+  pub form-seen : k ≡ 4 → hasBody l at k ≡ true → FormAfter l at k (Seen at)
+  unfolding hasBody
+  form-seen e h =
+      let o = one-literal (bodyIn (tokens (drop at l))) (rw e at h) in
+      let f = literals-line l at 4 (omega arith) (λ z. omega arith) ∙ ap (withBody 4 seenOf) (o .1) in
+      form-as e (record { form-is = record { reading = o .0; literals-are = o .1; line-is = f } })
 
-      pub form-seen : k ≡ 4 → FormAfter l at k (Seen at)
-      unfolding hasBody
-      form-seen e =
-          let o = one-literal (bodyIn (tokens (drop at l))) (rw e at h) in
-          let f = some-literals (sym (bodied .literals-are) ∙ o .1) in
-          record {
-            form-is = record {
-              reading = o .0;
-              literals-are = o .1;
-              line-is = bodied .line-is ∙ seen-kind k (bodied .literals) e ∙ ap seenOf f;
-            };
-          }
-
-      pub form-other : (k ≡ 3 → ⊥) → (k ≡ 4 → ⊥) → FormAfter l at k NoForm
-      form-other a b = record { form-is = bodied .line-is ∙ other-kind k (bodied .literals) a b }
+  pub form-other : 3 ≤ k → (k ≡ 5 → ⊥) → hasBody l at k ≡ true → (k ≡ 3 → ⊥) → (k ≡ 4 → ⊥) → FormAfter l at k NoForm
+  form-other i n h a b =
+      let makes = body-makes k (bodyLine k) (literals-line l at k i n) h in
+      record { form-is = makes .line-is ∙ other-kind k (makes .literals) a b }
 
 -- The ways out of `form_of`
 
@@ -281,6 +264,15 @@ brought (Clause k a e at) l y h = rw (h .2 .line-is)
 brought (Never at) l y h = rw (h .line-is)
 brought (Seen at) l y h = rw (h .line-is)
 brought (Query at d) l y h = rw (h .line-is, h .depth-is)
+
+-- the forms that bring nothing
+pub brought-nothing : (x : Form) → OneOf (0 ∷ (1 ∷ (4 ∷ []))) (tagOf form.the-type x) → Brought x (bringing 0 0 0 0)
+brought-nothing Skipped h = brought Skipped
+brought-nothing NoForm h = brought NoForm
+brought-nothing (Clause k a e at) h = absurd (miss (0 ∷ (1 ∷ (4 ∷ []))) 2 tt h)
+brought-nothing (Never at) h = absurd (miss (0 ∷ (1 ∷ (4 ∷ []))) 3 tt h)
+brought-nothing (Seen at) h = brought (Seen at)
+brought-nothing (Query at d) h = absurd (miss (0 ∷ (1 ∷ (4 ∷ []))) 5 tt h)
 
 pub brought-as : {x : Form} (y : Form) → x ≡ y → Brought x (bringsOf y)
 brought-as y e = subst (λ z. Brought z (bringsOf y)) (sym e) (brought y)
