@@ -1,12 +1,14 @@
--- Bodies: the literals that tokens are.
--- Lines: the lines that tokens are.
--- Names: the words that the names of a line are.
--- Shapes: what the form of a line is known to be.
+-- FoundWords: the ends of a word that was found.
+-- Literals: the literals that tokens are.
+-- KindLaws: the words of kinds, and the lines of a kind.
+-- Forms: the forms that are found in a line, and what they bring.
 -- Spelling: lines are read as they are spelled.
+-- LineLaws: the names of a line, and how many literals and nodes it has.
 -- Theorems: a proof of each claim of specs/Claims.antt.
-pub mod Bodies
-pub mod Lines
-pub mod Names
-pub mod Shapes
+pub mod FoundWords
+pub mod Literals
+pub mod KindLaws
+pub mod Forms
 pub mod Spelling
+pub mod LineLaws
 pub mod Theorems

@@ -1,0 +1,30 @@
+-- `line::brings` meets its contract: each return is what the law says of a line of this form. Assumes nothing.
+use borrow.Author.Needs.{needs}
+use Rattle.grammar.proofs.Forms.{brought-as, brought-nothing}
+use Rattle.grammar.proofs.line.brings.Statement.{statement}
+use Rattle.grammar.proofs.line.brings.Tie as tie
+
+enum-told : tie.Need-enum-told
+enum-told c = search needs
+
+enum-told-2 : tie.Need-enum-told-2
+enum-told-2 c = search needs
+
+enum-known-x : tie.Need-enum-known-x
+enum-known-x c = search needs
+
+returns : tie.Need-returns
+returns c = brought-as _ (c .enum-told .given .1)
+
+returns-2 : tie.Need-returns-2
+returns-2 c = brought-as _ (c .enum-told2 .given .1)
+
+returns-3 : tie.Need-returns-3
+returns-3 c = brought-as _ (c .before .x .given .1)
+
+returns-4 : tie.Need-returns-4
+returns-4 c = brought-nothing (c .before .args .x) (c .match .keys4)
+
+pub brings-spec : {M : Type 1} → statement M
+brings-spec =
+    tie.close (tie.spec enum-told enum-told-2 enum-known-x returns returns-2 returns-3 returns-4)
