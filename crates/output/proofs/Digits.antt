@@ -15,9 +15,6 @@ pub one-written : {n at r : ℕ} {out u : List ℕ} → n < 10 → Writes (digit
     → Writes (decimal n) out at r u
 one-written {n} h w = rw (decimal-one n h) w
 
-pub front-less : {n : ℕ} → 10 ≤ n → n / 10 < n
-front-less h = omega arith
-
 module _ {n at : ℕ} (h : 10 ≤ n) (k : n < 2 ^ 64) where
   pub front-room : Room (decimal n) at → Room (decimal (n / 10)) at
   front-room r = room-front (decimal (n / 10)) (_ ∷ []) at (rw (decimal-more n h (omega arith)) at r)

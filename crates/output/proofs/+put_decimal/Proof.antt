@@ -1,9 +1,10 @@
 -- `output::put_decimal` meets its contract: one digit, or the digits in front of the last and then the last.
 -- The measure is the number. Assumes nothing.
 use Prim.Native.Nat.{ℕ, _<_}
+use native.Mathlib.Omega.{arith}
 use borrow.Author.Needs.{needs}
 use borrow.Fn.PlainCycle.{Measures, is, falls, and}
-use Rattle.output.proofs.Digits.{one-room, one-written, front-less, front-room, last-room, last-written}
+use Rattle.output.proofs.Digits.{one-room, one-written, front-room, last-room, last-written}
 use Rattle.output.proofs.put_decimal.Reads as put-decimal
 use Rattle.output.proofs.put_decimal.Kinds as put-decimal-kinds
 use Rattle.output.proofs.+put_decimal.Lts-put_decimal as put-decimal-lts
@@ -25,10 +26,10 @@ pub +put-decimal-spec : {M : Type 1} → statement M
     put-decimal.Post
     (λ c. search needs)
     (λ c. search needs)
-    (λ c κs. search (needs, one-room))
+    (λ c κs. search one-room)
     (λ c. search needs)
-    (λ c. search (needs, one-written))
-    (λ c κs. search (needs, front-room, front-less))
-    (λ c κs. search (needs, last-room))
+    (λ c. search one-written)
+    (λ c κs. (omega arith, search front-room))
+    (λ c κs. search last-room)
     (λ c. search needs)
-    (λ c. search (needs, last-written))
+    (λ c. search last-written)

@@ -17,7 +17,7 @@ mul-row : tie.Need-mul-row Inv-loop μ-loop
 mul-row c = search needs
 
 loop-holds : tie.Need-loop-holds Inv-loop μ-loop
-loop-holds c = search (needs, naming-none)
+loop-holds c = search naming-none
 
 add-b : tie.Need-add-b Inv-loop μ-loop
 add-b c = search needs
@@ -26,13 +26,13 @@ shared-slice-read-b : tie.Need-shared-slice-read-b Inv-loop μ-loop
 shared-slice-read-b c = search needs
 
 same-length : tie.Need-same-length Inv-loop μ-loop
-same-length c = search (needs, writes-length)
+same-length c = search writes-length
 
 returns : tie.Need-returns Inv-loop μ-loop
-returns c = search (needs, naming-stops)
+returns c = search naming-stops
 
 put-requires : tie.Need-put-requires Inv-loop μ-loop
-put-requires c κs = search (needs, naming-room)
+put-requires c κs = search naming-room
 
 add-i : tie.Need-add-i Inv-loop μ-loop
 add-i c = search needs
@@ -41,13 +41,13 @@ loop-less : tie.Need-loop-less Inv-loop μ-loop
 loop-less c = search needs
 
 loop-again : tie.Need-loop-again Inv-loop μ-loop
-loop-again c = search (needs, naming-more)
+loop-again c = search naming-more
 
 same-length-2 : tie.Need-same-length-2 Inv-loop μ-loop
-same-length-2 c = search (needs, writes-length)
+same-length-2 c = search writes-length
 
 returns-2 : tie.Need-returns-2 Inv-loop μ-loop
-returns-2 c = search (needs, naming-ends)
+returns-2 c = search naming-ends
 
 pub put-name-spec : {M : Type 1} → statement M
 put-name-spec =

@@ -30,13 +30,13 @@ loop-less : tie.Need-loop-less Inv-loop μ-loop
 loop-less c = search needs
 
 loop-again : tie.Need-loop-again Inv-loop μ-loop
-loop-again c = search (needs, writes-more)
+loop-again c = (omega arith, search writes-more)
 
 same-length : tie.Need-same-length Inv-loop μ-loop
-same-length c = search (needs, writes-length)
+same-length c = search writes-length
 
 returns : tie.Need-returns Inv-loop μ-loop
-returns c = search (needs, writes-all)
+returns c = search writes-all
 
 pub put-text-spec : {M : Type 1} → statement M
 put-text-spec =

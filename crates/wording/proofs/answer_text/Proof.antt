@@ -25,7 +25,7 @@ same-length : tie.Need-same-length
 same-length c = search needs
 
 returns : tie.Need-returns
-returns c = search (needs, answer-written)
+returns c = search answer-written
 
 pub answer-text-spec : {M : Type 1} → statement M
 answer-text-spec =

@@ -25,7 +25,7 @@ same-length : tie.Need-same-length
 same-length c = search needs
 
 returns : tie.Need-returns
-returns c = search (needs, cause-written)
+returns c = search cause-written
 
 pub cause-line-spec : {M : Type 1} → statement M
 cause-line-spec =

@@ -29,7 +29,7 @@ cast-cause-line : tie.Need-cast-cause-line Inv-loop μ-loop
 cast-cause-line c = omega (arith, c .shared-slice-known3 .given (c .before .before .before .loop .k))
 
 cause-line-requires : tie.Need-cause-line-requires Inv-loop μ-loop
-cause-line-requires c κs = search (needs, setting-room)
+cause-line-requires c κs = search setting-room
 
 add-k : tie.Need-add-k Inv-loop μ-loop
 add-k c = search needs
@@ -38,13 +38,13 @@ loop-less : tie.Need-loop-less Inv-loop μ-loop
 loop-less c = search needs
 
 loop-again : tie.Need-loop-again Inv-loop μ-loop
-loop-again c = search (needs, setting-more)
+loop-again c = search setting-more
 
 same-length : tie.Need-same-length Inv-loop μ-loop
-same-length c = search (needs, writes-length)
+same-length c = search writes-length
 
 returns : tie.Need-returns Inv-loop μ-loop
-returns c = search (needs, setting-end)
+returns c = search setting-end
 
 pub cause-lines-spec : {M : Type 1} → statement M
 cause-lines-spec =

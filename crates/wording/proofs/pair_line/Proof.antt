@@ -28,7 +28,7 @@ same-length : tie.Need-same-length
 same-length c = search needs
 
 returns : tie.Need-returns
-returns c = search (needs, pair-written)
+returns c = search pair-written
 
 pub pair-line-spec : {M : Type 1} → statement M
 pair-line-spec =

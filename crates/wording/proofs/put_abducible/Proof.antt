@@ -13,25 +13,25 @@ slice-aggregate-put-form : tie.Need-slice-aggregate-put-form
 slice-aggregate-put-form c = search needs
 
 put-form-requires : tie.Need-put-form-requires
-put-form-requires c κs = search (needs, fact-room)
+put-form-requires c κs = search fact-room
 
 same-length : tie.Need-same-length
 same-length c = search needs
 
 returns-2 : tie.Need-returns-2
-returns-2 c = search (needs, fact-written)
+returns-2 c = search fact-written
 
 slice-aggregate-put-form-2 : tie.Need-slice-aggregate-put-form-2
 slice-aggregate-put-form-2 c = search needs
 
 put-form-requires-2 : tie.Need-put-form-requires-2
-put-form-requires-2 c κs = search (needs, assumption-room)
+put-form-requires-2 c κs = search assumption-room
 
 same-length-2 : tie.Need-same-length-2
 same-length-2 c = search needs
 
 returns-3 : tie.Need-returns-3
-returns-3 c = search (needs, assumption-written)
+returns-3 c = search assumption-written
 
 pub put-abducible-spec : {M : Type 1} → statement M
 put-abducible-spec =

@@ -1,6 +1,7 @@
 -- `wording::put_abducibles` meets its contract. The loop's invariant: what is written so far, and what is left of
 -- the setting from the next atom on, make up the whole. Assumes nothing.
 use borrow.Author.Needs.{needs}
+use native.Mathlib.Omega.{arith}
 use mathlib.Core.Logic.{⊎-elim}
 use Prim.Native.Nat.{_-_}
 use Rattle.names.specs.Row.{nameIn}
@@ -26,7 +27,7 @@ cast-put-abducible : tie.Need-cast-put-abducible Inv-loop μ-loop
 cast-put-abducible c = search needs
 
 put-abducible-requires : tie.Need-put-abducible-requires Inv-loop μ-loop
-put-abducible-requires c κs = search (needs, atom-room)
+put-abducible-requires c κs = (omega arith, search atom-room)
 
 add-atom : tie.Need-add-atom Inv-loop μ-loop
 add-atom c = search needs
@@ -36,14 +37,14 @@ loop-less c = search needs
 
 loop-again : tie.Need-loop-again Inv-loop μ-loop
 loop-again c =
-    ⊎-elim (λ w. rw (w .5, w .6, w .7) (search (needs, atom-cause)))
-    (λ w. rw (w .1, w .2, w .3) (search (needs, atom-other))) (c .if1 .came)
+    ⊎-elim (λ w. rw (w .5, w .6, w .7) (search atom-cause))
+    (λ w. rw (w .1, w .2, w .3) (search atom-other)) (c .if1 .came)
 
 same-length : tie.Need-same-length Inv-loop μ-loop
-same-length c = search (needs, writes-length)
+same-length c = search writes-length
 
 returns : tie.Need-returns Inv-loop μ-loop
-returns c = search (needs, atom-end)
+returns c = search atom-end
 
 pub put-abducibles-spec : {M : Type 1} → statement M
 put-abducibles-spec =

@@ -18,7 +18,7 @@ same-length : tie.Need-same-length
 same-length c = search needs
 
 returns : tie.Need-returns
-returns c = search (needs, form-written)
+returns c = search form-written
 
 pub put-form-spec : {M : Type 1} → statement M
 put-form-spec =

@@ -9,13 +9,13 @@ slice-aggregate-pair-line : tie.Need-slice-aggregate-pair-line
 slice-aggregate-pair-line c = search needs
 
 pair-line-requires : tie.Need-pair-line-requires
-pair-line-requires c κs = search (needs, refusal-room)
+pair-line-requires c κs = search refusal-room
 
 same-length : tie.Need-same-length
 same-length c = search needs
 
 returns : tie.Need-returns
-returns c = search (needs, refusal-written)
+returns c = search refusal-written
 
 pub refusal-text-spec : {M : Type 1} → statement M
 refusal-text-spec =

@@ -25,7 +25,7 @@ same-length : tie.Need-same-length
 same-length c = search needs
 
 returns : tie.Need-returns
-returns c = search (needs, rounds-written)
+returns c = search rounds-written
 
 pub rounds-line-spec : {M : Type 1} → statement M
 rounds-line-spec =

@@ -12,7 +12,7 @@ answer-text-requires : tie.Need-answer-text-requires
 answer-text-requires c κs = search needs
 
 returns : tie.Need-returns
-returns c = search (needs, report-short)
+returns c = search report-short
 
 answer-text-requires-2 : tie.Need-answer-text-requires-2
 answer-text-requires-2 c κs = search needs
@@ -21,7 +21,7 @@ same-length : tie.Need-same-length
 same-length c = search needs
 
 returns-2 : tie.Need-returns-2
-returns-2 c = search (needs, report-written)
+returns-2 c = search report-written
 
 pub show-answer-spec : {M : Type 1} → statement M
 show-answer-spec =

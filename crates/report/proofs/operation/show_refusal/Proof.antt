@@ -12,7 +12,7 @@ refusal-text-requires : tie.Need-refusal-text-requires
 refusal-text-requires c κs = tt
 
 returns : tie.Need-returns
-returns c = search (needs, report-short)
+returns c = search report-short
 
 refusal-text-requires-2 : tie.Need-refusal-text-requires-2
 refusal-text-requires-2 c κs = tt
@@ -21,7 +21,7 @@ same-length : tie.Need-same-length
 same-length c = search needs
 
 returns-2 : tie.Need-returns-2
-returns-2 c = search (needs, report-written)
+returns-2 c = search report-written
 
 pub show-refusal-spec : {M : Type 1} → statement M
 show-refusal-spec =
