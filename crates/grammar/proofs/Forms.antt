@@ -1,8 +1,6 @@
--- Laws of the forms that are found in a line: one for each way out of the functions that find them, and what a form
--- brings.
+-- Laws of the forms that are found in a line: one for each way out of the functions that find them.
 --
 --   Body k x        the literals of x, as many as a line of kind k takes
---   bringsOf x      what a line of the form x brings
 -- Assumes nothing.
 use mathlib.Core.Path.{_≡_, refl, sym, ap, _∙_, subst}
 use mathlib.Core.Bool.{true, false, true≢false}
@@ -30,14 +28,12 @@ use Rattle.formulas.specs.declared.formula.Parse.the-variants.{NoFormula, Formu
 use Rattle.formulas.proofs.Formulas.{found-as, parsed-as}
 use Rattle.formulas.proofs.Reading.{items-end, items-closing, items-name, items-word}
 use Rattle.formulas.proofs.FirstItem.{Filled, found-unclosed, found-unnamed, found-filled}
-use Rattle.grammar.specs.Line.{Line, Literal, takes, bringing}
+use Rattle.grammar.specs.Line.{Line, Literal, takes}
 use Rattle.grammar.specs.LineOf.{withBody, seenOf, bodyLine, withItems, kindOf, lineOf}
 use Rattle.grammar.specs.Parsing.{endsItems, bodyIn, fitsBody, hasBody, BodyMakes}
-use Rattle.grammar.specs.Parsing.{endsLine, FormAfter, FormFound, Brought}
+use Rattle.grammar.specs.Parsing.{endsLine, FormAfter, FormFound}
 use Rattle.grammar.specs.declared.line.Form.{Form}
 use Rattle.grammar.specs.declared.line.Form.the-variants.{Skipped, NoForm, Clause, Never, Seen, Query}
-use Rattle.grammar.specs.declared.brings.Brings.{Brings}
-use Rattle.grammar.proofs.line.Form as form
 use Rattle.grammar.proofs.KindLaws.{fit-body, unfit-body, kind-unnamed, kind-named, body-kind}
 
 -- The ways out of `ends_line`
@@ -246,33 +242,3 @@ module _ {l : List ℕ} {r : Next} (t : Found l 0 r) where
     line-found w q f = record {
       form-is = rw (found-as t o .tokens-are, found-as u w .tokens-are, ← q) (f .form-is);
     }
-
--- What a line of a form brings
-
-abbrev bringsOf : Form → Brings
-bringsOf Skipped = bringing 0 0 0 0
-bringsOf NoForm = bringing 0 0 0 0
-bringsOf (Clause k a e at) = bringing 1 0 0 0
-bringsOf (Never at) = bringing 0 1 0 0
-bringsOf (Seen at) = bringing 0 0 0 0
-bringsOf (Query at d) = bringing 0 0 1 d
-
-brought : (x : Form) → Brought x (bringsOf x)
-brought Skipped l y h = rw h
-brought NoForm l y h = rw h
-brought (Clause k a e at) l y h = rw (h .2 .line-is)
-brought (Never at) l y h = rw (h .line-is)
-brought (Seen at) l y h = rw (h .line-is)
-brought (Query at d) l y h = rw (h .line-is, h .depth-is)
-
--- the forms that bring nothing
-pub brought-nothing : (x : Form) → OneOf (0 ∷ (1 ∷ (4 ∷ []))) (tagOf form.the-type x) → Brought x (bringing 0 0 0 0)
-brought-nothing Skipped h = brought Skipped
-brought-nothing NoForm h = brought NoForm
-brought-nothing (Clause k a e at) h = absurd (miss (0 ∷ (1 ∷ (4 ∷ []))) 2 tt h)
-brought-nothing (Never at) h = absurd (miss (0 ∷ (1 ∷ (4 ∷ []))) 3 tt h)
-brought-nothing (Seen at) h = brought (Seen at)
-brought-nothing (Query at d) h = absurd (miss (0 ∷ (1 ∷ (4 ∷ []))) 5 tt h)
-
-pub brought-as : {x : Form} (y : Form) → x ≡ y → Brought x (bringsOf y)
-brought-as y e = subst (λ z. Brought z (bringsOf y)) (sym e) (brought y)

@@ -1,11 +1,12 @@
--- What a line holds: its names are those among its tokens, a body has a literal, and a query has at most half as many
--- nodes as the line has tokens.
+-- What a line holds: its names are those among its tokens, what it brings is told by its form, a body has a literal,
+-- and a query has at most half as many nodes as the line has tokens.
 --
+--   bringsOf x      what a line of the form x brings
 --   Bodied ls       there is a literal
 --   ClauseShaped k  the literals of a clause of kind k are as many as it takes
 --   Shaped n x      the bodies of the line x have a literal, its query at most n / 2 nodes
 -- Assumes nothing.
-use mathlib.Core.Path.{_≡_, refl, sym, ap, _∙_}
+use mathlib.Core.Path.{_≡_, refl, sym, ap, _∙_, subst}
 use mathlib.Core.Bool.{true, false}
 use mathlib.Core.List.{List, [], _∷_, _++_, append-assoc, append-nil}
 use mathlib.Core.Logic.{inl, inr}
@@ -13,6 +14,8 @@ use Prim.Native.Nat.{ℕ, zero, suc, _*_, _≤_, _<_}
 use native.Mathlib.Omega.{arith}
 use lib.Dec.{ltb}
 use lib.ListN.{length, getD}
+use denote.Enum.Declared.{tagOf}
+use types.Run.{OneOf, miss}
 use borrow.Author.Tests.{ltb-true, eqb-true}
 use Rattle.text.specs.Tokens.{Token}
 use Rattle.text.specs.Words.{namesIn}
@@ -25,8 +28,13 @@ use Rattle.formulas.specs.Parsing.{sizeOf}
 use Rattle.formulas.specs.Items.{Item}
 use Rattle.formulas.proofs.Sizes.{formula-size}
 use Rattle.grammar.specs.Line.{Literal, Line, lineWords, ofLiteral, bodyTokens, lineTokens, areNamed, takes}
-use Rattle.grammar.specs.Line.{isLine, bodyNames, lineNames}
+use Rattle.grammar.specs.Line.{isLine, bodyNames, lineNames, bringing}
 use Rattle.grammar.specs.LineOf.{lineOf}
+use Rattle.grammar.specs.Parsing.{Brought}
+use Rattle.grammar.specs.declared.line.Form.{Form}
+use Rattle.grammar.specs.declared.line.Form.the-variants.{Skipped, NoForm, Clause, Never, Seen, Query}
+use Rattle.grammar.specs.declared.brings.Brings.{Brings}
+use Rattle.grammar.proofs.line.Form.{the-type}
 use Rattle.grammar.proofs.Spelling.{sentence-read, clause-parts, Right, line-right, line-spells}
 
 -- Names
@@ -59,6 +67,36 @@ names-are (Line.query f) = form-names (getD lineWords 5 []) (tokensOf f) (senten
 
 pub line-names : (ts : List Token) → isLine (lineOf ts) ≡ true → namesIn ts ≡ lineNames (lineOf ts)
 line-names ts h = sym (ap namesIn (line-spells ts h)) ∙ names-are (lineOf ts)
+
+-- What a line brings, by its form
+
+abbrev bringsOf : Form → Brings
+bringsOf Skipped = bringing 0 0 0 0
+bringsOf NoForm = bringing 0 0 0 0
+bringsOf (Clause k a e at) = bringing 1 0 0 0
+bringsOf (Never at) = bringing 0 1 0 0
+bringsOf (Seen at) = bringing 0 0 0 0
+bringsOf (Query at d) = bringing 0 0 1 d
+
+brought : (x : Form) → Brought x (bringsOf x)
+brought Skipped l y h = rw h
+brought NoForm l y h = rw h
+brought (Clause k a e at) l y h = rw (h .2 .line-is)
+brought (Never at) l y h = rw (h .line-is)
+brought (Seen at) l y h = rw (h .line-is)
+brought (Query at d) l y h = rw (h .line-is, h .depth-is)
+
+-- the forms that bring nothing
+pub brought-nothing : (x : Form) → OneOf (0 ∷ (1 ∷ (4 ∷ []))) (tagOf the-type x) → Brought x (bringing 0 0 0 0)
+brought-nothing Skipped h = brought Skipped
+brought-nothing NoForm h = brought NoForm
+brought-nothing (Clause k a e at) h = absurd (miss (0 ∷ (1 ∷ (4 ∷ []))) 2 tt h)
+brought-nothing (Never at) h = absurd (miss (0 ∷ (1 ∷ (4 ∷ []))) 3 tt h)
+brought-nothing (Seen at) h = brought (Seen at)
+brought-nothing (Query at d) h = absurd (miss (0 ∷ (1 ∷ (4 ∷ []))) 5 tt h)
+
+pub brought-as : {x : Form} (y : Form) → x ≡ y → Brought x (bringsOf y)
+brought-as y e = subst (λ z. Brought z (bringsOf y)) (sym e) (brought y)
 
 -- Literals and nodes
 

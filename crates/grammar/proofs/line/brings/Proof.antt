@@ -1,6 +1,6 @@
 -- `line::brings` meets its contract: each return is what the law says of a line of this form. Assumes nothing.
 use borrow.Author.Needs.{needs}
-use Rattle.grammar.proofs.Forms.{brought-as, brought-nothing}
+use Rattle.grammar.proofs.LineLaws.{brought-as, brought-nothing}
 use Rattle.grammar.proofs.line.brings.Statement.{statement}
 use Rattle.grammar.proofs.line.brings.Tie as tie
 
