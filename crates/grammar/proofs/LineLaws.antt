@@ -21,9 +21,11 @@ use Rattle.text.specs.Tokens.{Token}
 use Rattle.text.specs.Words.{namesIn}
 use Rattle.text.proofs.NameLaws.{names-end, names-closing, names-name, names-form}
 use Rattle.text.proofs.ByteLaws.{and-true-both}
-use Rattle.formulas.specs.Sentence.{sentenceNames, formTokens, tokensOf}
+use Rattle.text.proofs.Each.{Each}
+use Rattle.formulas.specs.Sentence.{sentenceNames, formTokens, tokensOf, isSentence}
 use Rattle.formulas.proofs.NameSentence.{name-names, negation-names}
 use Rattle.formulas.proofs.Sentences.{sentence-names}
+use Rattle.formulas.proofs.Spelling.{Lettered, sentence-lettered}
 use Rattle.formulas.specs.Parsing.{sizeOf}
 use Rattle.formulas.specs.Items.{Item}
 use Rattle.formulas.proofs.Sizes.{formula-size}
@@ -67,6 +69,27 @@ names-are (Line.query f) = form-names (getD lineWords 5 []) (tokensOf f) (senten
 
 pub line-names : (ts : List Token) → isLine (lineOf ts) ≡ true → namesIn ts ≡ lineNames (lineOf ts)
 line-names ts h = sym (ap namesIn (line-spells ts h)) ∙ names-are (lineOf ts)
+
+-- they begin with a letter
+
+body-lettered : (ls : List Literal) → areNamed ls ≡ true → Each Lettered (bodyNames ls)
+unfolding areNamed
+body-lettered [] h = tt
+body-lettered (Literal.literal b w ∷ ls) h =
+    let x = Literal.literal b w in
+    let a = and-true-both (isSentence (ofLiteral x)) (areNamed ls) h in
+    let first = rw (literal-names x) at (sentence-lettered (ofLiteral x) (a .0)) in
+    (first .0, body-lettered ls (a .1))
+
+pub line-lettered : (x : Line) → isLine x ≡ true → Each Lettered (lineNames x)
+unfolding isLine
+line-lettered Line.skipped h = tt
+line-lettered Line.noForm h = tt
+line-lettered (Line.clause k w ls) h =
+    let p = clause-parts {k = k} {w = w} {ls = ls} h in (p .head, body-lettered ls (p .body))
+line-lettered (Line.never ls) h = body-lettered ls (and-true-both (areNamed ls) (takes 3 (length ls)) h .0)
+line-lettered (Line.seen x) h = rw (literal-names x) at (sentence-lettered (ofLiteral x) h)
+line-lettered (Line.query f) h = sentence-lettered f h
 
 -- What a line brings, by its form
 

@@ -1,12 +1,12 @@
 -- Laws of the words of clauses and constraints and of the nodes of queries, where one more is stored behind the others,
 -- and of the atoms of two words. Assumes nothing.
-use mathlib.Core.Path.{_≡_, refl, sym, ap₂, _∙_}
+use mathlib.Core.Path.{_≡_, refl, sym, ap, ap₂, _∙_}
 use mathlib.Core.List.{List, [], _∷_, _++_, append-nil, append-assoc}
 use Prim.Native.Nat.{ℕ, _+_, _*_, _^_, _≤_, _<_}
 use native.Mathlib.Omega.{arith}
 use lib.Bits.{bitOr, or-lt}
 use lib.Dec.{leb}
-use lib.ListN.{length}
+use lib.ListN.{length, length-append}
 use lib.Seq.{sets}
 use borrow.Author.Tests.{le-leb}
 use Rattle.words.proofs.Bits.{has-or}
@@ -79,6 +79,10 @@ pub formula-nodes-push : (fs : List Formula) (f : Formula) → formulaNodes (fs 
 unfolding formulaNodes
 formula-nodes-push [] f = append-nil (nodes f)
 formula-nodes-push (g ∷ fs) f = rw (formula-nodes-push fs f, append-assoc)
+
+pub nodes-push-length : (fs : List Formula) (f : Formula)
+    → length (formulaNodes (fs ++ (f ∷ []))) ≡ length (formulaNodes fs) + length (nodes f)
+nodes-push-length fs f = ap length (formula-nodes-push fs f) ∙ length-append (formulaNodes fs) (nodes f)
 
 -- formulas that have at least a node each have a node where there is one of them
 pub node-each : (fs : List Formula) → length fs ≤ length (formulaNodes fs)
