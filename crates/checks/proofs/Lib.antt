@@ -1,11 +1,11 @@
 -- The laws of this crate, a file for each notion.
--- LineNames: the names of a line.
--- SaidWith: what is said with a line.
--- TakingChecks: the number of a line's refusal.
--- TakingNames: the names of a line, and a line that passes its checks.
+-- Looking: the checks 3 to 5 of a line.
+-- Refusing: the checks 6 to 10 of a line, by their numbers.
 -- Passing: lines that pass their checks.
-pub mod LineNames
-pub mod SaidWith
-pub mod TakingChecks
-pub mod TakingNames
+-- Naming: the names of a line that passes them are names.
+-- Taking: what taking a line leaves.
+pub mod Looking
+pub mod Refusing
 pub mod Passing
+pub mod Naming
+pub mod Taking

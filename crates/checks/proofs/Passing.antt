@@ -1,63 +1,97 @@
 -- What a line that passes its checks is known to be. Assumes nothing.
-use mathlib.Core.Path.{_≡_, refl, sym, ap, subst, _∙_}
-use mathlib.Core.Bool.{Bool, true, false, not, true≢false}
-use mathlib.Core.List.{List, [], _∷_}
-use Prim.Native.Nat.{ℕ, _≤_}
+use mathlib.Core.Path.{_≡_, refl, sym, ap, _∙_}
+use mathlib.Core.Bool.{Bool, true, false, _&&_, true≢false}
+use mathlib.Core.List.{List, [], _∷_, _++_}
+use Prim.Native.Nat.{ℕ, _+_, _≤_}
 use lib.Dec.{leb}
 use lib.ListN.{length}
 use borrow.Author.Tests.{leb-true, not-true}
-use Rattle.words.specs.Choice.{pick, Check, check, firstFailed}
+use Rattle.words.specs.Choice.{pick, firstOf, Check, check, firstFailed}
+use Rattle.words.proofs.Tests.{and-true-l, and-true-r}
+use Rattle.words.proofs.Checks.{Passes, none-failed, first-failed-append, first-of-none}
 use Rattle.text.specs.Bytes.{isAllowed, allOf}
 use Rattle.text.specs.Lines.{isComment}
 use Rattle.text.specs.Tokens.{Token, tokens}
-use Rattle.grammar.specs.Line.{isDeep}
-use Rattle.grammar.specs.LineOf.{lineOf, isNoForm}
-use Rattle.grammar.proofs.Spelling.{no-form-is}
 use Rattle.text.specs.Words.{namesIn}
+use Rattle.grammar.specs.declared.brings.Brings.{Brings}
+use Rattle.grammar.specs.Line.{isLine, brings}
+use Rattle.grammar.specs.LineOf.{lineOf}
 use Rattle.names.specs.Names.{someLong, withNames}
 use Rattle.store.specs.Saying.{Said}
-use Rattle.checks.specs.Checks.{saidWith, formChecks, lineRefusal}
-use Rattle.words.proofs.Checks.{Passes, none-failed}
-use Rattle.checks.proofs.SaidWith.{with-names, rowsFit}
+use Rattle.checks.specs.Checks.{lookRefusal, textChecks, roomChecks, formRefusal, lineRefusal}
+
+-- checks 8 to 10, by their numbers
+pub record RoomPasses (names clauses constraints queries : ℕ) (b : Brings) : Type 0 where
+  pub names-few : names ≤ 64
+  pub clauses-few : clauses + b .clauses ≤ 256
+  pub constraints-few : constraints + b .constraints ≤ 32
+  pub queries-few : queries + b .queries ≤ 1
 
 -- checks 5 to 10
 pub record FormPasses (st : Said) (ts : List Token) : Type 0 where
-  pub is-form : isNoForm (lineOf ts) ≡ false
+  pub is-line : isLine (lineOf ts) ≡ true
   pub names-short : someLong (namesIn ts) ≡ false
-  pub not-deep : isDeep (lineOf ts) ≡ false
-  pub names-few : length (withNames (st .names) (namesIn ts)) ≤ 64
-  pub rows-few : rowsFit (saidWith st ts) ≡ true
-  pub only-query : leb (length (saidWith st ts .queries)) 1 ≡ true
+  pub not-deep : brings (lineOf ts) .depth ≤ 16
+  pub room : RoomPasses (length (withNames (st .names) (namesIn ts))) (length (st .clauses)) (length (st .constraints))
+      (length (st .queries)) (brings (lineOf ts))
 
 -- and 3
-pub record LinePasses (st : Said) (l : List ℕ) : Type 0 where
-  pub short : length l ≤ 200
-  pub form-passes : isComment l ≡ false → FormPasses st (tokens l)
+abbrev pub LinePasses : Said → List ℕ → Type 0
+LinePasses st l = isComment l ≡ false → (length l ≤ 200) × FormPasses st (tokens l)
 
-form-passes : (st : Said) (ts : List Token) → Passes (formChecks st ts) → FormPasses st ts
-form-passes st ts (five, (six, (seven, (eight, (nine, (ten, _)))))) = record {
-  is-form = no-form-is ts ∙ ap not five;
-  names-short = not-true _ six;
-  not-deep = not-true _ seven;
-  names-few = subst (λ (m : List (List ℕ)). length m ≤ 64) (with-names st ts) (leb-true _ 64 eight);
-  rows-few = nine;
-  only-query = ten;
-}
+room-has : (n cl co q : ℕ) (b : Brings) → Passes (roomChecks n cl co q b) → RoomPasses n cl co q b
+room-has n cl co q b (eight, (nine, (ten, _))) =
+    let rows = leb (cl + b .clauses) 256 in
+    record {
+      names-few = leb-true n 64 eight;
+      clauses-few = leb-true _ 256 (and-true-l rows (leb (co + b .constraints) 32) nine);
+      constraints-few = leb-true _ 32 (and-true-r rows (leb (co + b .constraints) 32) nine);
+      queries-few = leb-true _ 1 ten;
+    }
+
+pub room-passes : {n cl co q : ℕ} {b : Brings} → firstFailed (roomChecks n cl co q b) ≡ 0 → RoomPasses n cl co q b
+room-passes {n} {cl} {co} {q} {b} e = room-has n cl co q b (none-failed (roomChecks n cl co q b) refl e)
+
+pub text-passes : (ws : List (List ℕ)) (b : Brings) → firstFailed (textChecks ws b) ≡ 0
+    → (someLong ws ≡ false) × (b .depth ≤ 16)
+text-passes ws b e =
+    let p = none-failed (textChecks ws b) refl e in
+    (not-true _ (p .0), leb-true _ 16 (p .1 .0))
+
+look-passes : (l : List ℕ) → isComment l ≡ false → lookRefusal l ≡ 0
+    → (length l ≤ 200) × (isLine (lineOf (tokens l)) ≡ true)
+unfolding lookRefusal
+look-passes l a e =
+    let others = check 4 (allOf isAllowed l) ∷ check 5 (isLine (lineOf (tokens l))) ∷ [] in
+    let d : firstFailed (check 3 (leb (length l) 200) ∷ others) ≡ 0 = rw a at e in
+    let p = none-failed (check 3 (leb (length l) 200) ∷ others) refl d in
+    (leb-true _ 200 (p .0), p .1 .1 .0)
+
+-- the refusal of a form by 6 and 7, and by 8 to 10
+abbrev pub textNumber : List Token → ℕ
+textNumber ts = firstFailed (textChecks (namesIn ts) (brings (lineOf ts)))
+
+abbrev roomOf : Said → List Token → List Check
+roomOf st ts =
+    roomChecks (length (withNames (st .names) (namesIn ts))) (length (st .clauses)) (length (st .constraints))
+    (length (st .queries)) (brings (lineOf ts))
+
+abbrev pub roomNumber : Said → List Token → ℕ
+roomNumber st ts = firstFailed (roomOf st ts)
+
+pub form-refusal-is : (st : Said) (ts : List Token) → formRefusal st ts ≡ firstOf (textNumber ts) (roomNumber st ts)
+unfolding formRefusal
+form-refusal-is st ts = first-failed-append (textChecks (namesIn ts) (brings (lineOf ts))) (roomOf st ts) refl
+
+form-passes : (st : Said) (ts : List Token) → isLine (lineOf ts) ≡ true → formRefusal st ts ≡ 0 → FormPasses st ts
+form-passes st ts h e =
+    let p = first-of-none (textNumber ts) (roomNumber st ts) (sym (form-refusal-is st ts) ∙ e) in
+    let text = text-passes (namesIn ts) (brings (lineOf ts)) (p .0) in
+    record { is-line = h; names-short = text .0; not-deep = text .1; room = room-passes (p .1) }
 
 pub line-passes : (st : Said) (l : List ℕ) → lineRefusal st l ≡ 0 → LinePasses st l
 unfolding lineRefusal
-line-passes st l e = go (isComment l) refl e
-  where
-    three : Check
-    three = check 3 (leb (length l) 200)
-
-    others : List Check
-    others = check 4 (allOf isAllowed l) ∷ formChecks st (tokens l)
-
-    go : (t : Bool) → isComment l ≡ t → firstFailed (three ∷ pick t [] others) ≡ 0 → LinePasses st l
-    go true q d =
-        let p = none-failed (three ∷ []) refl d in
-        record { short = leb-true _ 200 (p .0); form-passes = λ h. absurd (true≢false (sym q ∙ h)) }
-    go false q d =
-        let p = none-failed (three ∷ others) refl d in
-        record { short = leb-true _ 200 (p .0); form-passes = λ h. form-passes st (tokens l) (p .1 .1) }
+line-passes st l e a =
+    let p = first-of-none (lookRefusal l) _ e in
+    let look = look-passes l a (p .0) in
+    (look .0, form-passes st (tokens l) (look .1) (rw a at (p .1)))

@@ -1,25 +1,21 @@
 -- What taking a line answers and leaves.
 --
---   Took n after r old t    refused by n, or a record and tables that hold what was read after the line
+--   Took n after r u    the number n of its refusal, and where it is 0 a record and tables that hold what was read after
+--   TakenAs ..          the same for whatever was read before, and that nothing past the sizes of the tables changes
 use mathlib.Core.Path.{_≡_}
 use Prim.Native.Nat.{ℕ}
 use Rattle.program.specs.declared.case.Case.{Case}
 use Rattle.store.specs.Lent.{Lent}
 use Rattle.store.specs.Saying.{Said}
-use Rattle.store.specs.Held.{Held, Spoilt}
+use Rattle.store.specs.Held.{Held, Kept}
 use Rattle.checks.specs.declared.take.Taken.{Taken}
-use Rattle.checks.specs.declared.take.Taken.the-variants.{Next, Stop}
 
--- a line that passes its checks with the number n, or is refused by it
-pub record Passed (n : ℕ) (after : Said) (c : Case) (old t : Lent) : Type 0 where
-  pub passed : n ≡ 0
-  pub held : Held after c old t
+pub record Took (n : ℕ) (after : Said) (r : Taken) (u : Lent) : Type 0 where
+  pub refusal-is : r .refusal ≡ n
+  pub held : n ≡ 0 → Held after (r .found) u
 
-pub record Refused (n k : ℕ) (old t : Lent) : Type 0 where
-  pub number-is : k ≡ n
-  pub not-zero : n ≡ 0 → ⊥
-  pub spoilt : Spoilt old t
-
-abbrev pub Took : ℕ → Said → Taken → Lent → Lent → Type 0
-Took n after (Next c) old t = Passed n after c old t
-Took n after (Stop k) old t = Refused n k old t
+-- behind st the line has the refusal of st, and after it there is what was read after st
+pub record TakenAs (refusal : Said → ℕ) (after : Said → Said) (c : Case) (t : Lent) (r : Taken) (u : Lent)
+    : Type 0 where
+  pub kept : Kept t u
+  pub took : (st : Said) → Held st c t → Took (refusal st) (after st) r u

@@ -1,68 +1,110 @@
 // Taking a line: its checks, and what it adds to the record and the tables.
+ghost use mathlib.Core.Path.{_≡_};
 ghost use Prim.Native.Nat.{_≤_};
-ghost use lib.ListN.{length};
+ghost use Rattle.words.specs.Choice.{firstFailed};
 ghost use Rattle.text.specs.Tokens.{tokens};
-ghost use Rattle.store.specs.Lent.{Lent, lent};
-ghost use Rattle.store.specs.Saying.{Said};
-ghost use Rattle.store.specs.Held.{Long, Held};
-ghost use Rattle.checks.specs.Checks.{saidWith, formRefusal, lineRefusal, saidAfter};
-ghost use Rattle.checks.specs.Took.{Took};
-use grammar::line::form_of;
+ghost use Rattle.text.specs.Words.{namesIn};
+ghost use Rattle.store.specs.Lent.{lent};
+ghost use Rattle.store.specs.Held.{Long, InLimits};
+ghost use Rattle.store.specs.Stored.{queriesIn};
+ghost use Rattle.checks.specs.Checks.{textChecks, roomChecks, saidWith, formRefusal, lineRefusal, saidAfter};
+ghost use Rattle.checks.specs.Looked.{Formed};
+ghost use Rattle.checks.specs.Took.{TakenAs};
+use crate::look::Looked;
+use crate::look::look;
+use grammar::brings::Brings;
+use grammar::line::Form;
+use grammar::line::brings;
 use program::case::Case;
-use store::check::is_deep;
-use store::check::is_no_form;
-use store::check::is_one_too_many;
-use store::check::is_second_query;
 use store::form::store_form;
 
-// A line that was taken, with the record after it, or the number of its refusal.
-pub enum Taken {
-    Next(Case),
-    Stop(u32),
+// What taking a line answers: 0 and the record after it, or the number of its refusal.
+pub struct Taken {
+    pub refusal: u32,
+    pub found: Case,
 }
 
-// Takes a line that is no comment and has only allowed bytes: checks 5 to 10, then stores it.
+// The number of the first of the checks 6 and 7 that a line fails, or 0.
+fn text_refusal(l: &[u8], b: Brings) -> u32
+    ensures { λ r. ⌜ r ≡ firstFailed (textChecks (namesIn (tokens (now (l .entry)))) b) ⌝ }
+{
+    if names::some_long(l) {
+        return 6;
+    }
+    if 16 < b.depth {
+        return 7;
+    }
+    0
+}
+
+// How many queries a record has: its nodes are those of one query.
+fn queries(c: Case) -> usize
+    ensures { λ r. ⌜ r ≡ queriesIn c ⌝ }
+{
+    if 1 <= c.nodes { 1 } else { 0 }
+}
+
+// The number of the first of the checks 8 to 10 that a line fails, with a number of names, or 0.
+fn room_refusal(b: Brings, c: Case, atoms: usize) -> u32
+    requires { ⌜ InLimits c ⌝ }
+    ensures { λ r. ⌜ r ≡ firstFailed (roomChecks atoms (c .clauses) (c .constraints) (queriesIn c) b) ⌝ }
+{
+    if Case::ATOMS < atoms {
+        return 8;
+    }
+    if Case::CLAUSES - c.clauses < b.clauses {
+        return 9;
+    }
+    if Case::CONSTRAINTS - c.constraints < b.constraints {
+        return 9;
+    }
+    if 1 - queries(c) < b.queries {
+        return 10;
+    }
+    0
+}
+
+// Takes a line by its form: checks 6 to 10, then stores it.
 fn take_form(
     l: &[u8],
+    x: Form,
     c: Case,
     clauses: &mut [u64],
     constraints: &mut [u64],
     formula: &mut [u8],
     names: &mut [u8],
 ) -> Taken
-    requires { ⌜ Long (lent (now clauses) (now constraints) (now formula) (now names)) × (c .atoms ≤ 64)
-        × (length (now l) ≤ 200) ⌝ }
-    ensures { λ r. ⌜ ((st : Said) (old : Lent) → Held st c old
-        (lent (now (clauses .entry)) (now (constraints .entry)) (now (formula .entry)) (now (names .entry)))
-        → Took (formRefusal st (tokens (now (l .entry)))) (saidWith st (tokens (now (l .entry)))) r old
-        (lent (now (clauses .exit)) (now (constraints .exit)) (now (formula .exit)) (now (names .exit)))) ⌝ }
+    requires { ⌜ Long (lent (now clauses) (now constraints) (now formula) (now names)) × InLimits c
+        × Formed (now l) x ⌝ }
+    ensures { λ r. ⌜ TakenAs (λ st. formRefusal st (tokens (now (l .entry)))) (λ st. saidWith st (tokens (now (l .entry)))) c
+        (lent (now (clauses .entry)) (now (constraints .entry)) (now (formula .entry)) (now (names .entry))) r
+        (lent (now (clauses .exit)) (now (constraints .exit)) (now (formula .exit)) (now (names .exit))) ⌝ }
 {
-    let x = form_of(l);
-    if is_no_form(x) {
-        return Taken::Stop(5);
-    }
-    if names::some_long(l) {
-        return Taken::Stop(6);
-    }
-    if is_deep(x) {
-        return Taken::Stop(7);
+    let b = brings(x);
+    let early = text_refusal(l, b);
+    if early != 0 {
+        return Taken {
+            refusal: early,
+            found: c,
+        };
     }
     let atoms = names::intern_line(l, names, c.atoms);
-    if Case::ATOMS < atoms {
-        return Taken::Stop(8);
-    }
-    if is_one_too_many(x, c) {
-        return Taken::Stop(9);
-    }
-    if is_second_query(x, c) {
-        return Taken::Stop(10);
+    let late = room_refusal(b, c, atoms);
+    if late != 0 {
+        return Taken {
+            refusal: late,
+            found: c,
+        };
     }
     let mut named = c;
     named.atoms = atoms;
-    Taken::Next(store_form(l, x, named, names, clauses, constraints, formula))
+    Taken {
+        refusal: 0,
+        found: store_form(l, x, named, names, clauses, constraints, formula),
+    }
 }
 
-// Takes a line: checks 3 and 4, then the others.
+// Takes a line: looks at it, then takes it by its form.
 pub fn take_line(
     l: &[u8],
     c: Case,
@@ -71,20 +113,20 @@ pub fn take_line(
     formula: &mut [u8],
     names: &mut [u8],
 ) -> Taken
-    requires { ⌜ Long (lent (now clauses) (now constraints) (now formula) (now names)) × (c .atoms ≤ 64) ⌝ }
-    ensures { λ r. ⌜ ((st : Said) (old : Lent) → Held st c old
-        (lent (now (clauses .entry)) (now (constraints .entry)) (now (formula .entry)) (now (names .entry)))
-        → Took (lineRefusal st (now (l .entry))) (saidAfter st (now (l .entry))) r old
-        (lent (now (clauses .exit)) (now (constraints .exit)) (now (formula .exit)) (now (names .exit)))) ⌝ }
+    requires { ⌜ Long (lent (now clauses) (now constraints) (now formula) (now names)) × InLimits c ⌝ }
+    ensures { λ r. ⌜ TakenAs (λ st. lineRefusal st (now (l .entry))) (λ st. saidAfter st (now (l .entry))) c
+        (lent (now (clauses .entry)) (now (constraints .entry)) (now (formula .entry)) (now (names .entry))) r
+        (lent (now (clauses .exit)) (now (constraints .exit)) (now (formula .exit)) (now (names .exit))) ⌝ }
 {
-    if 200 < l.len() {
-        return Taken::Stop(3);
+    match look(l) {
+        Looked::Refused(number) => Taken {
+            refusal: number,
+            found: c,
+        },
+        Looked::Comment => Taken {
+            refusal: 0,
+            found: c,
+        },
+        Looked::Line(x) => take_form(l, x, c, clauses, constraints, formula, names),
     }
-    if text::lines::is_comment(l) {
-        return Taken::Next(c);
-    }
-    if !text::bytes::all_allowed(l) {
-        return Taken::Stop(4);
-    }
-    take_form(l, c, clauses, constraints, formula, names)
 }

@@ -1,11 +1,14 @@
--- Formulas: how a formula's depth, its nodes and its tokens bound each other, and
--- what holds of each name of a formula. Assumes nothing.
-use mathlib.Core.List.{List}
+-- Formulas: how a formula's depth, its nodes and its tokens bound each other, and its names among its tokens.
+-- Assumes nothing.
+use mathlib.Core.Path.{_≡_, ap, _∙_}
+use mathlib.Core.List.{List, _∷_, _++_, append-assoc}
 use Prim.Native.Nat.{ℕ, _+_, _*_, _≤_}
 use native.Mathlib.Omega.{arith}
-use Rattle.formulas.specs.Sentence.{Sentence}
+use Rattle.text.specs.Tokens.{Token}
+use Rattle.text.specs.Words.{namesIn}
+use Rattle.text.proofs.NameLaws.{names-closing, names-name, names-form}
+use Rattle.formulas.specs.Sentence.{Sentence, tokensOf, sentenceNames, depthOf}
 use Rattle.formulas.specs.Parsing.{sizeOf}
-use Rattle.formulas.specs.Sentence.{depthOf}
 
 pub depth-le-size : (f : Sentence) → depthOf f ≤ sizeOf f
 unfolding depthOf sizeOf
@@ -25,8 +28,12 @@ size-le-tokens (Sentence.name w) = omega arith
 size-le-tokens (Sentence.negation f) = omega (arith, size-le-tokens f)
 size-le-tokens (Sentence.joined k f g) = omega (arith, size-le-tokens f, size-le-tokens g)
 
--- P holds of each name of f
-abbrev pub EachName : (List ℕ → Type 0) → Sentence → Type 0
-EachName P (Sentence.name w) = P w
-EachName P (Sentence.negation f) = EachName P f
-EachName P (Sentence.joined k f g) = EachName P f × EachName P g
+pub sentence-names : (f : Sentence) (ts : List Token) → namesIn (tokensOf f ++ ts) ≡ sentenceNames f ++ namesIn ts
+unfolding tokensOf sentenceNames
+sentence-names (Sentence.name w) ts = names-name ts w
+sentence-names (Sentence.negation f) ts =
+    rw append-assoc (names-form _ _ ∙ sentence-names f _ ∙ ap (λ ns. sentenceNames f ++ ns) (names-closing ts))
+sentence-names (Sentence.joined k f g) ts =
+    let e = sentence-names g (Token.closing ∷ ts) ∙ ap (λ ns. sentenceNames g ++ ns) (names-closing ts) in
+    rw (append-assoc (tokensOf f ++ tokensOf g), append-assoc (tokensOf f), append-assoc (sentenceNames f))
+    (names-form _ _ ∙ sentence-names f _ ∙ ap (λ ns. sentenceNames f ++ ns) e)

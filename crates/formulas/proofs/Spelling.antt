@@ -6,37 +6,32 @@
 --   Spells ts x        the items x, if any, are of formulas, and their tokens are ts
 -- Assumes nothing.
 use mathlib.Core.Path.{_≡_, refl, ap, _∙_}
-use mathlib.Core.Bool.{Bool, true, false}
+use mathlib.Core.Bool.{true}
 use mathlib.Core.List.{List, [], _∷_, _++_, append-assoc}
-use mathlib.Core.Logic.{inl, inr}
 use mathlib.Core.Option.{Option}
 use Prim.Native.Nat.{ℕ, _-_, _≤_}
 use native.Mathlib.Omega.{arith}
-use lib.Dec.{eqb}
 use lib.ListN.{getD}
-use borrow.Author.Tests.{eqb-true, eqb-false, leb-true, le-leb}
-use Rattle.words.specs.Choice.{pick}
+use borrow.Author.Tests.{leb-true, le-leb}
 use Rattle.text.specs.Tokens.{Token}
 use Rattle.text.proofs.ByteLaws.{and-true-both}
-use Rattle.formulas.specs.Parsing.{Items}
-use Rattle.formulas.proofs.Operands.{withOne, withTwo}
-use Rattle.text.specs.Words.{beginsWithLetter}
 use Rattle.formulas.specs.Sentence.{Sentence, formWords, tokensOf, isSentence}
 use Rattle.formulas.specs.Items.{prepend, Item, withForm, itemsOf}
-use Rattle.formulas.specs.Keyword.{nodeOf}
-use Rattle.formulas.proofs.Keywords.{WordOf, node-word, word-node}
-use Rattle.formulas.proofs.Items.{closed-among, negation-items, joined-items}
+use Rattle.formulas.specs.Parsing.{Items}
+use Rattle.formulas.proofs.Keywords.{word-node}
+use Rattle.formulas.proofs.Forms.{closed-among, negation-items, joined-items}
+use Rattle.formulas.proofs.Reading.{Read, items-read, items-closing, items-name, items-form}
 
 -- What is spelled is read
 
 -- what a form that passes isSentence is made of
-record JoinedSentence (k : ℕ) (f g : Sentence) : Type 0 where
-  low : 65 ≤ k
-  high : k ≤ 68
-  first : isSentence f ≡ true
-  second : isSentence g ≡ true
+pub record JoinedSentence (k : ℕ) (f g : Sentence) : Type 0 where
+  pub low : 65 ≤ k
+  pub high : k ≤ 68
+  pub first : isSentence f ≡ true
+  pub second : isSentence g ≡ true
 
-joined-sentence : (k : ℕ) (f g : Sentence) → isSentence (Sentence.joined k f g) ≡ true → JoinedSentence k f g
+pub joined-sentence : (k : ℕ) (f g : Sentence) → isSentence (Sentence.joined k f g) ≡ true → JoinedSentence k f g
 unfolding isSentence
 joined-sentence k f g h =
     let a = and-true-both _ _ h in
@@ -44,26 +39,41 @@ joined-sentence k f g h =
     let c = and-true-both _ _ (b .0) in
     record { low = leb-true 65 k (c .0); high = leb-true k 68 (c .1); first = b .1; second = a .1 }
 
+-- the tokens us of a form's operands and closing bracket, in front of the tokens ts
+module _ (us ts : List Token) where
+  -- a form's word in front of what us are read as
+  form-tokens : (k : ℕ) (x : Items) → 64 ≤ k → k ≤ 68 → itemsOf us ≡ x
+      → itemsOf (Token.opening ∷ (Token.word (getD formWords (k - 64) []) ∷ us)) ≡ withForm k x
+  form-tokens k x a b e = rw (items-form, word-node k a b, e)
+
+  negation-tokens : (f : Sentence) → itemsOf us ≡ prepend (Item.formula f) (itemsOf (Token.closing ∷ ts))
+      → itemsOf (Token.opening ∷ (Token.word (getD formWords 0 []) ∷ us))
+      ≡ prepend (Item.formula (Sentence.negation f)) (itemsOf ts)
+  negation-tokens f e =
+      form-tokens 64 _ (omega arith) (omega arith) e ∙ negation-items 64 f (itemsOf (Token.closing ∷ ts)) refl
+      ∙ rw items-closing (closed-among (Sentence.negation f) (itemsOf ts))
+
+  joined-tokens : (k : ℕ) (f g : Sentence) → 65 ≤ k → k ≤ 68
+      → itemsOf us ≡ prepend (Item.formula f) (prepend (Item.formula g) (itemsOf (Token.closing ∷ ts)))
+      → itemsOf (Token.opening ∷ (Token.word (getD formWords (k - 64) []) ∷ us))
+      ≡ prepend (Item.formula (Sentence.joined k f g)) (itemsOf ts)
+  joined-tokens k f g a b e =
+      form-tokens k _ (omega arith) b e ∙ joined-items k f g (itemsOf (Token.closing ∷ ts)) b (λ z. omega arith)
+      ∙ rw items-closing (closed-among (Sentence.joined k f g) (itemsOf ts))
+
 pub tokensOf-read : (f : Sentence) (ts : List Token) → isSentence f ≡ true
     → itemsOf (tokensOf f ++ ts) ≡ prepend (Item.formula f) (itemsOf ts)
-unfolding tokensOf isSentence itemsOf
-tokensOf-read (Sentence.name w) ts h = rw h
+unfolding tokensOf isSentence
+tokensOf-read (Sentence.name w) ts h = items-name ts w h
 tokensOf-read (Sentence.negation f) ts h =
-    let x = itemsOf ts in
-    rw (append-assoc, word-node 64 (omega arith) (omega arith), tokensOf-read f (Token.closing ∷ ts) h)
-    (negation-items 64 f (prepend Item.closing x) refl ∙ closed-among (Sentence.negation f) x)
+    let us = Token.closing ∷ ts in
+    rw append-assoc (negation-tokens (tokensOf f ++ us) ts f (tokensOf-read f us h))
 tokensOf-read (Sentence.joined k f g) ts h =
-    let x = itemsOf ts in
     let j = joined-sentence k f g h in
-    rw (
-      word-node k (omega arith) (j .high),
-      append-assoc,
-      append-assoc,
-      tokensOf-read f _ (j .first),
-      tokensOf-read g (Token.closing ∷ ts) (j .second),
-    )
-    (joined-items k f g (prepend Item.closing x) (λ z. omega arith) (λ z. omega arith)
-    ∙ closed-among (Sentence.joined k f g) x)
+    let us = tokensOf g ++ (Token.closing ∷ ts) in
+    let d = tokensOf-read g (Token.closing ∷ ts) (j .second) in
+    let e = tokensOf-read f us (j .first) ∙ ap (prepend (Item.formula f)) d in
+    rw (append-assoc, append-assoc) (joined-tokens (tokensOf f ++ us) ts k f g (j .low) (j .high) e)
 
 -- What is read is spelled
 
@@ -81,68 +91,18 @@ abbrev pub Spells : List Token → Items → Type 0
 Spells ts Option.none = Unit {0}
 Spells ts (Option.some m) = (ts ≡ spelledItems m) × AreSentences m
 
--- a token in front of tokens that items spell
-closing-spells : (ts : List Token) (x : Items) → Spells ts x → Spells (Token.closing ∷ ts) (prepend Item.closing x)
-unfolding spelledItems
-closing-spells ts Option.none h = tt
-closing-spells ts (Option.some m) h = (ap (λ us. Token.closing ∷ us) (h .0), h .1)
-
-name-spells : (t : Bool) (w : List ℕ) (ts : List Token) (x : Items) → beginsWithLetter w ≡ t → Spells ts x
-    → Spells (Token.word w ∷ ts) (pick t (prepend (Item.formula (Sentence.name w)) x) Option.none)
+read-spells : {ts : List Token} {x : Items} → Read ts x → Spells ts x
 unfolding spelledItems tokensOf isSentence
-name-spells false w ts x e h = tt
-name-spells true w ts Option.none e h = tt
-name-spells true w ts (Option.some m) e h = (ap (λ us. Token.word w ∷ us) (h .0), (e, h .1))
-
-module _ (w : List ℕ) (ts : List Token) where
-  one-spells : (m : List Item) → w ≡ getD formWords 0 [] → Spells ts (Option.some m)
-      → Spells (Token.opening ∷ (Token.word w ∷ ts)) (withOne m)
-  unfolding spelledItems tokensOf isSentence
-  one-spells [] e h = tt
-  one-spells (Item.closing ∷ m) e h = tt
-  one-spells (Item.formula f ∷ []) e h = tt
-  one-spells (Item.formula f ∷ (Item.formula g ∷ m)) e h = tt
-  one-spells (Item.formula f ∷ (Item.closing ∷ m)) e h = (rw (append-assoc, e, h .0), h .1)
-
-  two-spells : (k : ℕ) (m : List Item) → w ≡ getD formWords (k - 64) [] → 65 ≤ k → k ≤ 68 → Spells ts (Option.some m)
-      → Spells (Token.opening ∷ (Token.word w ∷ ts)) (withTwo k m)
-  unfolding spelledItems tokensOf isSentence
-  two-spells k [] e a b h = tt
-  two-spells k (Item.closing ∷ m) e a b h = tt
-  two-spells k (Item.formula f ∷ []) e a b h = tt
-  two-spells k (Item.formula f ∷ (Item.closing ∷ m)) e a b h = tt
-  two-spells k (Item.formula f ∷ (Item.formula g ∷ [])) e a b h = tt
-  two-spells k (Item.formula f ∷ (Item.formula g ∷ (Item.formula i ∷ m))) e a b h = tt
-  two-spells k (Item.formula f ∷ (Item.formula g ∷ (Item.closing ∷ m))) e a b h = (
-    rw (append-assoc, append-assoc, e, h .0),
-    (rw (le-leb 65 k a, le-leb k 68 b, h .1 .0, h .1 .1 .0), h .1 .1 .1),
-  )
-
-  picked-spells : (s t : Bool) (k : ℕ) (m : List Item) → eqb k 0 ≡ s → eqb k 64 ≡ t → WordOf formWords 64 w k
-      → Spells ts (Option.some m)
-      → Spells (Token.opening ∷ (Token.word w ∷ ts)) (pick s Option.none (pick t (withOne m) (withTwo k m)))
-  picked-spells true t k m p q (inl z) h = tt
-  picked-spells true t k m p q (inr r) h = tt
-  picked-spells false t k m p q (inl z) h = absurd (eqb-false k 0 p z)
-  picked-spells false true k m p q (inr r) h =
-      let z : k - 64 ≡ 0 = omega (arith, eqb-true k 64 q) in
-      one-spells m (rw z at (r .2)) h
-  picked-spells false false k m p q (inr r) h =
-      two-spells k m (r .2) (omega (arith, eqb-false k 64 q)) (omega arith) h
-
-  form-spells : (k : ℕ) (x : Items) → WordOf formWords 64 w k → Spells ts x
-      → Spells (Token.opening ∷ (Token.word w ∷ ts)) (withForm k x)
-  unfolding withForm
-  form-spells k Option.none r h = tt
-  form-spells k (Option.some m) r h = picked-spells (eqb k 0) (eqb k 64) k m refl refl r h
+read-spells Read.nothing = tt
+read-spells Read.end = (refl, tt)
+read-spells (Read.closing r) = let h = read-spells r in (ap (λ us. Token.closing ∷ us) (h .0), h .1)
+read-spells (Read.name {w} e r) = let h = read-spells r in (ap (λ us. Token.word w ∷ us) (h .0), (e, h .1))
+read-spells (Read.negation e r) = let h = read-spells r in (rw (append-assoc, e, h .0), h .1)
+read-spells (Read.joined {k} b e r) =
+    let h = read-spells r in (
+      rw (append-assoc, append-assoc, e, h .0),
+      (rw (le-leb 65 k (b .0), le-leb k 68 (b .1), h .1 .0, h .1 .1 .0), h .1 .1 .1),
+    )
 
 pub items-spell : (ts : List Token) → Spells ts (itemsOf ts)
-unfolding itemsOf spelledItems
-items-spell [] = (refl, tt)
-items-spell (Token.closing ∷ ts) = closing-spells ts (itemsOf ts) (items-spell ts)
-items-spell (Token.word w ∷ ts) = name-spells (beginsWithLetter w) w ts (itemsOf ts) refl (items-spell ts)
-items-spell (Token.opening ∷ []) = tt
-items-spell (Token.opening ∷ (Token.opening ∷ ts)) = tt
-items-spell (Token.opening ∷ (Token.closing ∷ ts)) = tt
-items-spell (Token.opening ∷ (Token.word w ∷ ts)) =
-    form-spells w ts (nodeOf w) (itemsOf ts) (node-word w) (items-spell ts)
+items-spell ts = read-spells (items-read ts)

@@ -6,7 +6,7 @@
 use mathlib.Core.List.{List, [], _∷_}
 use mathlib.Core.Option.{Option}
 use Prim.Native.Nat.{ℕ}
-use lib.Dec.{eqb}
+use lib.Dec.{eqb, ltb}
 use Rattle.words.specs.Choice.{pick}
 use Rattle.text.specs.Tokens.{Token}
 use Rattle.formulas.specs.Keyword.{nodeOf}
@@ -35,13 +35,13 @@ withFirst other make [] = other
 withFirst other make (Item.closing ∷ l) = other
 withFirst other make (Item.formula f ∷ l) = make f l
 
--- the form with node k, 0 for none, where the next items are its one or two operands and its closing bracket
+-- the form with node k, over 68 for none, where the next items are its one or two operands and its closing bracket
 unfoldable pub withForm : ℕ → Option (List Item) → Option (List Item)
 withForm k Option.none = Option.none
 withForm k (Option.some l) =
     let one = withFirst Option.none (λ f m. closed (Sentence.negation f) m) l in
     let two = withFirst Option.none (λ f m. withFirst Option.none (λ g n. closed (Sentence.joined k f g) n) m) l in
-    pick (eqb k 0) Option.none (pick (eqb k 64) one two)
+    pick (ltb 68 k) Option.none (pick (eqb k 64) one two)
 
 unfoldable pub itemsOf : List Token → Option (List Item)
 itemsOf [] = Option.some []

@@ -2,6 +2,7 @@
 --
 --   beginsFormula x      the items begin with a formula
 --   sizeOf f             the number of nodes of f: its names and its forms
+--   HeadAt l at r        r is what the formula at place at of the line l begins with, or none
 --   Parsed l at r        r is the formula at place at of the line l, with its depth and the place behind it, or none
 --   Closed l at d r      r is a form of depth d whose closing bracket is at or behind place at, or none
 use mathlib.Core.Path.{_≡_}
@@ -10,9 +11,12 @@ use mathlib.Core.List.{List, [], _∷_}
 use mathlib.Core.Option.{Option}
 use Prim.Native.Nat.{ℕ, _+_, _*_, _≤_, _<_}
 use lib.ListN.{length, drop}
+use lib.Seq.{slice}
 use Rattle.text.specs.Tokens.{tokens}
 use Rattle.formulas.specs.Sentence.{Sentence, depthOf}
-use Rattle.formulas.specs.Items.{prepend, Item, closed, itemsOf}
+use Rattle.formulas.specs.Items.{prepend, Item, closed, withForm, itemsOf}
+use Rattle.formulas.specs.declared.formula.Head.{Head}
+use Rattle.formulas.specs.declared.formula.Head.the-variants.{NoHead, Name, Form}
 use Rattle.formulas.specs.declared.formula.Parse.{Parse}
 use Rattle.formulas.specs.declared.formula.Parse.the-variants.{NoFormula, Formula}
 
@@ -25,6 +29,27 @@ beginsFormula Option.none = false
 beginsFormula (Option.some []) = false
 beginsFormula (Option.some (Item.closing ∷ l)) = false
 beginsFormula (Option.some (Item.formula f ∷ l)) = true
+
+-- the name from place a to place e, with the rest behind it
+pub record NameAt (l : List ℕ) (at a e : ℕ) : Type 0 where
+  pub items-are : itemsOf (tokens (drop at l))
+      ≡ prepend (Item.formula (Sentence.name (slice a e l))) (itemsOf (tokens (drop e l)))
+  pub onward : at ≤ a
+  pub filled : a < e
+  pub within : e ≤ length l
+
+-- the form with node k, with its operands behind place e
+pub record FormAt (l : List ℕ) (at k e : ℕ) : Type 0 where
+  pub items-are : itemsOf (tokens (drop at l)) ≡ withForm k (itemsOf (tokens (drop e l)))
+  pub low : 64 ≤ k
+  pub high : k ≤ 68
+  pub onward : at + 2 ≤ e
+  pub within : e ≤ length l
+
+abbrev pub HeadAt : List ℕ → ℕ → Head → Type 0
+HeadAt l at NoHead = beginsFormula (itemsOf (tokens (drop at l))) ≡ false
+HeadAt l at (Name a e) = NameAt l at a e
+HeadAt l at (Form k e) = FormAt l at k e
 
 unfoldable pub sizeOf : Sentence → ℕ
 sizeOf (Sentence.name w) = 1

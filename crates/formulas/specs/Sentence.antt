@@ -4,6 +4,7 @@
 --   Sentence             a formula over names: F
 --   formTokens w ts      the tokens of the form with the word w and with the tokens ts behind it
 --   tokensOf f           the tokens of the formula f
+--   sentenceNames f      the names of the formula f in order
 --   depthOf f            a name has depth 1, a form one more than its deepest operand
 --   isSentence f         the names of f are names, and its nodes are those of the words
 use mathlib.Core.Bool.{Bool, _&&_}
@@ -33,6 +34,11 @@ unfoldable pub tokensOf : Sentence → List Token
 tokensOf (Sentence.name w) = Token.word w ∷ []
 tokensOf (Sentence.negation f) = formTokens (getD formWords 0 []) (tokensOf f)
 tokensOf (Sentence.joined k f g) = formTokens (getD formWords (k - 64) []) (tokensOf f ++ tokensOf g)
+
+unfoldable pub sentenceNames : Sentence → List (List ℕ)
+sentenceNames (Sentence.name w) = w ∷ []
+sentenceNames (Sentence.negation f) = sentenceNames f
+sentenceNames (Sentence.joined k f g) = sentenceNames f ++ sentenceNames g
 
 unfoldable pub depthOf : Sentence → ℕ
 depthOf (Sentence.name w) = 1

@@ -1,16 +1,48 @@
 // Formulas in a line.
 ghost use mathlib.Core.Path.{_≡_};
 ghost use Prim.Native.Nat.{max};
-ghost use Rattle.formulas.specs.Parsing.{Parsed, Closed};
+ghost use Rattle.formulas.specs.Parsing.{HeadAt, Parsed, Closed};
 use crate::keyword::node_of;
 use text::name::is_name;
 use text::tokens::Next;
 use text::tokens::token;
 
+// What a formula begins with: a name and its ends, or the node of a form and the place behind its word.
+pub enum Head {
+    NoHead,
+    Name(usize, usize),
+    Form(u8, usize),
+}
+
 // A formula found in a line: the place behind it, and its depth.
 pub enum Parse {
     NoFormula,
     Formula(usize, usize),
+}
+
+// What the formula at or behind a place begins with.
+pub fn head_at(l: &[u8], at: usize) -> Head
+    ensures { λ r. ⌜ HeadAt (now (l .entry)) at r ⌝ }
+{
+    match token(l, at) {
+        Next::Word(a, e) => {
+            if is_name(l, a, e) {
+                return Head::Name(a, e);
+            }
+            Head::NoHead
+        }
+        Next::Open(i) => {
+            let Next::Word(a, e) = token(l, i) else {
+                return Head::NoHead;
+            };
+            let node = node_of(l, a, e);
+            if 68 < node {
+                return Head::NoHead;
+            }
+            Head::Form(node, e)
+        }
+        _ => Head::NoHead,
+    }
 }
 
 fn greater_of(a: usize, b: usize) -> usize
@@ -23,49 +55,30 @@ fn greater_of(a: usize, b: usize) -> usize
 fn closed_form(l: &[u8], at: usize, depth: usize) -> Parse
     ensures { λ r. ⌜ Closed (now (l .entry)) at depth r ⌝ }
 {
-    match token(l, at) {
-        Next::Close(next) => Parse::Formula(next, depth),
-        Next::Open(_) => Parse::NoFormula,
-        Next::Word(_, _) => Parse::NoFormula,
-        Next::End => Parse::NoFormula,
-    }
+    let Next::Close(next) = token(l, at) else {
+        return Parse::NoFormula;
+    };
+    Parse::Formula(next, depth)
 }
 
 // The formula at or behind a place.
 pub fn formula_at(l: &[u8], at: usize) -> Parse
     ensures { λ r. ⌜ Parsed (now (l .entry)) at r ⌝ }
 {
-    match token(l, at) {
-        Next::End => Parse::NoFormula,
-        Next::Close(_) => Parse::NoFormula,
-        Next::Word(a, e) => {
-            if is_name(l, a, e) {
-                return Parse::Formula(e, 1);
+    match head_at(l, at) {
+        Head::NoHead => Parse::NoFormula,
+        Head::Name(_, e) => Parse::Formula(e, 1),
+        Head::Form(node, e) => {
+            let Parse::Formula(j, d) = formula_at(l, e) else {
+                return Parse::NoFormula;
+            };
+            if node == 64 {
+                return closed_form(l, j, d + 1);
             }
-            Parse::NoFormula
+            let Parse::Formula(k, f) = formula_at(l, j) else {
+                return Parse::NoFormula;
+            };
+            closed_form(l, k, greater_of(d, f) + 1)
         }
-        Next::Open(i) => match token(l, i) {
-            Next::End => Parse::NoFormula,
-            Next::Open(_) => Parse::NoFormula,
-            Next::Close(_) => Parse::NoFormula,
-            Next::Word(a, e) => {
-                let node = node_of(l, a, e);
-                if node == 0 {
-                    return Parse::NoFormula;
-                }
-                match formula_at(l, e) {
-                    Parse::NoFormula => Parse::NoFormula,
-                    Parse::Formula(j, d) => {
-                        if node == 64 {
-                            return closed_form(l, j, d + 1);
-                        }
-                        match formula_at(l, j) {
-                            Parse::NoFormula => Parse::NoFormula,
-                            Parse::Formula(k, f) => closed_form(l, k, greater_of(d, f) + 1),
-                        }
-                    }
-                }
-            }
-        },
     }
 }

@@ -1,29 +1,46 @@
--- Laws of lines: one for each way out of the functions that find a line's form.
+-- Laws of the forms of lines: one for each way out of the functions that find them, and what a form brings.
+--
+--   endsItems       (of Parsing) the line's closing bracket is all that is left
+--   Body k x        the literals of x, as many as a line of kind k takes
+--   bringsOf x      what a line of the form x brings
 -- Assumes nothing.
 use mathlib.Core.Path.{_≡_, refl, sym, ap, _∙_, subst}
-use mathlib.Core.Bool.{Bool, true, false, true≢false}
+use mathlib.Core.Bool.{true, false, true≢false}
 use mathlib.Core.List.{List, [], _∷_}
 use mathlib.Core.Option.{Option}
-use Prim.Native.Nat.{ℕ, zero, suc, _≤_}
+use Prim.Native.Nat.{ℕ, _≤_}
 use native.Mathlib.Omega.{arith}
 use lib.ListN.{length, drop}
+use lib.Seq.{slice}
+use denote.Enum.Declared.{tagOf}
+use types.Run.{OneOf, miss}
+use borrow.Author.Tests.{eqb-true, ne-eqb}
 use Rattle.words.specs.Choice.{pick}
 use Rattle.text.specs.Tokens.{Token, tokens}
-use Rattle.formulas.specs.Parsing.{Items, beginsFormula, closedAmong, FormulaAt}
 use Rattle.text.specs.Words.{beginsWithLetter}
+use Rattle.text.specs.Scanning.{Found, firstToken}
+use Rattle.text.specs.declared.tokens.Next.{Next}
+use Rattle.text.specs.declared.tokens.Next.the-variants.{End, Open, Close, Word}
+use Rattle.text.proofs.tokens.Next.{the-type}
 use Rattle.formulas.specs.Sentence.{Sentence}
-use Rattle.formulas.specs.Items.{prepend, Item, itemsOf, withFirst}
-use Rattle.formulas.specs.Keyword.{kindOf}
-use Rattle.formulas.proofs.Firsts.{Filled, nameFirst, Unnamed, Unclosed, token-filled}
-use Rattle.grammar.specs.Line.{Line, Literal}
-use Rattle.grammar.specs.LineOf.{literalsOf, withBody, withOnly, isEnd, named, withItems, lineOf}
-use Rattle.grammar.specs.Parsing.{endsItems, literalsAmong, bodyIn, LiteralsAt, BodyFound, BodyMakes, SeenMakes}
-use Rattle.grammar.specs.Parsing.{QueryMakes, endsLine, FormIs, FormAfter, FormFound}
-use Rattle.grammar.specs.declared.literal.Run.{Run}
+use Rattle.formulas.specs.Items.{prepend, Item, itemsOf}
+use Rattle.formulas.specs.Parsing.{Items, beginsFormula, closedAmong, FormulaAt, Parsed}
+use Rattle.formulas.specs.declared.formula.Parse.{Parse}
+use Rattle.formulas.specs.declared.formula.Parse.the-variants.{NoFormula, Formula}
+use Rattle.formulas.proofs.Formulas.{found-as, parsed-as}
+use Rattle.formulas.proofs.Reading.{items-end, items-closing, items-name, items-word}
+use Rattle.formulas.proofs.FirstItem.{Filled, found-unclosed, found-unnamed, found-filled}
+use Rattle.grammar.specs.Line.{Line, Literal, takes, bringing}
+use Rattle.grammar.specs.LineOf.{withBody, seenOf, bodyLine, withItems, kindOf, lineOf}
+use Rattle.grammar.specs.Parsing.{endsItems, bodyIn, fitsBody, hasBody, BodyMakes}
+use Rattle.grammar.specs.Parsing.{endsLine, FormAfter, FormFound, Brought}
 use Rattle.grammar.specs.declared.line.Form.{Form}
-use Rattle.grammar.specs.declared.line.Form.the-variants.{NoForm}
+use Rattle.grammar.specs.declared.line.Form.the-variants.{Skipped, NoForm, Clause, Never, Seen, Query}
+use Rattle.grammar.specs.declared.brings.Brings.{Brings}
+use Rattle.grammar.proofs.KindLaws.{fit-body, unfit-body, kind-unnamed, kind-named, body-kind}
 
--- the line's closing bracket is all that is left
+-- The ways out of `ends_line`
+
 unclosed-ends : (x : Items) → closedAmong (Sentence.name []) x ≡ Option.none → endsItems x ≡ false
 unclosed-ends Option.none h = refl
 unclosed-ends (Option.some []) h = refl
@@ -35,231 +52,235 @@ closing-filled Option.none h = refl
 closing-filled (Option.some []) h = absurd h
 closing-filled (Option.some (i ∷ l)) h = refl
 
-pub ends-is : (x : Items) → endsItems x ≡ true → x ≡ Option.some (Item.closing ∷ [])
+module _ {l : List ℕ} {at : ℕ} {r : Next} (t : Found l at r) where
+  pub ends-unclosed : OneOf (0 ∷ (1 ∷ (3 ∷ []))) (tagOf the-type r) → false ≡ endsLine l at
+  unfolding endsLine
+  ends-unclosed h = sym (unclosed-ends (itemsOf (tokens (drop at l))) (found-unclosed t h .unclosed (Sentence.name [])))
+
+  module _ {i : ℕ} (e : r ≡ Close i) {s : Next} (u : Found l i s) where
+    pub ends-more : OneOf (1 ∷ (2 ∷ (3 ∷ []))) (tagOf the-type s) → false ≡ endsLine l at
+    unfolding endsLine
+    ends-more h =
+        let more = closing-filled (itemsOf (tokens (drop i l))) (found-filled u h) in
+        sym (rw (found-as t e .tokens-are, items-closing) more)
+
+    pub ends-last : s ≡ End → true ≡ endsLine l at
+    unfolding endsLine
+    ends-last f = sym (rw (found-as t e .tokens-are, items-closing, found-as u f .tokens-are, items-end))
+
+-- Literals, as many as a line of kind k takes
+
+record Body (k : ℕ) (x : Option (List Literal)) : Type 0 where
+  literals : List Literal
+  literals-are : x ≡ Option.some literals
+  fits : takes k (length literals) ≡ true
+
+body-of : (k : ℕ) (x : Option (List Literal)) → fitsBody k x ≡ true → Body k x
+body-of k Option.none h = absurd (true≢false (sym h))
+body-of k (Option.some ls) h = record { literals = ls; literals-are = refl; fits = h }
+
+module _ {l : List ℕ} {at : ℕ} {x : Line} where
+  body-makes : (k : ℕ) (make : List Literal → Line) → x ≡ withBody k make (bodyIn (tokens (drop at l)))
+      → hasBody l at k ≡ true → BodyMakes l at make x
+  unfolding hasBody
+  body-makes k make e h =
+      let b = body-of k (bodyIn (tokens (drop at l))) h in
+      record {
+        literals = b .literals;
+        literals-are = b .literals-are;
+        line-is = e ∙ ap (withBody k make) (b .literals-are) ∙ fit-body k make (b .literals) (b .fits);
+      }
+
+-- The ways out of `clause_form`
+
+pub clause-is : (k : ℕ) {ts us : List Token} {w : List ℕ} → k ≤ 2 → ts ≡ Token.word w ∷ us → beginsWithLetter w ≡ true
+    → withItems k (itemsOf ts) ≡ withBody k (Line.clause k w) (bodyIn us)
+clause-is k {us = us} {w = w} i e n = rw (e, items-name us w n) (kind-named k i w (itemsOf us))
+
+module _ {l : List ℕ} {at k : ℕ} {r : Next} where
+  pub clause-wordless : Found l at r → k ≤ 2 → OneOf (0 ∷ (1 ∷ (2 ∷ []))) (tagOf the-type r) → FormAfter l at k NoForm
+  clause-wordless t i h = record { form-is = kind-unnamed k i (itemsOf (tokens (drop at l))) (found-unnamed t h) }
+
+  module _ {a e : ℕ} (w : r ≡ Word a e) (t : Found l at r) (i : k ≤ 2) where
+    pub clause-word : beginsWithLetter (slice a e l) ≡ false → FormAfter l at k NoForm
+    clause-word h = record {
+      form-is = kind-unnamed k i (itemsOf (tokens (drop at l)))
+          (rw (found-as t w .tokens-are, items-word (tokens (drop e l)) (slice a e l) h));
+    }
+
+    module _ (n : beginsWithLetter (slice a e l) ≡ true) where
+      pub clause-unfit : hasBody l e k ≡ false → FormAfter l at k NoForm
+      unfolding hasBody
+      clause-unfit h = record {
+        form-is = clause-is k i (found-as t w .tokens-are) n ∙ unfit-body k _ (bodyIn (tokens (drop e l))) h;
+      }
+
+      pub clause-found : hasBody l e k ≡ true → FormAfter l at k (Clause k a e e)
+      clause-found h =
+          let g = found-as t w in
+          let makes = body-makes k (Line.clause k (slice a e l)) (clause-is k i (g .tokens-are) n) h in
+          record { form-is = (i, (g .inside .1, g .inside .2), makes) }
+
+-- The ways out of `query_form`
+
+query-line : (f : Sentence) (x : Items)
+    → withItems 5 (prepend (Item.formula f) x) ≡ pick (endsItems x) (Line.query f) Line.noForm
+query-line f Option.none = refl
+query-line f (Option.some l) = refl
+
+none-line : (x : Items) → beginsFormula x ≡ false → withItems 5 x ≡ Line.noForm
+none-line Option.none h = refl
+none-line (Option.some []) h = refl
+none-line (Option.some (Item.closing ∷ l)) h = refl
+none-line (Option.some (Item.formula f ∷ l)) h = absurd (true≢false h)
+
+ends-is : (x : Items) → endsItems x ≡ true → x ≡ Option.some (Item.closing ∷ [])
 ends-is Option.none h = absurd (true≢false (sym h))
 ends-is (Option.some []) h = absurd (true≢false (sym h))
 ends-is (Option.some (Item.formula f ∷ l)) h = absurd (true≢false (sym h))
 ends-is (Option.some (Item.closing ∷ [])) h = refl
 ends-is (Option.some (Item.closing ∷ (i ∷ l))) h = absurd (true≢false (sym h))
 
-pub ends-unclosed : {ts : List Token} → Unclosed ts → endsItems (itemsOf ts) ≡ false
-ends-unclosed {ts} h = unclosed-ends (itemsOf ts) (h .unclosed (Sentence.name []))
+module _ {l : List ℕ} {at : ℕ} {r : Parse} where
+  pub query-none : r ≡ NoFormula → Parsed l at r → FormAfter l at 5 NoForm
+  query-none e p = record { form-is = none-line (itemsOf (tokens (drop at l))) (parsed-as l at p e) }
 
-module _ {ts us : List Token} (e : ts ≡ Token.closing ∷ us) where
-  pub ends-closed : us ≡ [] → endsItems (itemsOf ts) ≡ true
-  unfolding itemsOf
-  ends-closed f = rw (e, f)
+  module _ {next d : ℕ} (e : r ≡ Formula next d) (p : Parsed l at r) where
+    formula : FormulaAt l at next d
+    formula = parsed-as l at p e
 
-  pub ends-more : {t : Token} {vs : List Token} → us ≡ t ∷ vs → endsItems (itemsOf ts) ≡ false
-  unfolding itemsOf
-  ends-more {t} {vs} f = rw (e, f) (closing-filled (itemsOf (t ∷ vs)) (token-filled t vs))
+    pub query-unended : endsLine l next ≡ false → FormAfter l at 5 NoForm
+    unfolding endsLine
+    query-unended h = record {
+      form-is = rw (formula .items-are) (query-line (formula .sentence) (itemsOf (tokens (drop next l))) ∙ rw h);
+    }
 
--- the lines of a kind
-pick-same : (b : Bool) (x : Line) → pick b x x ≡ x
-pick-same true x = refl
-pick-same false x = refl
+    pub query-found : endsLine l next ≡ true → FormAfter l at 5 (Query at d)
+    unfolding endsLine
+    query-found h =
+        let q = formula in
+        let f = q .items-are ∙ ap (prepend (Item.formula (q .sentence))) (ends-is (itemsOf (tokens (drop next l))) h) in
+        record {
+          form-is = record {
+            sentence = q .sentence;
+            items-are = f;
+            depth-is = q .depth-is;
+            line-is = ap (withItems 5) f;
+          };
+        }
 
--- kinds 1 to 3, where no name is first
-unnamed-line : (line : Sentence → List Item → Line)
-    → ((f : Sentence) (m : List Item) → line (Sentence.negation f) m ≡ Line.noForm)
-    → ((k : ℕ) (f g : Sentence) (m : List Item) → line (Sentence.joined k f g) m ≡ Line.noForm)
-    → (l : List Item) → nameFirst (Option.some l) ≡ false → withFirst Line.noForm line l ≡ Line.noForm
-unnamed-line line a b [] h = refl
-unnamed-line line a b (Item.closing ∷ l) h = refl
-unnamed-line line a b (Item.formula (Sentence.name w) ∷ l) h = absurd (true≢false h)
-unnamed-line line a b (Item.formula (Sentence.negation f) ∷ l) h = a f l
-unnamed-line line a b (Item.formula (Sentence.joined k f g) ∷ l) h = b k f g l
+-- The ways out of `form_of_kind`
 
-unnamed-end : (line : List ℕ → Line) (l : List Item) → nameFirst (Option.some l) ≡ false
-    → withFirst Line.noForm (λ f m. pick (isEnd m) (named line f) Line.noForm) l ≡ Line.noForm
-unnamed-end line l h =
-    unnamed-line (λ f m. pick (isEnd m) (named line f) Line.noForm) (λ f m. pick-same (isEnd m) Line.noForm)
-    (λ k f g m. pick-same (isEnd m) Line.noForm) l h
+one-literal : (x : Option (List Literal)) → fitsBody 4 x ≡ true → (a : Literal) × (x ≡ Option.some (a ∷ []))
+one-literal Option.none h = absurd (true≢false (sym h))
+one-literal (Option.some []) h = absurd (omega (arith, eqb-true 0 1 h))
+one-literal (Option.some (a ∷ [])) h = (a, refl)
+one-literal (Option.some (a ∷ (b ∷ ls))) h = absurd (omega (arith, eqb-true (length (a ∷ (b ∷ ls))) 1 h))
 
-unnamed : (k : ℕ) (x : Items) → 1 ≤ k → k ≤ 3 → nameFirst x ≡ false → withItems k x ≡ Line.noForm
-unnamed k Option.none a b h = refl
-unnamed zero (Option.some l) a b h = absurd (omega arith)
-unnamed (suc zero) (Option.some l) a b h = unnamed-end (λ w. Line.clause 0 w []) l h
-unnamed (suc (suc zero)) (Option.some l) a b h = unnamed-end (λ w. Line.clause 1 w []) l h
-unnamed (suc (suc (suc zero))) (Option.some l) a b h =
-    unnamed-line (λ f m. named (λ w. withBody (Line.clause 2 w) (literalsOf m)) f) (λ f m. refl) (λ k f g m. refl) l h
-unnamed (suc (suc (suc (suc k)))) (Option.some l) a b h = absurd (omega arith)
+some-literals : {l m : List Literal} → Option.some l ≡ Option.some m → l ≡ m
+some-literals e = cc
 
-pub kind-unnamed : {ts : List Token} (k : ℕ) → 1 ≤ k → k ≤ 3 → Unnamed ts → withItems k (itemsOf ts) ≡ Line.noForm
-kind-unnamed {ts} k a b h = unnamed k (itemsOf ts) a b (h .unnamed)
+module _ (k : ℕ) (ls : List Literal) where
+  never-kind : k ≡ 3 → bodyLine k ls ≡ Line.never ls
+  never-kind e = rw e
 
--- a name in front of items
-fact-line : (w : List ℕ) (x : Items)
-    → withItems 1 (prepend (Item.formula (Sentence.name w)) x) ≡ pick (endsItems x) (Line.clause 0 w []) Line.noForm
-fact-line w Option.none = refl
-fact-line w (Option.some l) = refl
+  seen-kind : k ≡ 4 → bodyLine k ls ≡ seenOf ls
+  seen-kind e = rw e
 
-assumption-line : (w : List ℕ) (x : Items)
-    → withItems 2 (prepend (Item.formula (Sentence.name w)) x) ≡ pick (endsItems x) (Line.clause 1 w []) Line.noForm
-assumption-line w Option.none = refl
-assumption-line w (Option.some l) = refl
+  other-kind : (k ≡ 3 → ⊥) → (k ≡ 4 → ⊥) → bodyLine k ls ≡ Line.noForm
+  other-kind a b = rw (ne-eqb k 3 a, ne-eqb k 4 b)
 
-rule-line : (w : List ℕ) (x : Items)
-    → withItems 3 (prepend (Item.formula (Sentence.name w)) x) ≡ withBody (Line.clause 2 w) (literalsAmong x)
-rule-line w Option.none = refl
-rule-line w (Option.some l) = refl
+module _ {l : List ℕ} {at k : ℕ} where
+  pub form-as : {j : ℕ} {r : Form} → k ≡ j → FormAfter l at j r → FormAfter l at k r
+  form-as {r = r} e f = subst (λ j. FormAfter l at j r) (sym e) f
 
-unended : (k : ℕ) (w : List ℕ) (x : Items) → 1 ≤ k → k ≤ 2 → endsItems x ≡ false
-    → withItems k (prepend (Item.formula (Sentence.name w)) x) ≡ Line.noForm
-unended zero w x a b h = absurd (omega arith)
-unended (suc zero) w x a b h = fact-line w x ∙ rw h
-unended (suc (suc zero)) w x a b h = assumption-line w x ∙ rw h
-unended (suc (suc (suc k))) w x a b h = absurd (omega arith)
+  module _ (i : 3 ≤ k) (n : k ≡ 5 → ⊥) where
+    pub form-unfit : hasBody l at k ≡ false → FormAfter l at k NoForm
+    unfolding hasBody
+    form-unfit h = record {
+      form-is = body-kind k (itemsOf (tokens (drop at l))) i n ∙ unfit-body k _ (bodyIn (tokens (drop at l))) h;
+    }
 
-module _ {ts us : List Token} {w : List ℕ} (e : ts ≡ Token.word w ∷ us) (n : beginsWithLetter w ≡ true) (k : ℕ) where
-  pub kind-unended : 1 ≤ k → k ≤ 2 → endsItems (itemsOf us) ≡ false → withItems k (itemsOf ts) ≡ Line.noForm
-  unfolding itemsOf
-  kind-unended a b h = rw (e, n) (unended k w (itemsOf us) a b h)
+    module _ (h : hasBody l at k ≡ true) where
+      bodied : BodyMakes l at (bodyLine k) (withItems k (itemsOf (tokens (drop at l))))
+      bodied = body-makes k (bodyLine k) (body-kind k (itemsOf (tokens (drop at l))) i n) h
 
-  pub kind-fact : k ≡ 1 → endsItems (itemsOf us) ≡ true → withItems k (itemsOf ts) ≡ Line.clause 0 w []
-  unfolding itemsOf
-  kind-fact d h = rw (d, e, n) (fact-line w (itemsOf us) ∙ rw h)
-
-  pub kind-assumption : k ≡ 2 → endsItems (itemsOf us) ≡ true → withItems k (itemsOf ts) ≡ Line.clause 1 w []
-  unfolding itemsOf
-  kind-assumption d h = rw (d, e, n) (assumption-line w (itemsOf us) ∙ rw h)
-
--- a rule, a constraint and a reading by their literals
-pub rule-is : {ts us : List Token} {w : List ℕ} → ts ≡ Token.word w ∷ us → beginsWithLetter w ≡ true
-    → withItems 3 (itemsOf ts) ≡ withBody (Line.clause 2 w) (bodyIn us)
-unfolding itemsOf
-rule-is {ts} {us} {w} e n = rw (e, n) (rule-line w (itemsOf us))
-
-never-line : (x : Items) → withItems 4 x ≡ withBody Line.never (literalsAmong x)
-never-line Option.none = refl
-never-line (Option.some l) = refl
-
-pub never-is : (ts : List Token) → withItems 4 (itemsOf ts) ≡ withBody Line.never (bodyIn ts)
-never-is ts = never-line (itemsOf ts)
-
-seen-line : (x : Items) → withItems 5 x ≡ withOnly Line.seen (literalsAmong x)
-seen-line Option.none = refl
-seen-line (Option.some l) = refl
-
-pub seen-is : (ts : List Token) → withItems 5 (itemsOf ts) ≡ withOnly Line.seen (bodyIn ts)
-seen-is ts = seen-line (itemsOf ts)
-
--- what a match tells of the body that was found
-pub body-as : (l : List ℕ) (at : ℕ) {r q : Run} → BodyFound l at r → r ≡ q → BodyFound l at q
-body-as l at f e = subst (BodyFound l at) e f
-
-empty-body : (line : List Literal → Line) (ls : List Literal) → length ls ≡ 0
-    → withBody line (Option.some ls) ≡ Line.noForm
-empty-body line [] h = refl
-empty-body line (x ∷ ls) h = absurd (omega arith)
-
-pub filled-body : (line : List Literal → Line) (ls : List Literal) → (length ls ≡ 0 → ⊥)
-    → withBody line (Option.some ls) ≡ line ls
-filled-body line [] h = absurd (h refl)
-filled-body line (x ∷ ls) h = refl
-
-other-only : (ls : List Literal) → (length ls ≡ 1 → ⊥) → withOnly Line.seen (Option.some ls) ≡ Line.noForm
-other-only [] h = refl
-other-only (x ∷ []) h = absurd (h refl)
-other-only (x ∷ (y ∷ ls)) h = refl
-
-one-only : (ls : List Literal) → length ls ≡ 1 → (x : Literal) × (ls ≡ x ∷ [])
-one-only [] h = absurd (omega arith)
-one-only (x ∷ []) h = (x, refl)
-one-only (x ∷ (y ∷ ls)) h = absurd (omega arith)
-
-module _ {l : List ℕ} {at n : ℕ} (b : LiteralsAt l at n) where
-  pub body-empty : (line : List Literal → Line) → n ≡ 0 → withBody line (bodyIn (tokens (drop at l))) ≡ Line.noForm
-  body-empty line h = rw (b .literals-are) (empty-body line (b .literals) (sym (b .count-is) ∙ h))
-
-  pub body-filled : (line : List Literal → Line) (x : Line) → x ≡ withBody line (bodyIn (tokens (drop at l)))
-      → (n ≡ 0 → ⊥) → BodyMakes l at line x
-  body-filled line x e h =
-      let f = filled-body line (b .literals) (λ z. h (b .count-is ∙ z)) in
-      record {
-        literals = b .literals;
-        literals-are = b .literals-are;
-        line-is = e ∙ ap (withBody line) (b .literals-are) ∙ f;
+      pub form-never : k ≡ 3 → FormAfter l at k (Never at)
+      form-never e = record {
+        form-is = record {
+          literals = bodied .literals;
+          literals-are = bodied .literals-are;
+          line-is = bodied .line-is ∙ never-kind k (bodied .literals) e;
+        };
       }
 
-  pub only-other : (n ≡ 1 → ⊥) → withOnly Line.seen (bodyIn (tokens (drop at l))) ≡ Line.noForm
-  only-other h = rw (b .literals-are) (other-only (b .literals) (λ z. h (b .count-is ∙ z)))
+      pub form-seen : k ≡ 4 → FormAfter l at k (Seen at)
+      unfolding hasBody
+      form-seen e =
+          let o = one-literal (bodyIn (tokens (drop at l))) (rw e at h) in
+          let f = some-literals (sym (bodied .literals-are) ∙ o .1) in
+          record {
+            form-is = record {
+              reading = o .0;
+              literals-are = o .1;
+              line-is = bodied .line-is ∙ seen-kind k (bodied .literals) e ∙ ap seenOf f;
+            };
+          }
 
-  pub only-one : (x : Line) → x ≡ withOnly Line.seen (bodyIn (tokens (drop at l))) → n ≡ 1 → SeenMakes l at x
-  only-one x e h =
-      let o = one-only (b .literals) (sym (b .count-is) ∙ h) in
-      let f = b .literals-are ∙ ap Option.some (o .1) in
-      record { reading = o .0; literals-are = f; line-is = e ∙ ap (withOnly Line.seen) f }
+      pub form-other : (k ≡ 3 → ⊥) → (k ≡ 4 → ⊥) → FormAfter l at k NoForm
+      form-other a b = record { form-is = bodied .line-is ∙ other-kind k (bodied .literals) a b }
 
--- a query
-query-line : (f : Sentence) (x : Items)
-    → withItems 6 (prepend (Item.formula f) x) ≡ pick (endsItems x) (Line.query f) Line.noForm
-query-line f Option.none = refl
-query-line f (Option.some l) = refl
+-- The ways out of `form_of`
 
-none-line : (x : Items) → beginsFormula x ≡ false → withItems 6 x ≡ Line.noForm
-none-line Option.none h = refl
-none-line (Option.some []) h = refl
-none-line (Option.some (Item.closing ∷ l)) h = refl
-none-line (Option.some (Item.formula f ∷ l)) h = absurd (true≢false h)
+opened-line : (l : List ℕ) (r : Next) → OneOf (0 ∷ (1 ∷ (2 ∷ []))) (tagOf the-type r)
+    → lineOf (Token.opening ∷ firstToken l r) ≡ Line.noForm
+unfolding lineOf
+opened-line l End h = refl
+opened-line l (Open n) h = refl
+opened-line l (Close n) h = refl
+opened-line l (Word a e) h = absurd (miss (0 ∷ (1 ∷ (2 ∷ []))) 3 tt h)
 
-pub query-none : (ts : List Token) → beginsFormula (itemsOf ts) ≡ false → withItems 6 (itemsOf ts) ≡ Line.noForm
-query-none ts h = none-line (itemsOf ts) h
-
-module _ {l : List ℕ} {at next d : ℕ} (q : FormulaAt l at next d) where
-  pub query-unended : endsLine l next ≡ false → withItems 6 (itemsOf (tokens (drop at l))) ≡ Line.noForm
-  query-unended h = rw (q .items-are) (query-line (q .sentence) (itemsOf (tokens (drop next l))) ∙ rw h)
-
-  pub query-ended : endsLine l next ≡ true → QueryMakes l at d (withItems 6 (itemsOf (tokens (drop at l))))
-  query-ended h =
-      let e = ap (prepend (Item.formula (q .sentence))) (ends-is (itemsOf (tokens (drop next l))) h) in
-      let f = q .items-are ∙ e in
-      record { sentence = q .sentence; items-are = f; depth-is = q .depth-is; line-is = ap (withItems 6) f }
-
--- no kind
-zero-line : (x : Items) → withItems 0 x ≡ Line.noForm
-zero-line Option.none = refl
-zero-line (Option.some l) = refl
-
-pub form-as : {l : List ℕ} {at k j : ℕ} {r : Form} → FormAfter l at k r → j ≡ k → FormAfter l at j r
-form-as {l} {at} {r = r} f e = subst (λ k. FormAfter l at k r) (sym e) f
-
-pub zero-form : (l : List ℕ) (at : ℕ) {k : ℕ} → k ≡ 0 → FormAfter l at k NoForm
-zero-form l at e = form-as (record { form-is = zero-line (itemsOf (tokens (drop at l))) }) e
-
--- a line by its first tokens
-module _ {ts : List Token} where
-  pub line-end : ts ≡ [] → lineOf ts ≡ Line.skipped
+module _ {l : List ℕ} {r : Next} (t : Found l 0 r) where
+  pub line-skipped : r ≡ End → FormFound l Skipped
   unfolding lineOf
-  line-end e = rw e
+  line-skipped e = record { form-is = rw (found-as t e .tokens-are) }
 
-  module _ {us : List Token} where
-    pub line-closing : ts ≡ Token.closing ∷ us → lineOf ts ≡ Line.noForm
+  pub line-closing : {i : ℕ} → r ≡ Close i → FormFound l NoForm
+  unfolding lineOf
+  line-closing e = record { form-is = rw (found-as t e .tokens-are) }
+
+  pub line-word : {a e : ℕ} → r ≡ Word a e → FormFound l NoForm
+  unfolding lineOf
+  line-word e = record { form-is = rw (found-as t e .tokens-are) }
+
+  module _ {i : ℕ} (o : r ≡ Open i) {s : Next} (u : Found l i s) where
+    pub line-wordless : OneOf (0 ∷ (1 ∷ (2 ∷ []))) (tagOf the-type s) → FormFound l NoForm
+    line-wordless h = record { form-is = rw (found-as t o .tokens-are, u .tokens-are) (opened-line l s h) }
+
+    pub line-found : {a e k : ℕ} {x : Form} → s ≡ Word a e → k ≡ kindOf (slice a e l) → FormAfter l e k x
+        → FormFound l x
     unfolding lineOf
-    line-closing e = rw e
+    line-found w q f = record {
+      form-is = rw (found-as t o .tokens-are, found-as u w .tokens-are, ← q) (f .form-is);
+    }
 
-    pub line-word : {w : List ℕ} → ts ≡ Token.word w ∷ us → lineOf ts ≡ Line.noForm
-    unfolding lineOf
-    line-word e = rw e
+-- What a line of a form brings
 
-    module _ (e : ts ≡ Token.opening ∷ us) where
-      pub opened-line-end : us ≡ [] → lineOf ts ≡ Line.noForm
-      unfolding lineOf
-      opened-line-end f = rw (e, f)
+abbrev bringsOf : Form → Brings
+bringsOf Skipped = bringing 0 0 0 0
+bringsOf NoForm = bringing 0 0 0 0
+bringsOf (Clause k a e at) = bringing 1 0 0 0
+bringsOf (Never at) = bringing 0 1 0 0
+bringsOf (Seen at) = bringing 0 0 0 0
+bringsOf (Query at d) = bringing 0 0 1 d
 
-      module _ {vs : List Token} where
-        pub opened-line-opening : us ≡ Token.opening ∷ vs → lineOf ts ≡ Line.noForm
-        unfolding lineOf
-        opened-line-opening f = rw (e, f)
+brought : (x : Form) → Brought x (bringsOf x)
+brought Skipped l y h = rw h
+brought NoForm l y h = rw h
+brought (Clause k a e at) l y h = rw (h .2 .line-is)
+brought (Never at) l y h = rw (h .line-is)
+brought (Seen at) l y h = rw (h .line-is)
+brought (Query at d) l y h = rw (h .line-is, h .depth-is)
 
-        pub opened-line-closing : us ≡ Token.closing ∷ vs → lineOf ts ≡ Line.noForm
-        unfolding lineOf
-        opened-line-closing f = rw (e, f)
-
-        pub opened-line-word : {w : List ℕ} → us ≡ Token.word w ∷ vs → lineOf ts ≡ withItems (kindOf w) (itemsOf vs)
-        unfolding lineOf
-        opened-line-word f = rw (e, f)
-
-pub form-found : {l : List ℕ} {at k : ℕ} {r : Form} → FormAfter l at k r
-    → lineOf (tokens l) ≡ withItems k (itemsOf (tokens (drop at l))) → FormFound l r
-form-found {l} {r = r} f e = record { form-is = subst (FormIs l r) (sym e) (f .form-is) }
+pub brought-as : {x : Form} (y : Form) → x ≡ y → Brought x (bringsOf y)
+brought-as y e = subst (λ z. Brought z (bringsOf y)) (sym e) (brought y)

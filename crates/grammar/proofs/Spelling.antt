@@ -5,42 +5,41 @@
 --   Right ts x        the line x is no form, or passes isLine and spells ts
 -- Assumes nothing.
 use mathlib.Core.Path.{_≡_, refl, sym, ap, _∙_}
-use mathlib.Core.Bool.{true, false, _&&_, not, true≢false}
+use mathlib.Core.Bool.{Bool, true, false, not, true≢false}
 use mathlib.Core.List.{List, [], _∷_, _++_, append-assoc, append-nil}
 use mathlib.Core.Logic.{_⊎_, inl, inr}
 use mathlib.Core.Option.{Option}
-use Prim.Native.Nat.{ℕ, zero, suc, _-_, _<_}
+use Prim.Native.Nat.{ℕ, _≤_, _<_}
 use native.Mathlib.Omega.{arith}
 use lib.Dec.{eqb, ltb}
 use lib.ListN.{length, getD}
-use borrow.Author.Tests.{ltb-true, lt-ltb, le-ltb, eqb-true, ne-eqb}
+use borrow.Author.Tests.{ltb-true, lt-ltb, eqb-true}
 use Rattle.words.specs.Choice.{pick}
-use Rattle.text.specs.Bytes.{sameBytes}
 use Rattle.text.specs.Tokens.{Token}
+use Rattle.text.specs.Words.{beginsWithLetter}
 use Rattle.text.proofs.ByteLaws.{and-true-both}
 use Rattle.formulas.specs.Parsing.{Items}
-use Rattle.text.specs.Words.{beginsWithLetter}
-use Rattle.formulas.specs.Sentence.{Sentence, tokensOf, isSentence}
+use Rattle.formulas.specs.Sentence.{Sentence, formTokens, tokensOf, isSentence}
 use Rattle.formulas.specs.Items.{prepend, Item, itemsOf}
-use Rattle.formulas.specs.Keyword.{kindOf}
-use Rattle.formulas.proofs.Keywords.{WordOf, picked-word}
+use Rattle.formulas.proofs.Reading.{items-end, items-closing}
 use Rattle.formulas.proofs.Spelling.{tokensOf-read, spelledItems, AreSentences, Spells, items-spell}
-use Rattle.grammar.specs.Line.{Literal, Line, lineWords, ofLiteral, bodyTokens, lineTokens, areNamed, isLine}
-use Rattle.grammar.specs.LineOf.{withSentence, literalsOf, withBody, withOnly, headOnly, ofKind, withItems}
-use Rattle.grammar.specs.LineOf.{lineOf, isNoForm}
+use Rattle.grammar.specs.Line.{Literal, Line, lineWords, ofLiteral, bodyTokens, lineTokens, areNamed, takes}
+use Rattle.grammar.specs.Line.{isLine}
+use Rattle.grammar.specs.LineOf.{withSentence, literalsOf, withBody, seenOf, clauseOf, queryOf, bodyLine, ofKind}
+use Rattle.grammar.specs.LineOf.{withItems, kindOf, lineOf, isNoForm}
 use Rattle.grammar.specs.Parsing.{literalsAmong, bodyIn}
-use Rattle.grammar.proofs.Lines.{filled-body, rule-is, never-is, seen-is}
-
-kind-word : (w : List ℕ) → WordOf lineWords 1 w (kindOf w)
-unfolding kindOf
-kind-word w =
-    picked-word lineWords 1 0 (omega arith)
-    (picked-word lineWords 1 1 (omega arith)
-    (picked-word lineWords 1 2 (omega arith)
-    (picked-word lineWords 1 3 (omega arith)
-    (picked-word lineWords 1 4 (omega arith) (picked-word lineWords 1 5 (omega arith) (inl refl))))))
+use Rattle.grammar.proofs.KindLaws.{word-kind, kind-word, fit-body, body-kind}
+use Rattle.grammar.proofs.Lines.{clause-is}
 
 -- What is spelled is read
+
+closing-read : itemsOf (Token.closing ∷ []) ≡ Option.some (Item.closing ∷ [])
+closing-read = rw (items-closing, items-end)
+
+-- a formula and the line's closing bracket
+pub sentence-read : (f : Sentence) → isSentence f ≡ true
+    → itemsOf (tokensOf f ++ (Token.closing ∷ [])) ≡ Option.some (Item.formula f ∷ (Item.closing ∷ []))
+sentence-read f h = tokensOf-read f (Token.closing ∷ []) h ∙ ap (prepend (Item.formula f)) closing-read
 
 among-literal : (x : Literal) (y : Items)
     → literalsAmong (prepend (Item.formula (ofLiteral x)) y) ≡ prepend x (literalsAmong y)
@@ -51,67 +50,72 @@ among-literal (Literal.literal true w) Option.none = refl
 among-literal (Literal.literal true w) (Option.some m) = refl
 
 body-read : (ls : List Literal) → areNamed ls ≡ true → bodyIn (bodyTokens ls ++ (Token.closing ∷ [])) ≡ Option.some ls
-unfolding bodyTokens areNamed itemsOf literalsOf
-body-read [] h = refl
+unfolding bodyTokens areNamed literalsOf
+body-read [] h = ap literalsAmong closing-read
 body-read (x ∷ ls) h =
     let k = and-true-both _ _ h in
     let us = bodyTokens ls ++ (Token.closing ∷ []) in
     rw (append-assoc, tokensOf-read (ofLiteral x) us (k .0))
     (among-literal x (itemsOf us) ∙ ap (prepend x) (body-read ls (k .1)))
 
-never-read : (ls : List Literal) → isLine (Line.never ls) ≡ true → lineOf (lineTokens (Line.never ls)) ≡ Line.never ls
-unfolding isLine lineTokens lineOf kindOf sameBytes
-never-read ls h =
-    let k = and-true-both _ _ h in
-    let us = bodyTokens ls ++ (Token.closing ∷ []) in
-    never-is us ∙ ap (withBody Line.never) (body-read ls (k .0))
-    ∙ filled-body Line.never ls (λ z. omega (arith, ltb-true 0 (length ls) (k .1)))
+-- the line with the word of kind k and the tokens ts behind it
+word-read : (k : ℕ) (ts : List Token) → k < length lineWords
+    → lineOf (formTokens (getD lineWords k []) ts) ≡ withItems k (itemsOf (ts ++ (Token.closing ∷ [])))
+unfolding lineOf
+word-read k ts h = rw (word-kind k h)
 
-seen-read : (x : Literal) → isLine (Line.seen x) ≡ true → lineOf (lineTokens (Line.seen x)) ≡ Line.seen x
-unfolding isLine lineTokens lineOf kindOf sameBytes itemsOf literalsOf
-seen-read x h =
-    let us = tokensOf (ofLiteral x) ++ (Token.closing ∷ []) in
-    let e = ap literalsAmong (tokensOf-read (ofLiteral x) (Token.closing ∷ []) h) in
-    seen-is us ∙ ap (withOnly Line.seen) (e ∙ among-literal x (Option.some (Item.closing ∷ [])))
-
-query-read : (f : Sentence) → isLine (Line.query f) ≡ true → lineOf (lineTokens (Line.query f)) ≡ Line.query f
-unfolding isLine lineTokens lineOf kindOf sameBytes itemsOf
-query-read f h = ap (withItems 6) (tokensOf-read f (Token.closing ∷ []) h)
+-- and where these are literals
+literals-read : (k : ℕ) (ts : List Token) (ls : List Literal) → k < length lineWords → 3 ≤ k → (k ≡ 5 → ⊥)
+    → bodyIn (ts ++ (Token.closing ∷ [])) ≡ Option.some ls → takes k (length ls) ≡ true
+    → lineOf (formTokens (getD lineWords k []) ts) ≡ bodyLine k ls
+literals-read k ts ls h i n e t =
+    word-read k ts h ∙ body-kind k (itemsOf (ts ++ (Token.closing ∷ []))) i n ∙ ap (withBody k (bodyLine k)) e
+    ∙ fit-body k (bodyLine k) ls t
 
 -- what a clause that passes isLine is made of
-record ClauseParts (k : ℕ) (w : List ℕ) (ls : List Literal) : Type 0 where
-  head : beginsWithLetter w ≡ true
-  body : areNamed ls ≡ true
-  count : pick (eqb k 2) (ltb 0 (length ls)) (ltb k 2 && eqb (length ls) 0) ≡ true
+pub record ClauseParts (k : ℕ) (w : List ℕ) (ls : List Literal) : Type 0 where
+  pub kind-lt : k < 3
+  pub head : beginsWithLetter w ≡ true
+  pub body : areNamed ls ≡ true
+  pub fits : takes k (length ls) ≡ true
 
-clause-parts : (k : ℕ) (w : List ℕ) (ls : List Literal) → isLine (Line.clause k w ls) ≡ true → ClauseParts k w ls
+pub clause-parts : {k : ℕ} {w : List ℕ} {ls : List Literal} → isLine (Line.clause k w ls) ≡ true → ClauseParts k w ls
 unfolding isLine
-clause-parts k w ls h =
+clause-parts {k} h =
     let a = and-true-both _ _ h in
     let b = and-true-both _ _ (a .0) in
-    record { head = b .0; body = b .1; count = a .1 }
+    let c = and-true-both _ _ (b .0) in
+    record { kind-lt = ltb-true k 3 (c .0); head = c .1; body = b .1; fits = a .1 }
 
-clause-read : (k : ℕ) (w : List ℕ) (ls : List Literal) → ClauseParts k w ls
+clause-read : (k : ℕ) (w : List ℕ) (ls : List Literal) → isLine (Line.clause k w ls) ≡ true
     → lineOf (lineTokens (Line.clause k w ls)) ≡ Line.clause k w ls
-unfolding lineTokens bodyTokens lineOf kindOf sameBytes itemsOf
-clause-read zero w [] p = rw (p .head)
-clause-read zero w (x ∷ ls) p = absurd (omega (arith, eqb-true (length (x ∷ ls)) 0 (p .count)))
-clause-read (suc zero) w [] p = rw (p .head)
-clause-read (suc zero) w (x ∷ ls) p = absurd (omega (arith, eqb-true (length (x ∷ ls)) 0 (p .count)))
-clause-read (suc (suc zero)) w ls p =
-    let us = bodyTokens ls ++ (Token.closing ∷ []) in
-    rule-is {us = us} refl (p .head) ∙ ap (withBody (Line.clause 2 w)) (body-read ls (p .body))
-    ∙ filled-body (Line.clause 2 w) ls (λ z. omega (arith, ltb-true 0 (length ls) (p .count)))
-clause-read (suc (suc (suc k))) w ls p =
-    let a = ne-eqb (suc (suc (suc k))) 2 (λ z. omega arith) in
-    let b = le-ltb (suc (suc (suc k))) 2 (omega arith) in
-    absurd (true≢false (sym (rw (a, b) at (p .count))))
+unfolding lineTokens
+clause-read k w ls h =
+    let p = clause-parts h in
+    word-read k (Token.word w ∷ bodyTokens ls) (omega arith) ∙ clause-is k (omega arith) refl (p .head)
+    ∙ ap (withBody k (Line.clause k w)) (body-read ls (p .body)) ∙ fit-body k (Line.clause k w) ls (p .fits)
+
+never-read : (ls : List Literal) → isLine (Line.never ls) ≡ true → lineOf (lineTokens (Line.never ls)) ≡ Line.never ls
+unfolding isLine lineTokens
+never-read ls h =
+    let a = and-true-both (areNamed ls) (takes 3 (length ls)) h in
+    literals-read 3 (bodyTokens ls) ls (omega arith) (omega arith) (λ z. omega arith) (body-read ls (a .0)) (a .1)
+
+seen-read : (x : Literal) → isLine (Line.seen x) ≡ true → lineOf (lineTokens (Line.seen x)) ≡ Line.seen x
+unfolding isLine lineTokens literalsOf
+seen-read x h =
+    let e = ap literalsAmong (sentence-read (ofLiteral x) h) ∙ among-literal x (Option.some (Item.closing ∷ [])) in
+    literals-read 4 (tokensOf (ofLiteral x)) (x ∷ []) (omega arith) (omega arith) (λ z. omega arith) e refl
+
+query-read : (f : Sentence) → isLine (Line.query f) ≡ true → lineOf (lineTokens (Line.query f)) ≡ Line.query f
+unfolding isLine lineTokens
+query-read f h = word-read 5 (tokensOf f) (omega arith) ∙ ap (withItems 5) (sentence-read f h)
 
 pub line-read : (x : Line) → isLine x ≡ true → lineOf (lineTokens x) ≡ x
 unfolding isLine lineTokens lineOf
 line-read Line.skipped h = refl
 line-read Line.noForm h = absurd (true≢false (sym h))
-line-read (Line.clause k w ls) h = clause-read k w ls (clause-parts k w ls h)
+line-read (Line.clause k w ls) h = clause-read k w ls h
 line-read (Line.never ls) h = never-read ls h
 line-read (Line.seen x) h = seen-read x h
 line-read (Line.query f) h = query-read f h
@@ -140,9 +144,6 @@ body-spells (Item.closing ∷ []) h = (refl, refl)
 body-spells (Item.closing ∷ (i ∷ m)) h = tt
 body-spells (Item.formula f ∷ m) h = sentence-spells f m (literalsOf m) (h .0) (body-spells m (h .1))
 
-filled : (x : Literal) (ls : List Literal) → ltb 0 (length (x ∷ ls)) ≡ true
-filled x ls = lt-ltb 0 (length (x ∷ ls)) (omega arith)
-
 abbrev pub Right : List Token → Line → Type 0
 Right ts x = (x ≡ Line.noForm) ⊎ ((isLine x ≡ true) × (lineTokens x ≡ ts))
 
@@ -151,43 +152,30 @@ module _ (w : List ℕ) (ts : List Token) where
   abbrev opened : List Token
   opened = Token.opening ∷ (Token.word w ∷ ts)
 
-  -- a clause without literals
-  head-right : (k : ℕ) (f : Sentence) (m : List Item) → k < 2 → w ≡ getD lineWords k []
-      → Spells ts (Option.some (Item.formula f ∷ m)) → Right opened (headOnly k f m)
-  unfolding spelledItems tokensOf lineTokens bodyTokens isLine isSentence areNamed
-  head-right k f [] i e h = inl refl
-  head-right k f (Item.formula g ∷ m) i e h = inl refl
-  head-right k f (Item.closing ∷ (j ∷ m)) i e h = inl refl
-  head-right k (Sentence.negation f) (Item.closing ∷ []) i e h = inl refl
-  head-right k (Sentence.joined n f g) (Item.closing ∷ []) i e h = inl refl
-  head-right k (Sentence.name v) (Item.closing ∷ []) i e h =
-      inr (rw (h .1 .0, ne-eqb k 2 (λ z. omega arith), lt-ltb k 2 i), rw (e, h .0))
+  picked-right : (b : Bool) (x y : Line) → (b ≡ true → Right opened x) → (b ≡ false → Right opened y)
+      → Right opened (pick b x y)
+  picked-right true x y h i = h refl
+  picked-right false x y h i = i refl
 
-  rule-right : (v : List ℕ) (m : List Item) (x : Option (List Literal)) → w ≡ getD lineWords 2 []
-      → Spells ts (Option.some (Item.formula (Sentence.name v) ∷ m)) → BodySpells m x
-      → Right opened (withBody (Line.clause 2 v) x)
+  -- literals, as many as a line of kind k takes
+  body-right : (k : ℕ) (make : List Literal → Line) (m : List Item) (x : Option (List Literal)) → BodySpells m x
+      → ((ls : List Literal) → BodySpells m (Option.some ls) → takes k (length ls) ≡ true → Right opened (make ls))
+      → Right opened (withBody k make x)
+  body-right k make m Option.none b h = inl refl
+  body-right k make m (Option.some ls) b h = picked-right (takes k (length ls)) (make ls) _ (h ls b) (λ e. inl refl)
+
+  clause-right : (k : ℕ) (m : List Item) → k < 3 → w ≡ getD lineWords k [] → Spells ts (Option.some m)
+      → Right opened (clauseOf k m)
   unfolding spelledItems tokensOf lineTokens isLine isSentence
-  rule-right v m Option.none e h b = inl refl
-  rule-right v m (Option.some []) e h b = inl refl
-  rule-right v m (Option.some (x ∷ ls)) e h b = inr (rw (h .1 .0, b .1, filled x ls), rw (e, h .0, b .0))
+  clause-right k [] i e h = inl refl
+  clause-right k (Item.closing ∷ m) i e h = inl refl
+  clause-right k (Item.formula (Sentence.negation f) ∷ m) i e h = inl refl
+  clause-right k (Item.formula (Sentence.joined j f g) ∷ m) i e h = inl refl
+  clause-right k (Item.formula (Sentence.name v) ∷ m) i e h =
+      body-right k (Line.clause k v) m (literalsOf m) (body-spells m (h .1 .1))
+      (λ ls b t. inr (rw (lt-ltb k 3 i, h .1 .0, b .1, t), rw (e, h .0, b .0)))
 
-  never-right : (m : List Item) (x : Option (List Literal)) → w ≡ getD lineWords 3 []
-      → Spells ts (Option.some m) → BodySpells m x → Right opened (withBody Line.never x)
-  unfolding lineTokens isLine
-  never-right m Option.none e h b = inl refl
-  never-right m (Option.some []) e h b = inl refl
-  never-right m (Option.some (x ∷ ls)) e h b = inr (rw (b .1, filled x ls), rw (e, h .0, b .0))
-
-  seen-right : (m : List Item) (x : Option (List Literal)) → w ≡ getD lineWords 4 []
-      → Spells ts (Option.some m) → BodySpells m x → Right opened (withOnly Line.seen x)
-  unfolding lineTokens isLine areNamed bodyTokens
-  seen-right m Option.none e h b = inl refl
-  seen-right m (Option.some []) e h b = inl refl
-  seen-right m (Option.some (x ∷ (y ∷ ls))) e h b = inl refl
-  seen-right m (Option.some (x ∷ [])) e h b =
-      inr (and-true-both _ _ (b .1) .0, rw (e, h .0, b .0, append-nil))
-
-  query-right : (m : List Item) → w ≡ getD lineWords 5 [] → Spells ts (Option.some m) → Right opened (ofKind 6 m)
+  query-right : (m : List Item) → w ≡ getD lineWords 5 [] → Spells ts (Option.some m) → Right opened (queryOf m)
   unfolding spelledItems lineTokens isLine
   query-right [] e h = inl refl
   query-right (Item.closing ∷ m) e h = inl refl
@@ -196,30 +184,40 @@ module _ (w : List ℕ) (ts : List Token) where
   query-right (Item.formula f ∷ (Item.closing ∷ (i ∷ m))) e h = inl refl
   query-right (Item.formula f ∷ (Item.closing ∷ [])) e h = inr (h .1 .0, rw (e, h .0))
 
-  kind-right : (k : ℕ) (m : List Item) → k < 7 → w ≡ getD lineWords (k - 1) [] → Spells ts (Option.some m)
-      → Right opened (ofKind k m)
-  kind-right zero m i e h = inl refl
-  kind-right (suc zero) [] i e h = inl refl
-  kind-right (suc zero) (Item.closing ∷ m) i e h = inl refl
-  kind-right (suc zero) (Item.formula f ∷ m) i e h = head-right 0 f m (omega arith) e h
-  kind-right (suc (suc zero)) [] i e h = inl refl
-  kind-right (suc (suc zero)) (Item.closing ∷ m) i e h = inl refl
-  kind-right (suc (suc zero)) (Item.formula f ∷ m) i e h = head-right 1 f m (omega arith) e h
-  kind-right (suc (suc (suc zero))) [] i e h = inl refl
-  kind-right (suc (suc (suc zero))) (Item.closing ∷ m) i e h = inl refl
-  kind-right (suc (suc (suc zero))) (Item.formula (Sentence.name v) ∷ m) i e h =
-      rule-right v m (literalsOf m) e h (body-spells m (h .1 .1))
-  kind-right (suc (suc (suc zero))) (Item.formula (Sentence.negation f) ∷ m) i e h = inl refl
-  kind-right (suc (suc (suc zero))) (Item.formula (Sentence.joined k f g) ∷ m) i e h = inl refl
-  kind-right (suc (suc (suc (suc zero)))) m i e h = never-right m (literalsOf m) e h (body-spells m (h .1))
-  kind-right (suc (suc (suc (suc (suc zero))))) m i e h = seen-right m (literalsOf m) e h (body-spells m (h .1))
-  kind-right (suc (suc (suc (suc (suc (suc zero)))))) m i e h = query-right m e h
-  kind-right (suc (suc (suc (suc (suc (suc (suc k))))))) m i e h = absurd (omega arith)
+  -- lines of literals alone
+  seen-right : (m : List Item) (ls : List Literal) → w ≡ getD lineWords 4 [] → Spells ts (Option.some m)
+      → BodySpells m (Option.some ls) → Right opened (seenOf ls)
+  unfolding lineTokens isLine areNamed bodyTokens
+  seen-right m [] e h b = inl refl
+  seen-right m (x ∷ (y ∷ ls)) e h b = inl refl
+  seen-right m (x ∷ []) e h b = inr (and-true-both _ _ (b .1) .0, rw (e, h .0, b .0, append-nil))
 
-  items-right : (k : ℕ) (x : Items) → WordOf lineWords 1 w k → Spells ts x → Right opened (withItems k x)
-  items-right k Option.none r h = inl refl
-  items-right k (Option.some m) (inl z) h = inl (rw z)
-  items-right k (Option.some m) (inr r) h = kind-right k m (r .1) (r .2) h
+  module _ (m : List Item) (ls : List Literal) (h : Spells ts (Option.some m)) (b : BodySpells m (Option.some ls)) where
+    never-right : w ≡ getD lineWords 3 [] → takes 3 (length ls) ≡ true → Right opened (Line.never ls)
+    unfolding lineTokens isLine
+    never-right e t = inr (rw (b .1, t), rw (e, h .0, b .0))
+
+    literals-right : (k : ℕ) → (k < length lineWords → w ≡ getD lineWords k []) → takes k (length ls) ≡ true
+        → Right opened (bodyLine k ls)
+    literals-right k e t =
+        picked-right (eqb k 3) (Line.never ls) _
+        (λ q. let z = eqb-true k 3 q in never-right (rw z at (e (omega arith))) (rw z at t))
+        (λ _. picked-right (eqb k 4) (seenOf ls) _
+        (λ q. let z = eqb-true k 4 q in seen-right m ls (rw z at (e (omega arith))) h b) (λ _. inl refl))
+
+  kind-right : (k : ℕ) (m : List Item) → (k < length lineWords → w ≡ getD lineWords k []) → Spells ts (Option.some m)
+      → Right opened (ofKind k m)
+  kind-right k m e h =
+      picked-right (ltb k 3) (clauseOf k m) _ (λ q. let i = ltb-true k 3 q in clause-right k m i (e (omega arith)) h)
+      (λ _. picked-right (eqb k 5) (queryOf m) _
+      (λ q. let z = eqb-true k 5 q in query-right m (rw z at (e (omega arith))) h)
+      (λ _. body-right k (bodyLine k) m (literalsOf m) (body-spells m (h .1))
+      (λ ls b t. literals-right m ls h b k e t)))
+
+  items-right : (k : ℕ) (x : Items) → (k < length lineWords → w ≡ getD lineWords k []) → Spells ts x
+      → Right opened (withItems k x)
+  items-right k Option.none e h = inl refl
+  items-right k (Option.some m) e h = kind-right k m e h
 
 pub line-right : (ts : List Token) → Right ts (lineOf ts)
 unfolding lineOf isLine lineTokens

@@ -6,7 +6,8 @@
 --   Line            what a line is: skipped, one of the six forms, or no form
 --   lineTokens x    the tokens of the line x; a skipped one has none
 --   isLine x        x is a skipped line or one of the forms, with names where names stand and literals where they must
---   isDeep x        the formula of the query x is deeper than 16
+--   lineNames x     the names of the line x in order
+--   brings x        how many clauses, constraints and queries the line x brings, and the depth of its formula
 use mathlib.Core.Bool.{Bool, true, false, _&&_}
 use mathlib.Core.List.{List, [], _∷_, _++_}
 use Prim.Native.Nat.{ℕ}
@@ -16,8 +17,8 @@ use Rattle.words.specs.Choice.{pick}
 use Rattle.text.specs.Bytes.{bytes}
 use Rattle.text.specs.Tokens.{Token}
 use Rattle.text.specs.Words.{beginsWithLetter}
-use Rattle.formulas.specs.Sentence.{Sentence, formTokens, tokensOf, isSentence}
-use Rattle.formulas.specs.Sentence.{depthOf}
+use Rattle.formulas.specs.Sentence.{Sentence, formTokens, tokensOf, depthOf, isSentence, sentenceNames}
+use Rattle.grammar.specs.declared.brings.Brings.{Brings}
 
 -- the literal of the name w, negated where the test holds
 pub data Literal : Type 0 where
@@ -59,21 +60,38 @@ unfoldable pub areNamed : List Literal → Bool
 areNamed [] = true
 areNamed (x ∷ l) = isSentence (ofLiteral x) && areNamed l
 
--- a rule and a constraint have one literal or more, facts and assumptions have none
+-- a line of kind k takes n literals: a fact and an assumption none, a reading one, a rule and a constraint one or more
+abbrev pub takes : ℕ → ℕ → Bool
+takes k n = pick (ltb k 2) (eqb n 0) (pick (eqb k 4) (eqb n 1) (ltb 0 n))
+
 unfoldable pub isLine : Line → Bool
 isLine Line.skipped = true
 isLine Line.noForm = false
-isLine (Line.clause k w l) =
-    beginsWithLetter w && areNamed l && pick (eqb k 2) (ltb 0 (length l)) (ltb k 2 && eqb (length l) 0)
-isLine (Line.never l) = areNamed l && ltb 0 (length l)
+isLine (Line.clause k w l) = ltb k 3 && beginsWithLetter w && areNamed l && takes k (length l)
+isLine (Line.never l) = areNamed l && takes 3 (length l)
 isLine (Line.seen x) = isSentence (ofLiteral x)
 isLine (Line.query f) = isSentence f
 
--- the formula of a query is deeper than 16
-abbrev pub isDeep : Line → Bool
-isDeep Line.skipped = false
-isDeep Line.noForm = false
-isDeep (Line.clause k w l) = false
-isDeep (Line.never l) = false
-isDeep (Line.seen x) = false
-isDeep (Line.query f) = ltb 16 (depthOf f)
+abbrev pub bodyNames : List Literal → List (List ℕ)
+bodyNames [] = []
+bodyNames (Literal.literal b w ∷ l) = w ∷ bodyNames l
+
+abbrev pub lineNames : Line → List (List ℕ)
+lineNames Line.skipped = []
+lineNames Line.noForm = []
+lineNames (Line.clause k w l) = w ∷ bodyNames l
+lineNames (Line.never l) = bodyNames l
+lineNames (Line.seen x) = bodyNames (x ∷ [])
+lineNames (Line.query f) = sentenceNames f
+
+-- a formula has depth 1 or more, and 0 stands for none
+abbrev pub bringing : ℕ → ℕ → ℕ → ℕ → Brings
+bringing n m q d = record { clauses = n; constraints = m; queries = q; depth = d }
+
+abbrev pub brings : Line → Brings
+brings Line.skipped = bringing 0 0 0 0
+brings Line.noForm = bringing 0 0 0 0
+brings (Line.clause k w l) = bringing 1 0 0 0
+brings (Line.never l) = bringing 0 1 0 0
+brings (Line.seen x) = bringing 0 0 0 0
+brings (Line.query f) = bringing 0 0 1 (depthOf f)

@@ -1,18 +1,21 @@
 -- The form of a line, read from its tokens. That this reads exactly the lines that forms spell is a claim (LineExact).
 --
 --   literalsOf l    the literals that the items l are, up to the line's closing bracket, or that they are none
+--   kindOf w        the kind of the line with the word w: 0 true, 1 false, 2 if, 3 never, 4 seen, 5 query; otherwise 6
 --   lineOf ts       the line with the tokens ts
 --   isNoForm x      the line x is no form
 use mathlib.Core.Bool.{Bool, true, false}
 use mathlib.Core.List.{List, [], _∷_}
 use mathlib.Core.Option.{Option}
-use Prim.Native.Nat.{ℕ, zero, suc}
+use Prim.Native.Nat.{ℕ}
+use lib.Dec.{eqb, ltb}
+use lib.ListN.{length}
 use Rattle.words.specs.Choice.{pick}
 use Rattle.text.specs.Tokens.{Token}
+use Rattle.text.specs.Words.{placeOf}
 use Rattle.formulas.specs.Sentence.{Sentence}
 use Rattle.formulas.specs.Items.{prepend, Item, withFirst, itemsOf}
-use Rattle.formulas.specs.Keyword.{kindOf}
-use Rattle.grammar.specs.Line.{Literal, Line}
+use Rattle.grammar.specs.Line.{Literal, Line, lineWords, takes}
 
 -- a formula that is a literal, in front of literals
 abbrev pub withSentence : Sentence → Option (List Literal) → Option (List Literal)
@@ -29,18 +32,16 @@ literalsOf (Item.closing ∷ []) = Option.some []
 literalsOf (Item.closing ∷ (i ∷ l)) = Option.none
 literalsOf (Item.formula f ∷ l) = withSentence f (literalsOf l)
 
--- a line with at least one literal
-abbrev pub withBody : (List Literal → Line) → Option (List Literal) → Line
-withBody line Option.none = Line.noForm
-withBody line (Option.some []) = Line.noForm
-withBody line (Option.some (x ∷ l)) = line (x ∷ l)
+-- what make makes of literals, as many as a line of kind k takes
+abbrev pub withBody : ℕ → (List Literal → Line) → Option (List Literal) → Line
+withBody k make Option.none = Line.noForm
+withBody k make (Option.some l) = pick (takes k (length l)) (make l) Line.noForm
 
--- a line with exactly one literal
-abbrev pub withOnly : (Literal → Line) → Option (List Literal) → Line
-withOnly line Option.none = Line.noForm
-withOnly line (Option.some []) = Line.noForm
-withOnly line (Option.some (x ∷ [])) = line x
-withOnly line (Option.some (x ∷ (y ∷ l))) = Line.noForm
+-- the reading of one literal
+abbrev pub seenOf : List Literal → Line
+seenOf [] = Line.noForm
+seenOf (x ∷ []) = Line.seen x
+seenOf (x ∷ (y ∷ l)) = Line.noForm
 
 -- the line's closing bracket is all that is left
 abbrev pub isEnd : List Item → Bool
@@ -55,25 +56,27 @@ named line (Sentence.name w) = line w
 named line (Sentence.negation f) = Line.noForm
 named line (Sentence.joined k f g) = Line.noForm
 
--- the clause of a kind without literals, by its head and the items behind it
-abbrev pub headOnly : ℕ → Sentence → List Item → Line
-headOnly k f m = pick (isEnd m) (named (λ w. Line.clause k w []) f) Line.noForm
+-- the clause of kind k with these items: its head, then literals
+abbrev pub clauseOf : ℕ → List Item → Line
+clauseOf k l = withFirst Line.noForm (λ f m. named (λ w. withBody k (Line.clause k w) (literalsOf m)) f) l
 
--- the line of a kind of Keyword with these items
+abbrev pub queryOf : List Item → Line
+queryOf l = withFirst Line.noForm (λ f m. pick (isEnd m) (Line.query f) Line.noForm) l
+
+-- the line of kind k with these literals alone: a constraint or a reading
+abbrev pub bodyLine : ℕ → List Literal → Line
+bodyLine k l = pick (eqb k 3) (Line.never l) (pick (eqb k 4) (seenOf l) Line.noForm)
+
+-- the line of kind k with these items
 abbrev pub ofKind : ℕ → List Item → Line
-ofKind zero l = Line.noForm
-ofKind (suc zero) l = withFirst Line.noForm (headOnly 0) l
-ofKind (suc (suc zero)) l = withFirst Line.noForm (headOnly 1) l
-ofKind (suc (suc (suc zero))) l =
-    withFirst Line.noForm (λ f m. named (λ w. withBody (Line.clause 2 w) (literalsOf m)) f) l
-ofKind (suc (suc (suc (suc zero)))) l = withBody Line.never (literalsOf l)
-ofKind (suc (suc (suc (suc (suc zero))))) l = withOnly Line.seen (literalsOf l)
-ofKind (suc (suc (suc (suc (suc (suc n)))))) l =
-    withFirst Line.noForm (λ f m. pick (isEnd m) (Line.query f) Line.noForm) l
+ofKind k l = pick (ltb k 3) (clauseOf k l) (pick (eqb k 5) (queryOf l) (withBody k (bodyLine k) (literalsOf l)))
 
 abbrev pub withItems : ℕ → Option (List Item) → Line
 withItems k Option.none = Line.noForm
 withItems k (Option.some l) = ofKind k l
+
+abbrev pub kindOf : List ℕ → ℕ
+kindOf w = placeOf lineWords w
 
 unfoldable pub lineOf : List Token → Line
 lineOf [] = Line.skipped

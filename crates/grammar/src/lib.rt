@@ -1,3 +1,4 @@
 // The forms of a case file's lines.
+pub mod brings;
 pub mod line;
 pub mod literal;

@@ -2,165 +2,104 @@
 ghost use Prim.Native.Nat.{_≤_};
 ghost use mathlib.Core.Path.{_≡_};
 ghost use lib.ListN.{length};
-ghost use Rattle.grammar.specs.Parsing.{FormFound, FormAfter, endsLine};
-use crate::literal::Run;
-use crate::literal::body;
+ghost use lib.Seq.{slice};
+ghost use Rattle.grammar.specs.LineOf.{kindOf};
+ghost use Rattle.grammar.specs.Parsing.{FormFound, FormAfter, Brought, endsLine};
+use crate::brings::Brings;
+use crate::literal::has_body;
 use formulas::formula::Parse;
 use formulas::formula::formula_at;
-use formulas::keyword::kind_of;
+use formulas::keyword::place_of;
 use text::name::is_name;
 use text::tokens::Next;
 use text::tokens::token;
 
-// The form of a line with the places of its parts: the ends of a name, the place where literals or a formula begin, and
-// a formula's depth.
+// The form of a line with the places of its parts: a clause's kind and the ends of its head, the place where literals
+// or a formula begin, and a formula's depth.
 pub enum Form {
     Skipped,
     NoForm,
-    Fact(usize, usize),
-    Assumption(usize, usize),
-    Rule(usize, usize, usize),
+    Clause(usize, usize, usize, usize),
     Never(usize),
     Seen(usize),
     Query(usize, usize),
+}
+
+// The words of lines, in the order of their kinds, each behind its length.
+const LINE_WORDS: [u8; 31] = *b"\x04true\x05false\x02if\x05never\x04seen\x05query";
+
+// The kind of the line whose word is the part of l from a to e, or 6.
+fn kind_of(l: &[u8], a: usize, e: usize) -> usize
+    requires { ⌜ (a ≤ e) × (e ≤ length (now l)) ⌝ }
+    ensures { λ r. ⌜ r ≡ kindOf (slice a e (now (l .entry))) ⌝ }
+{
+    place_of(l, a, e, &LINE_WORDS, 6)
 }
 
 // Whether a closing bracket is all that is left of a line from a place on.
 fn ends_line(l: &[u8], at: usize) -> bool
     ensures { λ r. ⌜ r ≡ endsLine (now (l .entry)) at ⌝ }
 {
-    match token(l, at) {
-        Next::End => false,
-        Next::Open(_) => false,
-        Next::Word(_, _) => false,
-        Next::Close(i) => match token(l, i) {
-            Next::End => true,
-            Next::Open(_) => false,
-            Next::Close(_) => false,
-            Next::Word(_, _) => false,
-        },
-    }
+    let Next::Close(i) = token(l, at) else {
+        return false;
+    };
+    let Next::End = token(l, i) else {
+        return false;
+    };
+    true
 }
 
-// A fact or an assumption from behind its word on.
-fn named_form(l: &[u8], at: usize, kind: u8) -> Form
-    requires { ⌜ (at ≤ length (now l)) × (1 ≤ kind) × (kind ≤ 2) ⌝ }
+// A clause from behind its word on.
+fn clause_form(l: &[u8], at: usize, kind: usize) -> Form
+    requires { ⌜ kind ≤ 2 ⌝ }
     ensures { λ r. ⌜ FormAfter (now (l .entry)) at kind r ⌝ }
 {
-    match token(l, at) {
-        Next::End => Form::NoForm,
-        Next::Open(_) => Form::NoForm,
-        Next::Close(_) => Form::NoForm,
-        Next::Word(a, e) => {
-            if !is_name(l, a, e) {
-                return Form::NoForm;
-            }
-            if !ends_line(l, e) {
-                return Form::NoForm;
-            }
-            if kind == 1 {
-                return Form::Fact(a, e);
-            }
-            Form::Assumption(a, e)
-        }
+    let Next::Word(a, e) = token(l, at) else {
+        return Form::NoForm;
+    };
+    if !is_name(l, a, e) {
+        return Form::NoForm;
     }
-}
-
-// A rule from behind its word on.
-fn rule_form(l: &[u8], at: usize) -> Form
-    requires { ⌜ (at ≤ length (now l)) ⌝ }
-    ensures { λ r. ⌜ FormAfter (now (l .entry)) at 3 r ⌝ }
-{
-    match token(l, at) {
-        Next::End => Form::NoForm,
-        Next::Open(_) => Form::NoForm,
-        Next::Close(_) => Form::NoForm,
-        Next::Word(a, e) => {
-            if !is_name(l, a, e) {
-                return Form::NoForm;
-            }
-            match body(l, e) {
-                Run::NoBody => Form::NoForm,
-                Run::Literals(n) => {
-                    if n == 0 {
-                        return Form::NoForm;
-                    }
-                    Form::Rule(a, e, e)
-                }
-            }
-        }
+    if !has_body(l, e, kind) {
+        return Form::NoForm;
     }
-}
-
-// A constraint from behind its word on.
-fn never_form(l: &[u8], at: usize) -> Form
-    requires { ⌜ (at ≤ length (now l)) ⌝ }
-    ensures { λ r. ⌜ FormAfter (now (l .entry)) at 4 r ⌝ }
-{
-    match body(l, at) {
-        Run::NoBody => Form::NoForm,
-        Run::Literals(n) => {
-            if n == 0 {
-                return Form::NoForm;
-            }
-            Form::Never(at)
-        }
-    }
-}
-
-// A reading from behind its word on.
-fn seen_form(l: &[u8], at: usize) -> Form
-    requires { ⌜ (at ≤ length (now l)) ⌝ }
-    ensures { λ r. ⌜ FormAfter (now (l .entry)) at 5 r ⌝ }
-{
-    match body(l, at) {
-        Run::NoBody => Form::NoForm,
-        Run::Literals(n) => {
-            if n != 1 {
-                return Form::NoForm;
-            }
-            Form::Seen(at)
-        }
-    }
+    Form::Clause(kind, a, e, e)
 }
 
 // A query from behind its word on.
 fn query_form(l: &[u8], at: usize) -> Form
-    requires { ⌜ (at ≤ length (now l)) ⌝ }
-    ensures { λ r. ⌜ FormAfter (now (l .entry)) at 6 r ⌝ }
+    ensures { λ r. ⌜ FormAfter (now (l .entry)) at 5 r ⌝ }
 {
-    match formula_at(l, at) {
-        Parse::NoFormula => Form::NoForm,
-        Parse::Formula(next, depth) => {
-            if !ends_line(l, next) {
-                return Form::NoForm;
-            }
-            Form::Query(at, depth)
-        }
+    let Parse::Formula(next, depth) = formula_at(l, at) else {
+        return Form::NoForm;
+    };
+    if !ends_line(l, next) {
+        return Form::NoForm;
     }
+    Form::Query(at, depth)
 }
 
 // The form of a kind from behind its word on.
-fn form_of_kind(l: &[u8], at: usize, kind: u8) -> Form
-    requires { ⌜ (at ≤ length (now l)) × (kind ≤ 6) ⌝ }
+fn form_of_kind(l: &[u8], at: usize, kind: usize) -> Form
+    requires { ⌜ at ≤ length (now l) ⌝ }
     ensures { λ r. ⌜ FormAfter (now (l .entry)) at kind r ⌝ }
 {
-    if kind == 0 {
-        return Form::NoForm;
-    }
     if kind <= 2 {
-        return named_form(l, at, kind);
-    }
-    if kind == 3 {
-        return rule_form(l, at);
-    }
-    if kind == 4 {
-        return never_form(l, at);
+        return clause_form(l, at, kind);
     }
     if kind == 5 {
-        return seen_form(l, at);
+        return query_form(l, at);
     }
-    query_form(l, at)
+    if !has_body(l, at, kind) {
+        return Form::NoForm;
+    }
+    if kind == 3 {
+        return Form::Never(at);
+    }
+    if kind == 4 {
+        return Form::Seen(at);
+    }
+    Form::NoForm
 }
 
 // The form of a line.
@@ -171,11 +110,55 @@ pub fn form_of(l: &[u8]) -> Form
         Next::End => Form::Skipped,
         Next::Close(_) => Form::NoForm,
         Next::Word(_, _) => Form::NoForm,
-        Next::Open(i) => match token(l, i) {
-            Next::End => Form::NoForm,
-            Next::Open(_) => Form::NoForm,
-            Next::Close(_) => Form::NoForm,
-            Next::Word(a, e) => form_of_kind(l, e, kind_of(l, a, e)),
+        Next::Open(i) => {
+            let Next::Word(a, e) = token(l, i) else {
+                return Form::NoForm;
+            };
+            form_of_kind(l, e, kind_of(l, a, e))
+        }
+    }
+}
+
+// What the line of a form brings.
+pub fn brings(x: Form) -> Brings
+    ensures { λ r. ⌜ Brought x r ⌝ }
+{
+    match x {
+        Form::Skipped => Brings {
+            clauses: 0,
+            constraints: 0,
+            queries: 0,
+            depth: 0,
+        },
+        Form::NoForm => Brings {
+            clauses: 0,
+            constraints: 0,
+            queries: 0,
+            depth: 0,
+        },
+        Form::Clause(_, _, _, _) => Brings {
+            clauses: 1,
+            constraints: 0,
+            queries: 0,
+            depth: 0,
+        },
+        Form::Never(_) => Brings {
+            clauses: 0,
+            constraints: 1,
+            queries: 0,
+            depth: 0,
+        },
+        Form::Seen(_) => Brings {
+            clauses: 0,
+            constraints: 0,
+            queries: 0,
+            depth: 0,
+        },
+        Form::Query(_, depth) => Brings {
+            clauses: 0,
+            constraints: 0,
+            queries: 1,
+            depth: depth,
         },
     }
 }

@@ -1,50 +1,41 @@
 // Literals in a line.
+ghost use mathlib.Core.Path.{_≡_};
 ghost use Prim.Native.Nat.{_≤_};
 ghost use lib.ListN.{length};
-ghost use Rattle.grammar.specs.Parsing.{LiteralFound, BodyFound, NegationFound};
+ghost use Rattle.grammar.specs.Line.{takes};
+ghost use Rattle.grammar.specs.Parsing.{LiteralFound, NegationFound, hasBody};
 use formulas::keyword::node_of;
 use text::name::is_name;
 use text::tokens::Next;
 use text::tokens::token;
 
-// A literal found in a line: the ends of its name, and of a negated one the place behind it.
+// A literal found in a line: whether it is negated, the ends of its name, and the place behind it.
 pub enum Lit {
     NoLiteral,
     BodyEnd,
-    Plain(usize, usize),
-    Negated(usize, usize, usize),
+    Literal(bool, usize, usize, usize),
 }
 
 // The negated name whose opening bracket stands before a place.
 fn negated_name(l: &[u8], at: usize) -> Lit
     ensures { λ r. ⌜ NegationFound (now (l .entry)) at r ⌝ }
 {
-    match token(l, at) {
-        Next::End => Lit::NoLiteral,
-        Next::Open(_) => Lit::NoLiteral,
-        Next::Close(_) => Lit::NoLiteral,
-        Next::Word(a, e) => {
-            if node_of(l, a, e) != 64 {
-                return Lit::NoLiteral;
-            }
-            match token(l, e) {
-                Next::End => Lit::NoLiteral,
-                Next::Open(_) => Lit::NoLiteral,
-                Next::Close(_) => Lit::NoLiteral,
-                Next::Word(b, f) => {
-                    if !is_name(l, b, f) {
-                        return Lit::NoLiteral;
-                    }
-                    match token(l, f) {
-                        Next::End => Lit::NoLiteral,
-                        Next::Open(_) => Lit::NoLiteral,
-                        Next::Word(_, _) => Lit::NoLiteral,
-                        Next::Close(next) => Lit::Negated(b, f, next),
-                    }
-                }
-            }
-        }
+    let Next::Word(a, e) = token(l, at) else {
+        return Lit::NoLiteral;
+    };
+    if node_of(l, a, e) != 64 {
+        return Lit::NoLiteral;
     }
+    let Next::Word(b, f) = token(l, e) else {
+        return Lit::NoLiteral;
+    };
+    if !is_name(l, b, f) {
+        return Lit::NoLiteral;
+    }
+    let Next::Close(next) = token(l, f) else {
+        return Lit::NoLiteral;
+    };
+    Lit::Literal(true, b, f, next)
 }
 
 // The literal at or behind a place, or the end of the body and the line.
@@ -54,47 +45,50 @@ pub fn literal(l: &[u8], at: usize) -> Lit
     match token(l, at) {
         Next::End => Lit::NoLiteral,
         Next::Word(a, e) => {
-            if is_name(l, a, e) {
-                return Lit::Plain(a, e);
+            if !is_name(l, a, e) {
+                return Lit::NoLiteral;
             }
-            Lit::NoLiteral
+            Lit::Literal(false, a, e, e)
         }
         Next::Open(i) => negated_name(l, i),
-        Next::Close(i) => match token(l, i) {
-            Next::End => Lit::BodyEnd,
-            Next::Open(_) => Lit::NoLiteral,
-            Next::Close(_) => Lit::NoLiteral,
-            Next::Word(_, _) => Lit::NoLiteral,
-        },
+        Next::Close(i) => {
+            let Next::End = token(l, i) else {
+                return Lit::NoLiteral;
+            };
+            Lit::BodyEnd
+        }
     }
 }
 
-// A run of literals to the end of a line: how many there are.
-pub enum Run {
-    NoBody,
-    Literals(usize),
+// Whether a line of a kind takes n literals.
+fn takes(kind: usize, n: usize) -> bool
+    ensures { λ r. ⌜ r ≡ takes kind n ⌝ }
+{
+    if kind < 2 {
+        return n == 0;
+    }
+    if kind == 4 {
+        return n == 1;
+    }
+    0 < n
 }
 
-// The literals from a place to the end of the line.
-pub fn body(l: &[u8], at: usize) -> Run
+// Whether a place is followed by literals to the end of the line, as many as a line of a kind takes.
+pub fn has_body(l: &[u8], at: usize, kind: usize) -> bool
     requires { ⌜ at ≤ length (now l) ⌝ }
-    ensures { λ r. ⌜ BodyFound (now (l .entry)) at r ⌝ }
+    ensures { λ r. ⌜ r ≡ hasBody (now (l .entry)) at kind ⌝ }
 {
     let mut i = at;
     let mut count: usize = 0;
     loop {
         match literal(l, i) {
             Lit::NoLiteral => {
-                return Run::NoBody;
+                return false;
             }
             Lit::BodyEnd => {
-                return Run::Literals(count);
+                return takes(kind, count);
             }
-            Lit::Plain(_, e) => {
-                i = e;
-                count += 1;
-            }
-            Lit::Negated(_, _, next) => {
+            Lit::Literal(_, _, _, next) => {
                 i = next;
                 count += 1;
             }

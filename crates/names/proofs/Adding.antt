@@ -1,6 +1,6 @@
 -- Laws of names added to names: none is lost, each of those added is found, and they differ. Assumes nothing.
 use mathlib.Core.Path.{_≡_, refl, sym, _∙_}
-use mathlib.Core.List.{List, [], _∷_, _++_, List·Memᴰ}
+use mathlib.Core.List.{List, [], _∷_, _++_}
 use mathlib.Core.Logic.{⊎-elim}
 use Prim.Native.Nat.{ℕ, _≤_, _<_}
 use native.Mathlib.Nat.{not-suc-le-zero, le-refl, le-trans, eq-or-lt-of-le}
@@ -9,10 +9,11 @@ use lib.Dec.{ltb}
 use lib.ListN.{length, getD, length-append, List·getD-append}
 use lib.Seq.{getD-append-seam}
 use borrow.Author.Tests.{lt-ltb, le-ltb, ltb-true, ltb-false}
+use Rattle.words.proofs.Tests.{by-test}
+use Rattle.text.proofs.Each.{Each, each-append}
+use Rattle.text.proofs.Places.{place-name, place-first, place-append}
 use Rattle.names.specs.Names.{atomOf, withName, withNames}
 use Rattle.names.proofs.Distinct.{Distinct}
-use Rattle.names.proofs.Each.{Each, each-member, each-append}
-use Rattle.names.proofs.Atoms.{by-test, atom-name, atom-first, atom-append}
 
 -- distinct names
 
@@ -20,30 +21,32 @@ pub distinct-none : Distinct []
 unfolding Distinct
 distinct-none = λ i j lt h e. not-suc-le-zero h
 
-pub distinct-push : (ns : List (List ℕ)) (w : List ℕ) → length ns ≤ atomOf ns w → Distinct ns
+-- a name that is not found is none of them
+new-differs : (ns : List (List ℕ)) (w : List ℕ) (i : ℕ) → length ns ≤ atomOf ns w → i < length ns → getD ns i [] ≡ w
+    → ⊥
+new-differs ns w i h l e = omega (arith, place-first ns w i l e)
+
+distinct-push : (ns : List (List ℕ)) (w : List ℕ) → length ns ≤ atomOf ns w → Distinct ns
     → Distinct (ns ++ (w ∷ []))
 unfolding Distinct
 distinct-push ns w h d =
     λ i j lt k e.
     let n = length-append ns (w ∷ []) in
-    let f : getD (ns ++ (w ∷ [])) i [] ≡ getD ns i [] = List·getD-append ns (w ∷ []) [] i (omega arith) in
-    let last : j ≡ length ns → ⊥ =
-    λ q.
-    let g : getD (ns ++ (w ∷ [])) j [] ≡ w = rw q (getD-append-seam ns w [] []) in
-    let a = atom-first ns w i (omega arith) (sym f ∙ e ∙ g) in
-    omega arith
-    in
+    let f = List·getD-append ns (w ∷ []) [] i (omega arith) in
     let le : j ≤ length ns = omega arith in
-    ⊎-elim last (λ p. d i j lt p (sym f ∙ e ∙ List·getD-append ns (w ∷ []) [] j p)) (eq-or-lt-of-le le)
+    ⊎-elim
+    (λ q. new-differs ns w i h (omega arith) (sym f ∙ e ∙ rw q (getD-append-seam ns w [] [])))
+    (λ p. d i j lt p (sym f ∙ e ∙ List·getD-append ns (w ∷ []) [] j p))
+    (eq-or-lt-of-le le)
 
 -- among names that differ, the number of the name at place i is i
 pub distinct-atom : (ns : List (List ℕ)) (i : ℕ) → Distinct ns → i < length ns → atomOf ns (getD ns i []) ≡ i
 unfolding Distinct
 distinct-atom ns i d h =
     let w : List ℕ = getD ns i [] in
-    let le : atomOf ns w ≤ i = atom-first ns w i h refl in
+    let le : atomOf ns w ≤ i = place-first ns w i h refl in
     let never : atomOf ns w < i → atomOf ns w ≡ i =
-    λ lt. absurd (d (atomOf ns w) i lt h (atom-name ns w (omega arith)))
+    λ lt. absurd (d (atomOf ns w) i lt h (place-name ns w (omega arith)))
     in
     ⊎-elim (λ e. e) never (eq-or-lt-of-le le)
 
@@ -67,24 +70,24 @@ module _ (ns : List (List ℕ)) (w : List ℕ) where
       (λ t. let h = ltb-true _ _ t in f (with-name-known h) h)
       (λ t. let h = ltb-false _ _ t in g (with-name-new h) h)
 
-  pub with-name-length : length ns ≤ length (withName ns w)
+  with-name-length : length ns ≤ length (withName ns w)
   with-name-length =
       by-name (λ e h. rw e (le-refl (length ns))) (λ e h. rw (e, length-append ns (w ∷ [])) (omega arith))
 
   -- a name that is found keeps its number
-  pub with-name-atom : (v : List ℕ) → atomOf ns v < length ns → atomOf (withName ns w) v ≡ atomOf ns v
-  with-name-atom v h = by-name (λ e k. rw e) (λ e k. rw e (atom-append ns (w ∷ []) v h))
+  with-name-atom : (v : List ℕ) → atomOf ns v < length ns → atomOf (withName ns w) v ≡ atomOf ns v
+  with-name-atom v h = by-name (λ e k. rw e) (λ e k. rw e (place-append ns (w ∷ []) v h))
 
-  pub with-name-found : atomOf (withName ns w) w < length (withName ns w)
+  with-name-found : atomOf (withName ns w) w < length (withName ns w)
   with-name-found =
       by-name
       (λ e h. rw e h)
       (λ e h.
       let n = length-append ns (w ∷ []) in
-      let f = atom-first (ns ++ (w ∷ [])) w (length ns) (omega arith) (getD-append-seam ns w [] []) in
+      let f = place-first (ns ++ (w ∷ [])) w (length ns) (omega arith) (getD-append-seam ns w [] []) in
       rw e (omega arith))
 
-  pub with-name-distinct : Distinct ns → Distinct (withName ns w)
+  with-name-distinct : Distinct ns → Distinct (withName ns w)
   with-name-distinct d = by-name (λ e h. rw e d) (λ e h. rw e (distinct-push ns w h d))
 
 -- several names
@@ -115,7 +118,7 @@ with-names-atom ns (w ∷ ws) v h =
     with-names-atom (withName ns w) ws v (omega arith) ∙ e
 
 -- and is found still
-pub with-names-kept : (ns ws : List (List ℕ)) (v : List ℕ) → atomOf ns v < length ns
+with-names-kept : (ns ws : List (List ℕ)) (v : List ℕ) → atomOf ns v < length ns
     → atomOf (withNames ns ws) v < length (withNames ns ws)
 with-names-kept ns ws v h =
     let e = with-names-atom ns ws v h in
@@ -129,10 +132,14 @@ each-found ns [] = tt
 each-found ns (w ∷ ws) =
     (with-names-kept (withName ns w) ws w (with-name-found ns w), each-found (withName ns w) ws)
 
-pub names-found : (ns ws : List (List ℕ)) (w : List ℕ) → List·Memᴰ w ws
-    → atomOf (withNames ns ws) w < length (withNames ns ws)
-names-found ns ws w m =
-    each-member (λ v. atomOf (withNames ns ws) v < length (withNames ns ws)) ws w (each-found ns ws) m
+-- names that are found add nothing
+with-names-known : (ns ws : List (List ℕ)) → Each (λ w. atomOf ns w < length ns) ws → withNames ns ws ≡ ns
+unfolding withNames
+with-names-known ns [] h = refl
+with-names-known ns (w ∷ ws) h = rw (with-name-known ns w (h .0)) (with-names-known ns ws (h .1))
+
+pub with-names-again : (ns ws : List (List ℕ)) → withNames (withNames ns ws) ws ≡ withNames ns ws
+with-names-again ns ws = with-names-known (withNames ns ws) ws (each-found ns ws)
 
 -- what holds of each of the names and of each that is added
 module _ (P : List ℕ → Type 0) where

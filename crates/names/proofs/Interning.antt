@@ -1,141 +1,159 @@
--- Laws of names added to a table that holds names: one name, and the names of a line one after the other.
--- Assumes nothing.
-use mathlib.Core.Path.{_≡_, refl, sym, ap, _∙_, subst}
-use mathlib.Core.Bool.{Bool, false}
-use mathlib.Core.List.{List, [], _∷_, _++_}
+-- Laws of names put into the rows of a table: one name, and several one after the other. Assumes nothing.
+use mathlib.Core.Path.{_≡_, refl, sym, ap, subst}
+use mathlib.Core.List.{List, [], _∷_}
+use mathlib.Core.Logic.{⊎-elim}
 use Prim.Native.Nat.{ℕ, _+_, _*_, _≤_, _<_}
 use native.Mathlib.Omega.{arith}
 use lib.ListN.{length, length-append}
 use lib.Seq.{sets}
-use Rattle.text.specs.Tokens.{tokens}
-use Rattle.table.specs.Filled.{padded}
-use Rattle.text.specs.Words.{namesIn}
-use Rattle.names.specs.Names.{atomOf, withName, withNames, someLong}
-use Rattle.names.specs.Held.{Named, Holds, Interned, LineInterned}
+use borrow.Author.Tests.{lt-ltb, le-ltb, le-leb, lt-leb}
+use Rattle.words.proofs.Tests.{lt-or-le}
+use Rattle.program.specs.Case.{nameSize}
+use Rattle.text.proofs.Each.{Each}
+use Rattle.table.specs.Filled.{filled, padded}
+use Rattle.table.proofs.Filled.{padded-length}
+use Rattle.table.proofs.Kept.{kept-refl, kept-length, kept-trans, sets-kept}
+use Rattle.names.specs.Names.{atomOf, withName, withNames}
+use Rattle.names.specs.Row.{Rows, rowOf, rows, nextRow, rowsWith, rowsThrough}
+use Rattle.names.specs.Held.{Named, Holds}
 use Rattle.names.proofs.Adding.{with-name-known, with-name-new, with-names-length}
-use Rattle.names.proofs.Rows.{held-push}
-use Rattle.names.proofs.LineNames.{some-long-none, namesLeft}
+use Rattle.names.proofs.Held.{row-atom, held-push}
 
--- one name w, found at place i of the count names ns
-module _ (ns : List (List ℕ)) (old t w : List ℕ) (count i : ℕ) (n : length ns ≡ count) (h : Holds ns old t)
-    (e : i ≡ atomOf ns w) where
-  pub interned-known : i < count → Interned ns old w count t
-  interned-known q =
-      let p : withName ns w ≡ ns = with-name-known ns w (omega arith) in
-      record { count-is = rw p (sym n); held = λ _. rw p h; kept = λ _. h }
+-- rowsWith
 
-  pub interned-full : count ≤ i → count ≡ 64 → Interned ns old w 65 t
-  interned-full q z =
-      let p : withName ns w ≡ ns ++ (w ∷ []) = with-name-new ns w (omega arith) in
-      record { count-is = rw (p, length-append) (omega arith); held = λ x. absurd (omega arith); kept = λ _. h }
+module _ (n : ℕ) (t w : List ℕ) where
+  pub rows-with-known : rowOf t n w < n → rowsWith (rows n t) w ≡ rows n t
+  unfolding rowsWith
+  rows-with-known h = rw (lt-ltb _ _ h)
 
-  pub interned-new : (u : List ℕ) → 1024 ≤ length t → Named w → count ≤ i → count < 64
-      → u ≡ sets t (count * 16) (padded 16 w) → Interned ns old w (count + 1) u
-  interned-new u k g q z s =
-      let p : withName ns w ≡ ns ++ (w ∷ []) = with-name-new ns w (omega arith) in
-      record {
-        count-is = rw (p, length-append) (omega arith);
-        held = λ _. rw (p, s, ← n) (held-push ns old t h k w (omega arith) g);
-        kept = λ x. absurd (omega arith);
-      }
+  pub rows-with-full : n ≤ rowOf t n w → 64 ≤ n → rowsWith (rows n t) w ≡ rows 65 t
+  unfolding rowsWith nextRow
+  rows-with-full h k = rw (le-ltb _ _ h, le-ltb _ _ k)
 
--- the names ws are added to ns, and left are those still to be added: there are n names so far, and t is the table
-pub record SoFar (ns ws : List (List ℕ)) (old t : List ℕ) (n : ℕ) (left : List (List ℕ)) : Type 0 where
-  pub names : List (List ℕ)
-  pub count-is : length names ≡ n
-  pub held : Holds names old t
-  pub with-left : withNames ns ws ≡ withNames names left
-  pub left-short : someLong left ≡ false
+  pub rows-with-new : n ≤ rowOf t n w → n < 64
+      → rowsWith (rows n t) w ≡ rows (n + 1) (sets t (n * 16) (padded 16 w))
+  unfolding rowsWith nextRow
+  rows-with-new h k = rw (le-ltb _ _ h, lt-ltb _ _ k)
 
-so-far-none : (ns ws : List (List ℕ)) (old t : List ℕ) (n : ℕ) → length ns ≡ n → Holds ns old t
-    → someLong ws ≡ false → SoFar ns ws old t n ws
-so-far-none ns ws old t n q h s = record { names = ns; count-is = q; held = h; with-left = refl; left-short = s }
+-- rowsThrough
 
-module _ (ns ws : List (List ℕ)) (old t : List ℕ) (n : ℕ) (left : List (List ℕ)) (h : SoFar ns ws old t n left)
-  where
-    so-far-all : n ≤ 64 → left ≡ [] → LineInterned ns ws old n t
-    unfolding withNames
-    so-far-all k e =
-        let q : withNames ns ws ≡ h .names = h .with-left ∙ ap (withNames (h .names)) e in
-        record {
-          fits = λ _. ap length q ∙ h .count-is;
-          held = λ _. rw q (h .held);
-          full = λ l. absurd (omega arith);
-          spoilt = h .names;
-          spoilt-is = h .held .table-is;
-        }
+pub through-none : (s : Rows) → rowsThrough s [] ≡ s
+unfolding rowsThrough
+through-none s = refl
 
-    -- the next name w is added, or there is no room for it; r is the answer and u the table then
-    module _ (w : List ℕ) (rest : List (List ℕ)) (e : left ≡ w ∷ rest) (g : length w ≤ 16 → Named w) (r : ℕ)
-        (u : List ℕ)
-        (f : (ms : List (List ℕ)) (o : List ℕ) → length ms ≡ n → Holds ms o t → Named w → Interned ms o w r u) where
-      next-short : (length w ≤ 16) × (someLong rest ≡ false)
-      next-short = some-long-none w rest (subst (λ ws. someLong ws ≡ false) e (h .left-short))
+module _ (s next : Rows) (w : List ℕ) (ws : List (List ℕ)) (e : next ≡ rowsWith s w) where
+  pub through-more : next .count ≤ 64 → rowsThrough s (w ∷ ws) ≡ rowsThrough next ws
+  unfolding rowsThrough
+  through-more h = rw (← e, le-leb _ _ h)
 
-      next-interned : Interned (h .names) old w r u
-      next-interned = f (h .names) old (h .count-is) (h .held) (g (next-short .0))
+  pub through-full : 64 < next .count → rowsThrough s (w ∷ ws) ≡ next
+  unfolding rowsThrough
+  through-full h = rw (← e, lt-leb _ _ h)
 
-      with-rest : withNames ns ws ≡ withNames (withName (h .names) w) rest
-      unfolding withNames
-      with-rest = h .with-left ∙ ap (withNames (h .names)) e
+-- only the bytes of the rows change
 
-      so-far-more : r ≤ 64 → SoFar ns ws old u r rest
-      so-far-more k = record {
-        names = withName (h .names) w;
-        count-is = sym (next-interned .count-is);
-        held = next-interned .held k;
-        with-left = with-rest;
-        left-short = next-short .1;
-      }
+with-kept : (n : ℕ) (t w : List ℕ) → let u = rowsWith (rows n t) w .table in u ≡ filled nameSize u t
+with-kept n t w =
+    let m = padded-length 16 w in
+    let new : n ≤ rowOf t n w → n < 64 → rowsWith (rows n t) w .table ≡ filled nameSize (rowsWith (rows n t) w .table) t =
+    λ h k. rw (rows-with-new n t w h k) (sets-kept nameSize (padded 16 w) t (n * 16) (omega arith))
+    in
+    ⊎-elim
+    (λ h. rw (rows-with-known n t w h) (kept-refl nameSize t))
+    (λ h. ⊎-elim (new h) (λ k. rw (rows-with-full n t w h k) (kept-refl nameSize t)) (lt-or-le n 64))
+    (lt-or-le (rowOf t n w) n)
 
-      so-far-full : 64 < r → LineInterned ns ws old r u
-      so-far-full k =
-          let l = with-names-length (withName (h .names) w) rest in
-          let c = next-interned .count-is in
-          record {
-            fits = λ m. absurd (omega arith);
-            held = λ m. absurd (omega arith);
-            full = λ _. rw with-rest (omega arith);
-            spoilt = h .names;
-            spoilt-is = next-interned .kept k .table-is;
-          }
+through-kept : (ws : List (List ℕ)) (s : Rows) → let u = rowsThrough s ws .table in u ≡ filled nameSize u (s .table)
+through-kept [] s = rw (through-none s) (kept-refl nameSize (s .table))
+through-kept (w ∷ ws) s =
+    let next = rowsWith s w in
+    let k = with-kept (s .count) (s .table) w in
+    ⊎-elim
+    (λ h. rw (through-full s next w ws refl h) k)
+    (λ h. rw (through-more s next w ws refl h) (kept-trans nameSize (s .table) k (through-kept ws next)))
+    (lt-or-le 64 (next .count))
 
--- the names of the line l are added to the count names that t₀ held: t holds n, and those from place at on are left
-abbrev pub Adding : List ℕ → List ℕ → ℕ → List ℕ → ℕ → ℕ → Bool → Type 0
-Adding l t₀ count t at n b =
-    (ns : List (List ℕ)) (old : List ℕ) → length ns ≡ count → Holds ns old t₀
-    → someLong (namesIn (tokens l)) ≡ false → SoFar ns (namesIn (tokens l)) old t n (namesLeft l at b)
+pub rows-kept : (n : ℕ) (t : List ℕ) (ws : List (List ℕ)) (r : ℕ) (u : List ℕ)
+    → rows r u ≡ rowsThrough (rows n t) ws → u ≡ filled nameSize u t
+rows-kept n t ws r u e =
+    subst (λ (s : Rows). s .table ≡ filled nameSize (s .table) t) (sym e) (through-kept ws (rows n t))
 
--- all are added, or there is no room
-abbrev pub Added : List ℕ → List ℕ → ℕ → List ℕ → ℕ → Type 0
-Added l t₀ count t n =
-    (ns : List (List ℕ)) (old : List ℕ) → length ns ≡ count → Holds ns old t₀
-    → someLong (namesIn (tokens l)) ≡ false → LineInterned ns (namesIn (tokens l)) old n t
+-- s holds the names ms, or they are too many
+pub record Interned (ms : List (List ℕ)) (s : Rows) : Type 0 where
+  pub fits : s .count ≤ 64 → length ms ≡ s .count
+  pub held : s .count ≤ 64 → Holds ms (s .table)
+  pub full : 64 < s .count → 64 < length ms
 
-pub adding-none : (l t : List ℕ) (count : ℕ) → Adding l t count t 0 count false
-adding-none l t count = λ ns old q h s. so-far-none ns (namesIn (tokens l)) old t count q h s
+interned-held : {ns : List (List ℕ)} {t : List ℕ} → Holds ns t → Interned ns (rows (length ns) t)
+interned-held h = record { fits = λ _. refl; held = λ _. h; full = λ l. absurd (omega (arith, h .few)) }
 
-module _ (l t₀ : List ℕ) (count : ℕ) (t : List ℕ) (at n : ℕ) (b : Bool) (so-far : Adding l t₀ count t at n b) where
-  pub adding-same : (z : ℕ) (d : Bool) → namesLeft l at b ≡ namesLeft l z d → Adding l t₀ count t z n d
-  adding-same z d e = λ ns old q h s. subst (SoFar ns (namesIn (tokens l)) old t n) e (so-far ns old q h s)
+interned-over : {ms : List (List ℕ)} {s : Rows} → 64 < s .count → 64 < length ms → Interned ms s
+interned-over l k = record { fits = λ p. absurd (omega arith); held = λ p. absurd (omega arith); full = λ _. k }
 
-  pub adding-all : n ≤ 64 → namesLeft l at b ≡ [] → Added l t₀ count t n
-  adding-all k e =
-      λ ns old q h s. so-far-all ns (namesIn (tokens l)) old t n (namesLeft l at b) (so-far ns old q h s) k e
+-- one name more
+module _ {ns : List (List ℕ)} {t w : List ℕ} (h : Holds ns t) (k : nameSize ≤ length t) (g : Named w) where
+  one-known : atomOf ns w < length ns → Interned (withName ns w) (rowsWith (rows (length ns) t) w)
+  one-known l =
+      let e = row-atom h k g in
+      rw (with-name-known ns w l, rows-with-known (length ns) t w (omega arith)) (interned-held h)
 
-  -- the next name w ends at place z; r is the answer and u the table after it was added
-  module _ (w : List ℕ) (z : ℕ) (e : namesLeft l at b ≡ w ∷ namesLeft l z b) (g : length w ≤ 16 → Named w)
-      (r : ℕ) (u : List ℕ)
-      (i : (ns : List (List ℕ)) (old : List ℕ) → length ns ≡ n → Holds ns old t → Named w → Interned ns old w r u)
-    where
-      pub adding-more : r ≤ 64 → Adding l t₀ count u z r b
-      adding-more k =
-          λ ns old q h s.
-          so-far-more ns (namesIn (tokens l)) old t n (namesLeft l at b) (so-far ns old q h s) w (namesLeft l z b) e
-          g r u i k
+  one-stored : length ns ≤ atomOf ns w → length ns < 64
+      → Interned (withName ns w) (rowsWith (rows (length ns) t) w)
+  one-stored l q =
+      let e = row-atom h k g in
+      rw (with-name-new ns w l, rows-with-new (length ns) t w (omega arith) q, ← length-append ns (w ∷ []))
+      (interned-held (held-push h k g q))
 
-      pub adding-full : 64 < r → Added l t₀ count u r
-      adding-full k =
-          λ ns old q h s.
-          so-far-full ns (namesIn (tokens l)) old t n (namesLeft l at b) (so-far ns old q h s) w (namesLeft l z b) e
-          g r u i k
+  one-refused : length ns ≤ atomOf ns w → 64 ≤ length ns
+      → Interned (withName ns w) (rowsWith (rows (length ns) t) w)
+  one-refused l q =
+      let e = row-atom h k g in
+      rw (with-name-new ns w l, rows-with-full (length ns) t w (omega arith) q)
+      (interned-over (omega arith) (rw (length-append ns (w ∷ [])) (omega arith)))
+
+  one-interned : Interned (withName ns w) (rowsWith (rows (length ns) t) w)
+  one-interned =
+      ⊎-elim
+      one-known
+      (λ l. ⊎-elim (one-stored l) (one-refused l) (lt-or-le (length ns) 64))
+      (lt-or-le (atomOf ns w) (length ns))
+
+  -- and more behind it
+  module _ (ws : List (List ℕ)) where
+    several-full : 64 < rowsWith (rows (length ns) t) w .count
+        → Interned (withNames (withName ns w) ws) (rowsThrough (rows (length ns) t) (w ∷ ws))
+    several-full q =
+        let l = with-names-length (withName ns w) ws in
+        let m = one-interned .full q in
+        rw (through-full (rows (length ns) t) _ w ws refl q) (interned-over q (omega arith))
+
+    several-more : let s = rowsWith (rows (length ns) t) w in
+        s .count ≤ 64
+        → Interned (withNames (withName ns w) ws) (rowsThrough (rows (length (withName ns w)) (s .table)) ws)
+        → Interned (withNames (withName ns w) ws) (rowsThrough (rows (length ns) t) (w ∷ ws))
+    several-more q i =
+        let s = rowsWith (rows (length ns) t) w in
+        let e : rows (length (withName ns w)) (s .table) ≡ s = ap (λ n. rows n (s .table)) (one-interned .fits q) in
+        rw (through-more (rows (length ns) t) s w ws refl q, ← e) i
+
+several-interned : (ws ns : List (List ℕ)) (t : List ℕ) → Holds ns t → nameSize ≤ length t → Each Named ws
+    → Interned (withNames ns ws) (rowsThrough (rows (length ns) t) ws)
+unfolding withNames
+several-interned [] ns t h k g = rw (through-none (rows (length ns) t)) (interned-held h)
+several-interned (w ∷ ws) ns t h k g =
+    let s = rowsWith (rows (length ns) t) w in
+    let l = kept-length nameSize t (with-kept (length ns) t w) in
+    let more : s .count ≤ 64 → Interned (withNames (withName ns w) ws) (rowsThrough (rows (length ns) t) (w ∷ ws)) =
+    λ q.
+    several-more h k (g .0) ws q
+    (several-interned ws (withName ns w) (s .table) (one-interned h k (g .0) .held q) (omega arith) (g .1))
+    in
+    ⊎-elim (several-full h k (g .0) ws) more (lt-or-le 64 (s .count))
+
+-- r is how many names there are with those of a line, and u the table
+abbrev pub LineInterned : List (List ℕ) → List (List ℕ) → ℕ → List ℕ → Type 0
+LineInterned ns ws r u = Interned (withNames ns ws) (rows r u)
+
+pub line-interned : (ns ws : List (List ℕ)) (t : List ℕ) (r : ℕ) (u : List ℕ) → Holds ns t → nameSize ≤ length t
+    → Each Named ws → rows r u ≡ rowsThrough (rows (length ns) t) ws → LineInterned ns ws r u
+line-interned ns ws t r u h k g e = rw e (several-interned ws ns t h k g)

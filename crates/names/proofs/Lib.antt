@@ -1,18 +1,19 @@
--- Each: what holds of each entry of a list.
--- Atoms: the number of a name among names.
+-- The laws of this crate, a file for each notion. Assumes nothing.
 -- Distinct: names that differ from each other.
 -- Adding: names added to names: which are found, and that they differ.
--- Rows: the rows of a table that holds names.
+-- Short: names that are not long.
+-- Rows: the rows of names.
 -- RowNames: the name in a row of a table.
--- Search: the search for a name in such a table.
--- Interning: names added to a table that holds names.
--- LineNames: the names of a line from a place on.
-pub mod Each
-pub mod Atoms
+-- Held: a table that holds names.
+-- Search: the search for the row of a name.
+-- Interning: names put into the rows of a table.
+-- LineNames: the loops over the names of a line.
 pub mod Distinct
 pub mod Adding
+pub mod Short
 pub mod Rows
 pub mod RowNames
+pub mod Held
 pub mod Search
 pub mod Interning
 pub mod LineNames

@@ -1,89 +1,63 @@
--- Laws of the names of a line from a place on, for the loops over its tokens, and of names that are not long.
--- Assumes nothing.
-use mathlib.Core.Path.{_≡_, sym, ap, _∙_}
-use mathlib.Core.Bool.{Bool, true, false}
-use mathlib.Core.List.{List, [], _∷_}
-use Prim.Native.Nat.{ℕ, _≤_, _<_}
-use native.Mathlib.Omega.{arith}
-use lib.Dec.{ltb}
+-- The loops over the names of a line, name by name: whether one is long, and names put into rows. Assumes nothing.
+use mathlib.Core.Path.{_≡_, refl, sym, ap, _∙_}
+use mathlib.Core.Bool.{true, false}
+use mathlib.Core.List.{List}
+use Prim.Native.Nat.{ℕ, _-_, _≤_, _<_}
 use lib.ListN.{length, drop}
-use lib.Seq.{slice}
-use borrow.Author.Tests.{lt-ltb, le-ltb, ltb-true, ltb-false}
-use Rattle.text.specs.Bytes.{isWordByte, allOf}
-use Rattle.text.specs.Tokens.{Token, tokens}
-use Rattle.text.specs.Scanning.{firstToken, Found}
-use Rattle.text.specs.declared.tokens.Next.{Next}
-use Rattle.text.specs.declared.tokens.Next.the-variants.{End, Open, Close, Word}
-use Rattle.text.proofs.ByteLaws.{all-head, all-tail, word-byte-not-zero}
-use Rattle.text.proofs.Words.{first-word-bytes}
-use Rattle.text.specs.Words.{namesFrom}
+use lib.Seq.{slice, length-slice}
+use Rattle.text.specs.Tokens.{tokens}
+use Rattle.text.specs.Words.{namesIn}
+use Rattle.text.specs.Scanning.{firstName, NameFound}
+use Rattle.text.specs.declared.name.NextName.{NextName}
+use Rattle.text.specs.declared.name.NextName.the-variants.{NoName, Name}
+use Rattle.text.proofs.Names.{names-found, name-inside}
 use Rattle.names.specs.Names.{someLong}
-use Rattle.names.specs.Held.{NoZero, Named}
-use Rattle.names.proofs.Atoms.{by-test}
+use Rattle.names.specs.Row.{Rows, rowsWith, rowsThrough}
+use Rattle.names.proofs.Short.{some-long-here, some-long-later, some-long-nil}
+use Rattle.names.proofs.Interning.{through-none, through-more, through-full}
 
--- someLong
+-- a name of the line l is long if one from place at on is
+pub record LongFrom (l : List ℕ) (at : ℕ) : Type 0 where
+  pub some-is : someLong (namesIn (tokens l)) ≡ someLong (namesIn (tokens (drop at l)))
 
-module _ (w : List ℕ) (ws : List (List ℕ)) where
-  pub some-long-here : 16 < length w → someLong (w ∷ ws) ≡ true
-  unfolding someLong
-  some-long-here h = rw (lt-ltb 16 (length w) h)
+pub long-from-none : (l : List ℕ) → LongFrom l 0
+long-from-none l = record { some-is = refl }
 
-  pub some-long-later : length w ≤ 16 → someLong (w ∷ ws) ≡ someLong ws
-  unfolding someLong
-  some-long-later h = rw (le-ltb 16 (length w) h)
+module _ {l : List ℕ} {at : ℕ} {r : NextName} (h : LongFrom l at) (f : NameFound l at r) where
+  left-long : {q : NextName} → r ≡ q → someLong (namesIn (tokens l)) ≡ someLong (firstName l q)
+  left-long e = h .some-is ∙ ap someLong (names-found f e)
 
-  pub some-long-none : someLong (w ∷ ws) ≡ false → (length w ≤ 16) × (someLong ws ≡ false)
-  some-long-none h =
-      by-test
-      (ltb 16 (length w))
-      (λ t.
-      let k = some-long-here (ltb-true 16 (length w) t) in
-      let z : _≡_ {A = ℕ} 0 1 = cc in
-      absurd (omega arith))
-      (λ t.
-      let k = ltb-false 16 (length w) t in
-      (k, sym (some-long-later k) ∙ h))
+  pub long-none : r ≡ NoName → false ≡ someLong (namesIn (tokens l))
+  long-none q = sym (left-long q ∙ some-long-nil)
 
--- Named
+  module _ {a e : ℕ} (q : r ≡ Name a e) where
+    name-length : length (slice a e l) ≡ e - a
+    name-length = length-slice a e l (name-inside f q .2)
 
-pub no-zero : (w : List ℕ) → allOf isWordByte w ≡ true → NoZero w
-no-zero [] h = NoZero.none
-no-zero (b ∷ w) h =
-    NoZero.more (word-byte-not-zero b (all-head isWordByte b w h)) (no-zero w (all-tail isWordByte b w h))
+    pub long-here : 16 < e - a → true ≡ someLong (namesIn (tokens l))
+    long-here k = sym (left-long q ∙ some-long-here (slice a e l) _ (rw name-length k))
 
--- the names of l from place at on, behind an opening bracket where the test holds
-abbrev pub namesLeft : List ℕ → ℕ → Bool → List (List ℕ)
-namesLeft l at b = namesFrom b (tokens (drop at l))
+    pub long-later : e - a ≤ 16 → LongFrom l e
+    long-later k = record { some-is = left-long q ∙ some-long-later (slice a e l) _ (rw name-length k) }
 
--- by what stands next
-module _ (l : List ℕ) (at : ℕ) (b : Bool) (r : Next) (f : Found l at r) where
-  next-is : (q : Next) → r ≡ q → namesLeft l at b ≡ namesFrom b (firstToken l q)
-  next-is q e = ap (namesFrom b) (f .tokens-are ∙ ap (firstToken l) e)
+-- the names of the line l are put into the rows s₀ if those from place at on are put into s
+pub record Adding (s₀ : Rows) (l : List ℕ) (at : ℕ) (s : Rows) : Type 0 where
+  pub rows-are : rowsThrough s₀ (namesIn (tokens l)) ≡ rowsThrough s (namesIn (tokens (drop at l)))
 
-  pub left-end : r ≡ End → namesLeft l at b ≡ []
-  unfolding namesFrom
-  left-end e = next-is End e
+pub adding-all : (s : Rows) (l : List ℕ) → Adding s l 0 s
+adding-all s l = record { rows-are = refl }
 
-  pub left-open : (n : ℕ) → r ≡ Open n → namesLeft l at b ≡ namesLeft l n true
-  unfolding namesFrom
-  left-open n e = next-is (Open n) e
+module _ {s₀ s : Rows} {l : List ℕ} {at : ℕ} {r : NextName} (h : Adding s₀ l at s) (f : NameFound l at r) where
+  left-are : {q : NextName} → r ≡ q → rowsThrough s₀ (namesIn (tokens l)) ≡ rowsThrough s (firstName l q)
+  left-are e = h .rows-are ∙ ap (rowsThrough s) (names-found f e)
 
-  pub left-close : (n : ℕ) → r ≡ Close n → namesLeft l at b ≡ namesLeft l n false
-  unfolding namesFrom
-  left-close n e = next-is (Close n) e
+  pub adding-none : r ≡ NoName → s ≡ rowsThrough s₀ (namesIn (tokens l))
+  adding-none q = sym (left-are q ∙ through-none s)
 
-  module _ (a z : ℕ) (e : r ≡ Word a z) where
-    pub left-form : b ≡ true → namesLeft l at b ≡ namesLeft l z false
-    unfolding namesFrom
-    left-form t = next-is (Word a z) e ∙ rw t
+  -- the next name is put into s, which leaves next
+  module _ {a e : ℕ} {next : Rows} (q : r ≡ Name a e) (i : next ≡ rowsWith s (slice a e l)) where
+    pub adding-full : 64 < next .count → next ≡ rowsThrough s₀ (namesIn (tokens l))
+    adding-full k = sym (left-are q ∙ through-full s next (slice a e l) _ i k)
 
-    pub left-name : b ≡ false → namesLeft l at b ≡ slice a z l ∷ namesLeft l z b
-    unfolding namesFrom
-    left-name t = next-is (Word a z) e ∙ rw t
-
-    pub name-named : length (slice a z l) ≤ 16 → Named (slice a z l)
-    name-named h =
-        let t : tokens (drop at l) ≡ Token.word (slice a z l) ∷ tokens (drop z l) =
-        f .tokens-are ∙ ap (firstToken l) e
-        in
-        record { short = h; no-zero = no-zero (slice a z l) (first-word-bytes (drop at l) (slice a z l) _ t .1) }
+    pub adding-more : next .count ≤ 64 → Adding s₀ l e next
+    adding-more k = record { rows-are = left-are q ∙ through-more s next (slice a e l) _ i k }

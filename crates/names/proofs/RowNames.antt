@@ -33,7 +33,7 @@ before-zero-more zero l n = absurd (n refl)
 before-zero-more (suc b) l n = refl
 
 -- a list that has no first byte, or begins with a zero
-pub before-zero-none : (l : List ℕ) → getD l 0 0 ≡ 0 → beforeZero l ≡ []
+before-zero-none : (l : List ℕ) → getD l 0 0 ≡ 0 → beforeZero l ≡ []
 unfolding beforeZero
 before-zero-none [] e = refl
 before-zero-none (zero ∷ l) e = refl
@@ -50,7 +50,7 @@ zeros-behind n NoZero.none = before-zero-none (padded n []) (padded-first n)
 zeros-behind n (NoZero.more {b} {w} h k) =
     before-zero-more b (w ++ padded n []) h ∙ ap (λ (l : List ℕ). b ∷ l) (zeros-behind n k)
 
-row-name : {w : List ℕ} → Named w → beforeZero (padded 16 w) ≡ w
+pub row-name : {w : List ℕ} → Named w → beforeZero (padded 16 w) ≡ w
 row-name {w} h = rw (padded-split 16 w (h .short)) (zeros-behind (16 - length w) (h .no-zero))
 
 module _ (ns : List (List ℕ)) (named : (a : ℕ) → a < length ns → Named (getD ns a [])) where

@@ -1,49 +1,71 @@
--- The search for a name in a table that holds names, row by row. Assumes nothing.
+-- The search for the row of a name: a row compared with it byte by byte, and the rows one after the other.
+-- Assumes nothing.
 use mathlib.Core.Path.{_≡_, sym, _∙_}
 use mathlib.Core.Bool.{Bool, true, false}
-use mathlib.Core.List.{List, []}
-use Prim.Native.Nat.{ℕ, _+_, _*_, _≤_, _<_}
-use native.Mathlib.Nat.{zero-add}
+use mathlib.Core.List.{List}
+use Prim.Native.Nat.{ℕ, _+_, _*_, _-_, _≤_, _<_}
+use native.Mathlib.Nat.{sub-zero}
 use native.Mathlib.Omega.{arith}
-use lib.ListN.{length, drop, getD}
-use lib.Seq.{slice}
+use lib.ListN.{length, getD}
+use Rattle.words.specs.Below.{firstFrom}
+use Rattle.words.proofs.Below.{first-le, first-stops, first-more, first-ends}
+use Rattle.program.specs.Case.{nameSize}
 use Rattle.text.specs.Bytes.{sameBytes}
+use Rattle.text.proofs.Same.{SameFrom, same-none, same-more, same-stops, same-ends}
 use Rattle.table.specs.Filled.{padded}
-use Rattle.names.specs.Names.{atomOf}
-use Rattle.names.specs.Held.{Named, Holds, FoundIn}
-use Rattle.names.proofs.Atoms.{atom-at, atom-past, atom-end}
-use Rattle.names.proofs.Rows.{held-same}
+use Rattle.table.proofs.Filled.{padded-length, padded-at}
+use Rattle.names.specs.Row.{rowAt, rowOf}
 
--- the search for w has reached place i of the count names that the table t holds
-abbrev pub Reached : List ℕ → ℕ → List ℕ → ℕ → Type 0
-Reached t count w i =
-    (ns : List (List ℕ)) (old : List ℕ) → length ns ≡ count → Holds ns old t → Named w
-    → atomOf ns w ≡ i + atomOf (drop i ns) w
+-- row i of t is w if what is left of it from its byte j on is
+pub record RowFrom (t : List ℕ) (i : ℕ) (w : List ℕ) (j : ℕ) : Type 0 where
+  pub same-from : SameFrom t (i * 16) (i * 16 + 16) (padded 16 w) j
 
-pub reached-none : (t : List ℕ) (count : ℕ) (w : List ℕ) → Reached t count w 0
-reached-none t count w = λ ns old q h g. rw zero-add
+pub row-from-none : (t : List ℕ) (i : ℕ) (w : List ℕ) → i < 64 → nameSize ≤ length t → RowFrom t i w 0
+row-from-none t i w h k = record { same-from = same-none t (i * 16) _ (padded 16 w) (rw padded-length) (omega arith) }
 
-module _ (t : List ℕ) (count : ℕ) (w : List ℕ) (i : ℕ) (reached : Reached t count w i) where
-  -- row i is compared with w: the same, or another
-  module _ (k : 1024 ≤ length t) (l : i < count) (r : Bool)
-      (e : r ≡ sameBytes (slice (i * 16) (i * 16 + 16) t) (padded 16 w)) where
-    same-name : (ns : List (List ℕ)) (old : List ℕ) → length ns ≡ count → Holds ns old t → Named w
-        → sameBytes (getD ns i []) w ≡ r
-    same-name ns old q h g = sym (held-same ns old t h k i w (omega arith) g) ∙ sym e
+module _ {t : List ℕ} {i : ℕ} {w : List ℕ} {j : ℕ} (h : RowFrom t i w j) where
+  pub row-from-ends : 16 ≤ j → true ≡ sameBytes (rowAt t i) (padded 16 w)
+  row-from-ends l = same-ends (h .same-from) (rw padded-length l)
 
-    pub reached-found : r ≡ true → FoundIn t count w i
-    reached-found s = record {
-      at-most = omega arith;
-      atom-is = λ ns old q h g.
-          sym (reached ns old q h g ∙ atom-at ns w i (omega arith) (same-name ns old q h g ∙ s));
+  -- byte j is compared with x, that of the padded name
+  module _ {x : ℕ} (l : j < 16) (e : x ≡ getD w j 0) where
+    byte-is : getD (padded 16 w) j 0 ≡ x
+    byte-is = padded-at 16 w j l ∙ sym e
+
+    pub row-from-more : getD t (i * 16 + j) 0 ≡ x → RowFrom t i w (j + 1)
+    row-from-more q = record { same-from = same-more (h .same-from) (rw padded-length l) (q ∙ sym byte-is) }
+
+    pub row-from-stops : (getD t (i * 16 + j) 0 ≡ x → ⊥) → false ≡ sameBytes (rowAt t i) (padded 16 w)
+    row-from-stops q = same-stops (h .same-from) (rw padded-length l) (λ d. q (d ∙ byte-is))
+
+pub row-le : (t : List ℕ) (n : ℕ) (w : List ℕ) → rowOf t n w ≤ n
+unfolding rowOf
+row-le t n w = omega (arith, first-le n (λ i. sameBytes (rowAt t i) (padded 16 w)) 0)
+
+-- none of the first i of the n rows of t holds w
+pub record Searched (t : List ℕ) (n : ℕ) (w : List ℕ) (i : ℕ) : Type 0 where
+  pub within : i ≤ n
+  pub row-is : rowOf t n w ≡ firstFrom (n - i) (λ j. sameBytes (rowAt t j) (padded 16 w)) i
+
+pub searched-none : (t : List ℕ) (n : ℕ) (w : List ℕ) → Searched t n w 0
+unfolding rowOf
+searched-none t n w = record { within = omega arith; row-is = rw sub-zero }
+
+module _ {t : List ℕ} {n : ℕ} {w : List ℕ} {i : ℕ} (h : Searched t n w i) where
+  -- row i is compared with w
+  module _ {r : Bool} (l : i < n) (e : r ≡ sameBytes (rowAt t i) (padded 16 w)) where
+    pub searched-here : r ≡ true → i ≡ rowOf t n w
+    searched-here s = sym (h .row-is ∙ first-stops n (λ j. sameBytes (rowAt t j) (padded 16 w)) i l (sym e ∙ s))
+
+    pub searched-more : r ≡ false → Searched t n w (i + 1)
+    searched-more s = record {
+      within = omega arith;
+      row-is = h .row-is ∙ first-more n (λ j. sameBytes (rowAt t j) (padded 16 w)) i l (sym e ∙ s);
     }
 
-    pub reached-more : r ≡ false → Reached t count w (i + 1)
-    reached-more s = λ ns old q h g.
-        reached ns old q h g ∙ atom-past ns w i (omega arith) (same-name ns old q h g ∙ s)
-
-  pub reached-all : i ≡ count → FoundIn t count w count
-  reached-all e = record {
-    at-most = omega arith;
-    atom-is = λ ns old q h g. sym (reached ns old q h g ∙ atom-end ns w i (omega arith) ∙ e);
-  }
+  pub searched-all : n ≤ i → n ≡ rowOf t n w
+  searched-all l =
+      let f = first-ends n (λ j. sameBytes (rowAt t j) (padded 16 w)) i l in
+      let e = h .row-is ∙ f in
+      let k = h .within in
+      omega arith

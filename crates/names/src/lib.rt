@@ -1,24 +1,22 @@
 // Names in a table of rows of 16 bytes.
 ghost use mathlib.Core.Path.{_≡_};
-ghost use mathlib.Core.Bool.{false};
-ghost use mathlib.Core.List.{List};
-ghost use Prim.Native.Nat.{ℕ, _+_, _*_, _≤_, _<_};
+ghost use Prim.Native.Nat.{_≤_, _<_};
 ghost use lib.ListN.{length};
 ghost use lib.Seq.{slice};
+ghost use Rattle.program.specs.Case.{nameSize};
 ghost use Rattle.text.specs.Bytes.{sameBytes};
 ghost use Rattle.text.specs.Tokens.{tokens};
-ghost use Rattle.table.specs.Filled.{padded};
 ghost use Rattle.text.specs.Words.{namesIn};
+ghost use Rattle.table.specs.Filled.{padded};
 ghost use Rattle.names.specs.Names.{someLong};
-ghost use Rattle.names.specs.Held.{Named, Holds, FoundIn, Interned, LineInterned};
-use text::tokens::Next;
-use text::tokens::token;
+ghost use Rattle.names.specs.Row.{rowAt, rowOf, rows, rowsWith, rowsThrough};
+use text::name::NextName;
+use text::name::next_name;
 
 // Whether row i is the part of l from a to e, followed by zeros.
 pub fn row_is(names: &[u8], i: usize, l: &[u8], a: usize, e: usize) -> bool
-    requires { ⌜ (i < 64) × (1024 ≤ length (now names)) × (a ≤ e) × (e ≤ length (now l)) ⌝ }
-    ensures { λ r. ⌜ r ≡ sameBytes (slice (i * 16) (i * 16 + 16) (now (names .entry))) (padded 16 (slice a e
-        (now (l .entry)))) ⌝ }
+    requires { ⌜ (i < 64) × (nameSize ≤ length (now names)) × (a ≤ e) × (e ≤ length (now l)) ⌝ }
+    ensures { λ r. ⌜ r ≡ sameBytes (rowAt (now (names .entry)) i) (padded 16 (slice a e (now (l .entry)))) ⌝ }
 {
     let base = i * 16;
     let mut j = 0;
@@ -31,10 +29,10 @@ pub fn row_is(names: &[u8], i: usize, l: &[u8], a: usize, e: usize) -> bool
     true
 }
 
-// The atom whose name is the part of l from a to e, or count where none of the count names is.
+// The first of the count rows that is the part of l from a to e, or count where none is.
 pub fn find(names: &[u8], count: usize, l: &[u8], a: usize, e: usize) -> usize
-    requires { ⌜ (count ≤ 64) × (1024 ≤ length (now names)) × (a ≤ e) × (e ≤ length (now l)) ⌝ }
-    ensures { λ r. ⌜ FoundIn (now (names .entry)) count (slice a e (now (l .entry))) r ⌝ }
+    requires { ⌜ (count ≤ 64) × (nameSize ≤ length (now names)) × (a ≤ e) × (e ≤ length (now l)) ⌝ }
+    ensures { λ r. ⌜ r ≡ rowOf (now (names .entry)) count (slice a e (now (l .entry))) ⌝ }
 {
     let mut i = 0;
     while i < count {
@@ -49,9 +47,9 @@ pub fn find(names: &[u8], count: usize, l: &[u8], a: usize, e: usize) -> usize
 // Adds the part of l from a to e to the count names, unless it is one; answers how many there are, 65 where there is no
 // room.
 pub fn intern(names: &mut [u8], count: usize, l: &[u8], a: usize, e: usize) -> usize
-    requires { ⌜ (count ≤ 64) × (1024 ≤ length (now names)) × (a ≤ e) × (e ≤ length (now l)) ⌝ }
-    ensures { λ r. ⌜ ((ns : List (List ℕ)) (old : List ℕ) → length ns ≡ count → Holds ns old (now (names .entry))
-        → Named (slice a e (now (l .entry))) → Interned ns old (slice a e (now (l .entry))) r (now (names .exit))) ⌝ }
+    requires { ⌜ (count ≤ 64) × (nameSize ≤ length (now names)) × (a ≤ e) × (e ≤ length (now l)) ⌝ }
+    ensures { λ r. ⌜ rows r (now (names .exit))
+        ≡ rowsWith (rows count (now (names .entry))) (slice a e (now (l .entry))) ⌝ }
 {
     let i = find(names, count, l, a, e);
     if i < count {
@@ -64,41 +62,23 @@ pub fn intern(names: &mut [u8], count: usize, l: &[u8], a: usize, e: usize) -> u
     count + 1
 }
 
-// Adds the names of a line to the count names; answers how many there are, over 64 where there is no room.
+// Adds the names of a line to the count names; answers how many there are, 65 where there is no room.
 pub fn intern_line(l: &[u8], names: &mut [u8], count: usize) -> usize
-    requires { ⌜ (count ≤ 64) × (1024 ≤ length (now names)) ⌝ }
-    ensures { λ r. ⌜ ((ns : List (List ℕ)) (old : List ℕ) → length ns ≡ count → Holds ns old (now (names .entry))
-        → someLong (namesIn (tokens (now (l .entry)))) ≡ false
-        → LineInterned ns (namesIn (tokens (now (l .entry)))) old r (now (names .exit))) ⌝ }
+    requires { ⌜ (count ≤ 64) × (nameSize ≤ length (now names)) ⌝ }
+    ensures { λ r. ⌜ rows r (now (names .exit))
+        ≡ rowsThrough (rows count (now (names .entry))) (namesIn (tokens (now (l .entry)))) ⌝ }
 {
     let mut at = 0;
     let mut n = count;
-    let mut opened = false;
     loop {
-        match token(l, at) {
-            Next::End => {
-                return n;
-            }
-            Next::Open(i) => {
-                opened = true;
-                at = i;
-            }
-            Next::Close(i) => {
-                opened = false;
-                at = i;
-            }
-            Next::Word(a, e) => {
-                if opened {
-                    opened = false;
-                } else {
-                    n = intern(names, n, l, a, e);
-                    if 64 < n {
-                        return n;
-                    }
-                }
-                at = e;
-            }
+        let NextName::Name(a, e) = next_name(l, at) else {
+            return n;
+        };
+        n = intern(names, n, l, a, e);
+        if 64 < n {
+            return n;
         }
+        at = e;
     }
 }
 
@@ -107,30 +87,13 @@ pub fn some_long(l: &[u8]) -> bool
     ensures { λ r. ⌜ r ≡ someLong (namesIn (tokens (now (l .entry)))) ⌝ }
 {
     let mut at = 0;
-    let mut opened = false;
     loop {
-        match token(l, at) {
-            Next::End => {
-                return false;
-            }
-            Next::Open(i) => {
-                opened = true;
-                at = i;
-            }
-            Next::Close(i) => {
-                opened = false;
-                at = i;
-            }
-            Next::Word(a, e) => {
-                if opened {
-                    opened = false;
-                } else {
-                    if 16 < e - a {
-                        return true;
-                    }
-                }
-                at = e;
-            }
+        let NextName::Name(a, e) = next_name(l, at) else {
+            return false;
+        };
+        if 16 < e - a {
+            return true;
         }
+        at = e;
     }
 }

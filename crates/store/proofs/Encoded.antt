@@ -1,4 +1,4 @@
--- Laws of formulas by atom numbers: their nodes, their depth and the atoms they are over. Assumes nothing.
+-- Laws of formulas by a lookup of names: their nodes, their depth and the atoms they are over. Assumes nothing.
 use mathlib.Core.Path.{_≡_, refl, ap, _∙_}
 use mathlib.Core.Bool.{true}
 use mathlib.Core.List.{List}
@@ -9,38 +9,42 @@ use borrow.Author.Tests.{lt-ltb}
 use Rattle.logic.specs.Formula.{depth, over}
 use Rattle.logic.specs.Nodes.{nodes, joined}
 use Rattle.logic.proofs.Spelling.{joined-over, joined-depth}
-use Rattle.formulas.specs.Sentence.{Sentence}
+use Rattle.text.proofs.Each.{Each, each-split}
+use Rattle.formulas.specs.Sentence.{Sentence, sentenceNames, depthOf}
 use Rattle.formulas.specs.Parsing.{sizeOf}
-use Rattle.formulas.specs.Sentence.{depthOf}
-use Rattle.formulas.proofs.Sentences.{EachName}
 use Rattle.names.specs.Names.{atomOf}
-use Rattle.store.specs.Saying.{encoded}
+use Rattle.store.specs.Saying.{encodedBy}
 use Rattle.store.proofs.Formulas.{joined-length}
 
--- the name is one of ns
+-- the name is found below n; it is one of ns
+abbrev pub Below : (List ℕ → ℕ) → ℕ → List ℕ → Type 0
+Below at n w = at w < n
+
 abbrev pub Known : List (List ℕ) → List ℕ → Type 0
-Known ns w = atomOf ns w < length ns
+Known ns w = Below (atomOf ns) (length ns) w
 
--- the formula has a node for each name and each form
-pub encoded-length : (ns : List (List ℕ)) (f : Sentence) → length (nodes (encoded ns f)) ≡ sizeOf f
-unfolding encoded sizeOf nodes
-encoded-length ns (Sentence.name w) = refl
-encoded-length ns (Sentence.negation f) = ap suc (encoded-length ns f) ∙ omega arith
-encoded-length ns (Sentence.joined k f g) =
-    rw (joined-length (k - 65) (encoded ns f) (encoded ns g), encoded-length ns f, encoded-length ns g)
+module _ (at : List ℕ → ℕ) where
+  -- the formula has a node for each name and each form
+  pub encoded-length : (f : Sentence) → length (nodes (encodedBy at f)) ≡ sizeOf f
+  unfolding encodedBy sizeOf nodes
+  encoded-length (Sentence.name w) = refl
+  encoded-length (Sentence.negation f) = ap suc (encoded-length f) ∙ omega arith
+  encoded-length (Sentence.joined k f g) =
+      rw (joined-length (k - 65) (encodedBy at f) (encodedBy at g), encoded-length f, encoded-length g)
 
-pub encoded-depth : (ns : List (List ℕ)) (f : Sentence) → depth (encoded ns f) ≡ depthOf f
-unfolding encoded depthOf depth
-encoded-depth ns (Sentence.name w) = refl
-encoded-depth ns (Sentence.negation f) = rw (encoded-depth ns f)
-encoded-depth ns (Sentence.joined k f g) =
-    rw (joined-depth (k - 65) (encoded ns f) (encoded ns g), encoded-depth ns f, encoded-depth ns g)
+  pub encoded-depth : (f : Sentence) → depth (encodedBy at f) ≡ depthOf f
+  unfolding encodedBy depthOf depth
+  encoded-depth (Sentence.name w) = refl
+  encoded-depth (Sentence.negation f) = rw (encoded-depth f)
+  encoded-depth (Sentence.joined k f g) =
+      rw (joined-depth (k - 65) (encodedBy at f) (encodedBy at g), encoded-depth f, encoded-depth g)
 
--- where each name is found, its atom is one of them
-pub encoded-over : (ns : List (List ℕ)) (f : Sentence) → EachName (Known ns) f → over (length ns) (encoded ns f) ≡ true
-unfolding encoded over
-encoded-over ns (Sentence.name w) h = lt-ltb (atomOf ns w) (length ns) h
-encoded-over ns (Sentence.negation f) h = encoded-over ns f h
-encoded-over ns (Sentence.joined k f g) h =
-    let e = joined-over (length ns) (k - 65) (encoded ns f) (encoded ns g) in
-    rw (e, encoded-over ns f (h .0), encoded-over ns g (h .1))
+  -- where each name is found below n, its atom is
+  pub encoded-over : (n : ℕ) (f : Sentence) → Each (Below at n) (sentenceNames f) → over n (encodedBy at f) ≡ true
+  unfolding encodedBy over sentenceNames
+  encoded-over n (Sentence.name w) h = lt-ltb (at w) n (h .0)
+  encoded-over n (Sentence.negation f) h = encoded-over n f h
+  encoded-over n (Sentence.joined k f g) h =
+      let d = each-split (Below at n) (sentenceNames f) (sentenceNames g) h in
+      let e = joined-over n (k - 65) (encodedBy at f) (encodedBy at g) in
+      rw (e, encoded-over n f (d .0), encoded-over n g (d .1))

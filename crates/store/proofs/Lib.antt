@@ -1,21 +1,21 @@
 -- The laws of this crate, a file for each notion.
+-- Lent: the four tables filled in their sizes.
 -- Formulas: the atoms of a formula, and the nodes of a form.
--- Encoded: formulas by atom numbers.
+-- Encoded: formulas by a lookup of names.
 -- Literals: the words of literals.
--- Renaming: literals and formulas by more names.
--- Forms: the checks of a form found in a line.
--- StoringMasks: the words of the atoms of literals.
--- StoringNodes: the nodes of formulas.
--- TakingRows: one clause, constraint or query more in the words of a table.
--- TakingHeld: tables that hold what was read with one row, reading, query or name more.
--- TakingForms: what storing a form of a line leaves, for each kind of line.
+-- Lookups: lookups that agree.
+-- MaskLaws: the atoms of literals, added one after the other.
+-- NodeLaws: the nodes of formulas, in a line and in a table.
+-- Rows: one clause, constraint or query more in the words of a table.
+-- Held: tables that hold what was read with one row, reading, query or name more.
+-- Stored: what storing a form of a line leaves, for each kind of line.
+pub mod Lent
 pub mod Formulas
 pub mod Encoded
 pub mod Literals
-pub mod Renaming
-pub mod Forms
-pub mod StoringMasks
-pub mod StoringNodes
-pub mod TakingRows
-pub mod TakingHeld
-pub mod TakingForms
+pub mod Lookups
+pub mod MaskLaws
+pub mod NodeLaws
+pub mod Rows
+pub mod Held
+pub mod Stored

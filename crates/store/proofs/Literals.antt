@@ -1,4 +1,4 @@
--- Laws of the words that hold the atoms of literals: their bits name one of the atoms, and one literal gives a bit.
+-- Laws of the words that hold the atoms of literals: their bits are below a number, and one literal gives a bit.
 -- Assumes nothing.
 use mathlib.Core.Path.{_≡_, refl, sym, _∙_}
 use mathlib.Core.Bool.{Bool, true, false, not, _&&_, and-false, false≢true}
@@ -8,25 +8,18 @@ use native.Mathlib.Omega.{arith}
 use lib.Dec.{eqb}
 use lib.Pow.{pow-pos}
 use borrow.Author.Tests.{eq-eqb, ne-eqb}
-use lib.ListN.{length}
-use Rattle.words.specs.Choice.{pick}
 use Rattle.words.specs.Bits.{has, word}
 use Rattle.words.proofs.Bits.{has-zero, has-above}
 use Rattle.words.proofs.Words.{word-lt, has-word, is-word, lt-of-bits}
 use Rattle.program.specs.Sound.{bare}
-use Rattle.grammar.specs.Line.{Literal}
-use Rattle.grammar.proofs.Names.{EachLiteral}
-use Rattle.grammar.proofs.Shapes.{Bodied}
-use Rattle.names.specs.Names.{atomOf}
-use Rattle.store.specs.Saying.{someOn, plainAtoms, negatedAtoms, orAtoms}
-use Rattle.store.proofs.Encoded.{Known}
-
--- the literal is on atom a, with or without negation as b says
-abbrev pub isOn : List (List ℕ) → Bool → ℕ → Literal → Bool
-isOn ns b a (Literal.literal n w) = pick b n (not n) && eqb (atomOf ns w) a
+use Rattle.text.proofs.Each.{Each}
+use Rattle.grammar.specs.Line.{Literal, bodyNames}
+use Rattle.grammar.proofs.LineLaws.{Bodied}
+use Rattle.store.specs.Saying.{someOn, atomsBy, orAtoms}
+use Rattle.store.proofs.Encoded.{Below}
 
 -- a word whose bits are all below n
-pub word-below : (p : ℕ → Bool) (n : ℕ) → n ≤ 64 → ((a : ℕ) → n ≤ a → p a ≡ false) → word 64 p < 2 ^ n
+word-below : (p : ℕ → Bool) (n : ℕ) → n ≤ 64 → ((a : ℕ) → n ≤ a → p a ≡ false) → word 64 p < 2 ^ n
 word-below p n h f = lt-of-bits 64 n (word 64 p) h (word-lt 64 p) (λ i l k. has-word 64 p i k ∙ f i l)
 
 pub or-atoms-lt : (n v w : ℕ) → n ≤ 64 → v < 2 ^ n → w < 2 ^ n → orAtoms v w < 2 ^ n
@@ -37,52 +30,43 @@ or-atoms-lt n v w h k l =
 has-not-zero : (w a : ℕ) → has w a ≡ true → eqb w 0 ≡ false
 has-not-zero w a h = ne-eqb w 0 (λ e. false≢true (sym (has-zero a) ∙ rw e at h))
 
--- the literals ls, with (b) or without negation, by the names ns
-module _ (ns : List (List ℕ)) where
-  on-none : (b n : Bool) (w : List ℕ) (a : ℕ) → Known ns w → length ns ≤ a → isOn ns b a (Literal.literal n w) ≡ false
-  on-none true n w a h k = rw (ne-eqb (atomOf ns w) a (λ e. omega arith)) (and-false n)
-  on-none false n w a h k = rw (ne-eqb (atomOf ns w) a (λ e. omega arith)) (and-false (not n))
-
-  some-on-none : (b : Bool) (l : List Literal) (a : ℕ) → EachLiteral (Known ns) l → length ns ≤ a
-      → someOn ns b l a ≡ false
+-- literals whose names are found below n
+module _ (at : List ℕ → ℕ) (n : ℕ) where
+  some-on-none : (b : Bool) (l : List Literal) (a : ℕ) → Each (Below at n) (bodyNames l) → n ≤ a
+      → someOn at b l a ≡ false
   unfolding someOn
   some-on-none b [] a h k = refl
-  some-on-none b (Literal.literal n w ∷ l) a h k = rw (on-none b n w a (h .0) k) (some-on-none b l a (h .1) k)
+  some-on-none true (Literal.literal m w ∷ l) a h k =
+      rw (ne-eqb (at w) a (λ e. omega arith), and-false m) (some-on-none true l a (h .1) k)
+  some-on-none false (Literal.literal m w ∷ l) a h k =
+      rw (ne-eqb (at w) a (λ e. omega arith), and-false (not m)) (some-on-none false l a (h .1) k)
 
-  module _ (l : List Literal) (h : length ns ≤ 64) (k : EachLiteral (Known ns) l) where
-    pub plain-lt : plainAtoms ns l < 2 ^ length ns
-    unfolding plainAtoms
-    plain-lt = word-below (someOn ns false l) (length ns) h (λ a. some-on-none false l a k)
-
-    pub negated-lt : negatedAtoms ns l < 2 ^ length ns
-    unfolding negatedAtoms
-    negated-lt = word-below (someOn ns true l) (length ns) h (λ a. some-on-none true l a k)
+  pub atoms-lt : (b : Bool) (l : List Literal) → n ≤ 64 → Each (Below at n) (bodyNames l) → atomsBy at b l < 2 ^ n
+  unfolding atomsBy
+  atoms-lt b l h k = word-below (someOn at b l) n h (λ a. some-on-none b l a k)
 
   -- no literal gives no bit
-  none-zero : (b : Bool) → word 64 (someOn ns b []) ≡ 0
-  unfolding someOn
-  none-zero b = sym (is-word 64 0 (someOn ns b []) (pow-pos 64) (λ i _. has-zero i))
+  pub atoms-none : (b : Bool) → atomsBy at b [] ≡ 0
+  unfolding atomsBy someOn
+  atoms-none b = sym (is-word 64 0 (someOn at b []) (pow-pos 64) (λ i _. has-zero i))
 
-  pub none-bare : bare (plainAtoms ns []) (negatedAtoms ns []) ≡ true
-  unfolding plainAtoms negatedAtoms
-  none-bare = rw (none-zero false, none-zero true)
+  pub none-bare : bare (atomsBy at false []) (atomsBy at true []) ≡ true
+  none-bare = rw (atoms-none false, atoms-none true)
 
   -- the first literal gives a bit
-  some-not-zero : (b : Bool) (w : List ℕ) (l : List Literal) → length ns ≤ 64 → Known ns w
-      → isOn ns b (atomOf ns w) (Literal.literal b w) ≡ true
-      → eqb (word 64 (someOn ns b (Literal.literal b w ∷ l))) 0 ≡ false
-  unfolding someOn
+  some-not-zero : (b : Bool) (w : List ℕ) (l : List Literal) → n ≤ 64 → at w < n
+      → someOn at b (Literal.literal b w ∷ l) (at w) ≡ true → eqb (atomsBy at b (Literal.literal b w ∷ l)) 0 ≡ false
+  unfolding atomsBy
   some-not-zero b w l h k e =
-      let p : ℕ → Bool = someOn ns b (Literal.literal b w ∷ l) in
-      has-not-zero (word 64 p) (atomOf ns w) (has-word 64 p (atomOf ns w) (omega arith) ∙ rw e)
+      let p : ℕ → Bool = someOn at b (Literal.literal b w ∷ l) in
+      has-not-zero (word 64 p) (at w) (has-word 64 p (at w) (omega arith) ∙ e)
 
-  pub body-not-bare : (l : List Literal) → length ns ≤ 64 → Bodied l → EachLiteral (Known ns) l
-      → bare (plainAtoms ns l) (negatedAtoms ns l) ≡ false
-  unfolding plainAtoms negatedAtoms
+  pub body-not-bare : (l : List Literal) → n ≤ 64 → Bodied l → Each (Below at n) (bodyNames l)
+      → bare (atomsBy at false l) (atomsBy at true l) ≡ false
+  unfolding someOn
   body-not-bare [] h b k = absurd b
   body-not-bare (Literal.literal true w ∷ l) h b k =
-      let e = some-not-zero true w l h (k .0) (eq-eqb (atomOf ns w) (atomOf ns w) refl) in
-      rw (e, and-false (eqb (plainAtoms ns (Literal.literal true w ∷ l)) 0))
+      let e = some-not-zero true w l h (k .0) (rw (eq-eqb (at w) (at w) refl)) in
+      rw (e, and-false (eqb (atomsBy at false (Literal.literal true w ∷ l)) 0))
   body-not-bare (Literal.literal false w ∷ l) h b k =
-      let e = some-not-zero false w l h (k .0) (eq-eqb (atomOf ns w) (atomOf ns w) refl) in
-      rw e
+      rw (some-not-zero false w l h (k .0) (rw (eq-eqb (at w) (at w) refl)))

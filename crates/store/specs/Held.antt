@@ -1,26 +1,26 @@
 -- Tables that hold what was read so far.
 --
---   Long t               the tables t have their full sizes
---   Limits st            st is within the limits
---   Held st c old t      the record c and the tables t hold st, over the tables old
---   Spoilt old t         the tables t are old but for the entries within their sizes
+--   Long t           the tables t have their full sizes
+--   Limits st        st is within the limits
+--   InLimits c       the counts of the record c are within the limits
+--   Held st c t      the record c and the tables t hold st
+--   Kept t u         the tables u are t but for the entries within their sizes
 use mathlib.Core.Path.{_≡_}
-use mathlib.Core.List.{List}
-use Prim.Native.Nat.{ℕ, _≤_}
+use Prim.Native.Nat.{_≤_}
 use lib.ListN.{length}
 use Rattle.program.specs.declared.case.Case.{Case}
-use Rattle.table.specs.Filled.{filled}
-use Rattle.names.specs.Held.{Holds}
-use Rattle.store.specs.Lent.{Lent}
+use Rattle.program.specs.Case.{clauseSize, constraintSize, formulaSize, nameSize}
+use Rattle.names.specs.Held.{AllNamed}
+use Rattle.store.specs.Lent.{Lent, filledWith}
 use Rattle.store.specs.Saying.{Said}
-use Rattle.store.specs.Tables.{clauseWords, constraintWords, formulaNodes, caseSaid}
+use Rattle.store.specs.Tables.{formulaNodes, wordsOf, caseSaid}
 
 -- the tables have their full sizes
 pub record Long (t : Lent) : Type 0 where
-  pub clauses-long : 768 ≤ length (t .clauses)
-  pub constraints-long : 64 ≤ length (t .constraints)
-  pub formula-long : 128 ≤ length (t .formula)
-  pub names-long : 1024 ≤ length (t .names)
+  pub clauses-long : clauseSize ≤ length (t .clauses)
+  pub constraints-long : constraintSize ≤ length (t .constraints)
+  pub formula-long : formulaSize ≤ length (t .formula)
+  pub names-long : nameSize ≤ length (t .names)
 
 -- what was read is within the limits; a query has nodes and names an atom
 pub record Limits (st : Said) : Type 0 where
@@ -31,21 +31,19 @@ pub record Limits (st : Said) : Type 0 where
   pub query-nodes : length (st .queries) ≤ length (formulaNodes (st .queries))
   pub query-atoms : length (st .queries) ≤ length (st .names)
 
-pub record Held (st : Said) (c : Case) (old t : Lent) : Type 0 where
+pub record InLimits (c : Case) : Type 0 where
+  pub atoms-few : c .atoms ≤ 64
+  pub clauses-few : c .clauses ≤ 256
+  pub constraints-few : c .constraints ≤ 32
+  pub nodes-few : c .nodes ≤ 128
+
+-- the tables have the words of st and zeros in their sizes, whatever is behind them
+pub record Held (st : Said) (c : Case) (t : Lent) : Type 0 where
   pub limits : Limits st
   pub case-is : c ≡ caseSaid st
-  pub names-held : Holds (st .names) (old .names) (t .names)
-  pub clauses-are : t .clauses ≡ filled 768 (clauseWords (st .clauses)) (old .clauses)
-  pub constraints-are : t .constraints ≡ filled 64 (constraintWords (st .constraints)) (old .constraints)
-  pub formula-is : t .formula ≡ filled 128 (formulaNodes (st .queries)) (old .formula)
+  pub all-named : AllNamed (st .names)
+  pub few-names : length (st .names) ≤ 64
+  pub tables-are : t ≡ filledWith (wordsOf st) t
 
--- the first n entries of a table are of no interest
-pub record SpoiltBy (n : ℕ) (old t : List ℕ) : Type 0 where
-  pub entries : List ℕ
-  pub table-is : t ≡ filled n entries old
-
-pub record Spoilt (old t : Lent) : Type 0 where
-  pub clauses-spoilt : SpoiltBy 768 (old .clauses) (t .clauses)
-  pub constraints-spoilt : SpoiltBy 64 (old .constraints) (t .constraints)
-  pub formula-spoilt : SpoiltBy 128 (old .formula) (t .formula)
-  pub names-spoilt : SpoiltBy 1024 (old .names) (t .names)
+abbrev pub Kept : Lent → Lent → Type 0
+Kept t u = u ≡ filledWith u t

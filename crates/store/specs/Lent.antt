@@ -1,7 +1,12 @@
 -- The four tables lent to reading.
 -- From: document 01, "Case tables and sound cases".
+--
+--   lent cl co fo na    the tables of clauses, constraints, nodes and names
+--   filledWith w t      each table of t, in its size, filled with that of w
 use mathlib.Core.List.{List}
 use Prim.Native.Nat.{ℕ}
+use Rattle.program.specs.Case.{clauseSize, constraintSize, formulaSize, nameSize}
+use Rattle.table.specs.Filled.{filled}
 
 pub record Lent : Type 0 where
   pub clauses : List ℕ
@@ -11,3 +16,8 @@ pub record Lent : Type 0 where
 
 abbrev pub lent : List ℕ → List ℕ → List ℕ → List ℕ → Lent
 lent cl co fo na = record { clauses = cl; constraints = co; formula = fo; names = na }
+
+abbrev pub filledWith : Lent → Lent → Lent
+filledWith w t =
+    lent (filled clauseSize (w .clauses) (t .clauses)) (filled constraintSize (w .constraints) (t .constraints))
+    (filled formulaSize (w .formula) (t .formula)) (filled nameSize (w .names) (t .names))

@@ -1,14 +1,14 @@
 -- In reading order.
 -- Lent: the four lent tables.
 -- Saying: what a file says so far: names, clauses, constraints, observed literals, queries.
--- Checking: the checks of a line's form.
 -- Tables: the record and the words that hold what was read.
 -- Held: tables that hold what was read so far.
--- Storing, Taking: what the code's steps keep.
+-- Masks, Nodes: the atoms of literals and the nodes of a formula, by a lookup of names.
+-- Stored: what storing a form of a line leaves.
 pub mod Lent
 pub mod Saying
-pub mod Checking
 pub mod Tables
 pub mod Held
-pub mod Storing
-pub mod Taking
+pub mod Masks
+pub mod Nodes
+pub mod Stored

@@ -3,9 +3,10 @@
 --
 --   Said               what was read so far; plain and negated are the observed atoms, bit i for atom i
 --   nothingSaid        what was read before the first line; renamed and with.. are st with a part exchanged
---   plainAtoms ns ls   the atoms of the plain literals of ls, bit i for atom i; a literal repeated counts once
---   negatedAtoms       the same of the negated ones
---   encoded ns f       the formula f with the names' atoms
+--   someOn at b ls a   some literal of ls is on atom a, by the lookup at
+--   atomsBy at b ls    the atoms of the negated (b) or plain literals of ls, bit i for atom i; one repeated counts once
+--   plainAtoms ns ls   the atoms of the plain literals of ls, by the names ns; negatedAtoms those of the negated ones
+--   encodedBy at f     the formula f with the names' atoms by the lookup at; encoded ns f by the names ns
 --   saidBy st x        st, which has the names of the line x already, with what x says
 use mathlib.Core.Bool.{Bool, true, false, not, _&&_, _||_}
 use mathlib.Core.List.{List, [], _∷_, _++_}
@@ -47,20 +48,26 @@ abbrev pub nothingSaid : Said
 nothingSaid = said [] [] [] 0 0 []
 
 -- some literal of l is on atom a, negated where b holds and plain otherwise
-unfoldable pub someOn : List (List ℕ) → Bool → List Literal → ℕ → Bool
-someOn ns b [] a = false
-someOn ns b (Literal.literal n w ∷ l) a = (pick b n (not n) && eqb (atomOf ns w) a) || someOn ns b l a
+unfoldable pub someOn : (List ℕ → ℕ) → Bool → List Literal → ℕ → Bool
+someOn at b [] a = false
+someOn at b (Literal.literal n w ∷ l) a = (pick b n (not n) && eqb (at w) a) || someOn at b l a
 
-unfoldable pub plainAtoms : List (List ℕ) → List Literal → ℕ
-plainAtoms ns l = word 64 (someOn ns false l)
+unfoldable pub atomsBy : (List ℕ → ℕ) → Bool → List Literal → ℕ
+atomsBy at b l = word 64 (someOn at b l)
 
-unfoldable pub negatedAtoms : List (List ℕ) → List Literal → ℕ
-negatedAtoms ns l = word 64 (someOn ns true l)
+abbrev pub plainAtoms : List (List ℕ) → List Literal → ℕ
+plainAtoms ns l = atomsBy (atomOf ns) false l
 
-unfoldable pub encoded : List (List ℕ) → Sentence → Formula
-encoded ns (Sentence.name w) = Formula.atom (atomOf ns w)
-encoded ns (Sentence.negation f) = Formula.negation (encoded ns f)
-encoded ns (Sentence.joined k f g) = joined (k - 65) (encoded ns f) (encoded ns g)
+abbrev pub negatedAtoms : List (List ℕ) → List Literal → ℕ
+negatedAtoms ns l = atomsBy (atomOf ns) true l
+
+unfoldable pub encodedBy : (List ℕ → ℕ) → Sentence → Formula
+encodedBy at (Sentence.name w) = Formula.atom (at w)
+encodedBy at (Sentence.negation f) = Formula.negation (encodedBy at f)
+encodedBy at (Sentence.joined k f g) = joined (k - 65) (encodedBy at f) (encodedBy at g)
+
+abbrev pub encoded : List (List ℕ) → Sentence → Formula
+encoded ns f = encodedBy (atomOf ns) f
 
 abbrev pub clauseRow : List (List ℕ) → ℕ → List ℕ → List Literal → ClauseRow
 clauseRow ns k w l = record { head = atomOf ns w; kind = k; plain = plainAtoms ns l; negated = negatedAtoms ns l }

@@ -4,13 +4,16 @@
 --   clauseWords cs       the words of clauses: three each
 --   constraintWords cs   the words of constraints: two each
 --   formulaNodes fs      the nodes of formulas
---   caseWith ..          a record by its parts; caseSaid st the record of what was read
+--   wordsOf st           the four tables' words for what was read
+--   caseWith ..          a record by its parts; caseSaid st the record of what was read, noCase that of zeros
 use mathlib.Core.List.{List, [], _∷_, _++_}
 use Prim.Native.Nat.{ℕ, _+_, _*_}
 use lib.ListN.{length}
 use Rattle.logic.specs.Formula.{Formula}
 use Rattle.logic.specs.Nodes.{nodes}
 use Rattle.program.specs.declared.case.Case.{Case}
+use Rattle.names.specs.Names.{rowsOf}
+use Rattle.store.specs.Lent.{Lent, lent}
 use Rattle.store.specs.Saying.{Said, ClauseRow, ConstraintRow}
 
 -- three words a clause
@@ -28,6 +31,11 @@ unfoldable pub formulaNodes : List Formula → List ℕ
 formulaNodes [] = []
 formulaNodes (f ∷ fs) = nodes f ++ formulaNodes fs
 
+abbrev pub wordsOf : Said → Lent
+wordsOf st =
+    lent (clauseWords (st .clauses)) (constraintWords (st .constraints)) (formulaNodes (st .queries))
+    (rowsOf (st .names))
+
 -- a record by its parts
 abbrev pub caseWith : ℕ → ℕ → ℕ → ℕ → ℕ → ℕ → Case
 caseWith a c d n p q = record { atoms = a; clauses = c; constraints = d; nodes = n; plain = p; negated = q }
@@ -36,3 +44,6 @@ abbrev pub caseSaid : Said → Case
 caseSaid st =
     caseWith (length (st .names)) (length (st .clauses)) (length (st .constraints))
     (length (formulaNodes (st .queries))) (st .plain) (st .negated)
+
+abbrev pub noCase : Case
+noCase = caseWith 0 0 0 0 0 0

@@ -1,4 +1,4 @@
 // Storing what a line says, by atom numbers.
-pub mod check;
 pub mod form;
-pub mod store;
+pub mod masks;
+pub mod nodes;

@@ -1,16 +1,21 @@
--- Laws of tables whose first entries are filled, and of padded rows; and a loop that zeroes a table's first entries.
--- Assumes nothing.
+-- Laws of tables whose first entries are filled, and of padded rows. Assumes nothing.
 use mathlib.Core.Path.{_≡_, refl, sym, ap, _∙_}
 use mathlib.Core.List.{List, [], _∷_, _++_, append-assoc, append-nil}
 use Prim.Native.Nat.{ℕ, zero, suc, _+_, _-_, _≤_, _<_}
-use native.Mathlib.Nat.{not-suc-le-zero, le-of-suc-le-suc, le-antisymm, suc-add, zero-add}
+use native.Mathlib.Nat.{not-suc-le-zero, le-of-suc-le-suc, suc-add, zero-add}
 use native.Mathlib.Numerals.{add-one}
 use native.Mathlib.Omega.{arith}
-use lib.ListN.{length, take, drop, getD, set, length-append, length-set}
-use lib.Seq.{sets, take-all}
+use lib.ListN.{length, take, drop, getD, set, length-append}
+use lib.Seq.{sets, take-all, take-at}
 use Rattle.table.specs.Filled.{filled, padded}
 
--- filled
+-- filled, and the length of what is padded
+
+pub padded-length : (n : ℕ) (l : List ℕ) → length (padded n l) ≡ n
+unfolding padded
+padded-length zero l = refl
+padded-length (suc n) [] = ap suc (padded-length n [])
+padded-length (suc n) (x ∷ l) = ap suc (padded-length n l)
 
 pub filled-length : (n : ℕ) (l old : List ℕ) → length (filled n l old) ≡ length old
 unfolding filled
@@ -55,12 +60,16 @@ filled-at (suc n) [] (o ∷ old) (suc i) h k = filled-at n [] old i (le-of-suc-l
 filled-at (suc n) (x ∷ l) (o ∷ old) zero h k = refl
 filled-at (suc n) (x ∷ l) (o ∷ old) (suc i) h k = filled-at n l old i (le-of-suc-le-suc h) (le-of-suc-le-suc k)
 
-pub filled-take : (n : ℕ) (l old : List ℕ) → n ≤ length old → take n (filled n l old) ≡ padded n l
+-- what is filled, and what is kept behind it
+pub filled-parts : (n : ℕ) (l old : List ℕ) → n ≤ length old → filled n l old ≡ padded n l ++ drop n old
 unfolding filled padded
-filled-take zero l old h = refl
-filled-take (suc n) l [] h = absurd (not-suc-le-zero h)
-filled-take (suc n) [] (o ∷ old) h = rw (filled-take n [] old (le-of-suc-le-suc h))
-filled-take (suc n) (x ∷ l) (o ∷ old) h = rw (filled-take n l old (le-of-suc-le-suc h))
+filled-parts zero l old h = refl
+filled-parts (suc n) l [] h = absurd (not-suc-le-zero h)
+filled-parts (suc n) [] (o ∷ old) h = rw (filled-parts n [] old (le-of-suc-le-suc h))
+filled-parts (suc n) (x ∷ l) (o ∷ old) h = rw (filled-parts n l old (le-of-suc-le-suc h))
+
+pub filled-take : (n : ℕ) (l old : List ℕ) → n ≤ length old → take n (filled n l old) ≡ padded n l
+filled-take n l old h = rw (filled-parts n l old h) (take-at (padded n l) (drop n old) n (padded-length n l))
 
 -- a table that is lent with exactly its size
 pub filled-exact : (n : ℕ) (l old : List ℕ) → length old ≡ n → filled n l old ≡ padded n l
@@ -77,12 +86,6 @@ filled-drop (suc n) [] (o ∷ old) = filled-drop n [] old
 filled-drop (suc n) (x ∷ l) (o ∷ old) = filled-drop n l old
 
 -- padded
-
-pub padded-length : (n : ℕ) (l : List ℕ) → length (padded n l) ≡ n
-unfolding padded
-padded-length zero l = refl
-padded-length (suc n) [] = ap suc (padded-length n [])
-padded-length (suc n) (x ∷ l) = ap suc (padded-length n l)
 
 pub padded-at : (n : ℕ) (l : List ℕ) (i : ℕ) → i < n → getD (padded n l) i 0 ≡ getD l i 0
 unfolding padded
@@ -103,14 +106,6 @@ unfolding padded
 padded-first zero = refl
 padded-first (suc n) = refl
 
-padded-own : (l : List ℕ) → padded (length l) l ≡ l
-unfolding padded
-padded-own [] = refl
-padded-own (x ∷ l) = rw (padded-own l)
-
-pub padded-full : (n : ℕ) (l : List ℕ) → length l ≡ n → padded n l ≡ l
-padded-full n l h = rw (← h) (padded-own l)
-
 padded-behind : (n : ℕ) (l m : List ℕ) → padded (length l + n) (l ++ m) ≡ l ++ padded n m
 unfolding padded
 padded-behind n [] m = rw (zero-add n)
@@ -124,26 +119,3 @@ pub padded-split : (n : ℕ) (l : List ℕ) → length l ≤ n → padded n l �
 padded-split n l h =
     let e : length l + (n - length l) ≡ n = omega arith in
     rw (e, append-nil) at (padded-behind (n - length l) l [])
-
--- one entry more is zeroed
-pub filled-zero : (n : ℕ) (old : List ℕ) → n < length old → set (filled n [] old) n 0 ≡ filled (suc n) [] old
-unfolding filled
-filled-zero n [] h = absurd (not-suc-le-zero h)
-filled-zero zero (o ∷ old) h = refl
-filled-zero (suc n) (o ∷ old) h = rw (filled-zero n old (le-of-suc-le-suc h))
-
--- the table t when a loop has zeroed the first i of n entries of t₀: at its start, after a turn and at its end
-abbrev pub Zeroed : List ℕ → ℕ → List ℕ → ℕ → Type 0
-Zeroed t₀ n t i = (i ≤ n) × (length t ≡ length t₀) × (t ≡ filled i [] t₀)
-
-pub zeroed-none : (t₀ : List ℕ) (n : ℕ) → Zeroed t₀ n t₀ 0
-unfolding filled
-zeroed-none t₀ n = (omega arith, refl, refl)
-
-pub zeroed-more : (t₀ : List ℕ) (n : ℕ) (t : List ℕ) (i : ℕ) → i < n → n ≤ length t₀ → Zeroed t₀ n t i
-    → Zeroed t₀ n (set t i 0) (i + 1)
-zeroed-more t₀ n t i h k (b, l, e) =
-    (omega arith, simp length-set l, rw (e, add-one) (filled-zero i t₀ (omega arith)))
-
-pub zeroed-all : (t₀ : List ℕ) (n : ℕ) (t : List ℕ) (i : ℕ) → n ≤ i → Zeroed t₀ n t i → t ≡ filled n [] t₀
-zeroed-all t₀ n t i h (b, l, e) = e ∙ ap (λ k. filled k [] t₀) (le-antisymm b h)

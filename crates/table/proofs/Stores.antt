@@ -1,13 +1,15 @@
--- Laws of the list that stores one behind the other leave, for straight stores and for a loop that stores a list.
+-- Laws of the list that stores one behind the other leave, for straight stores and for loops that store a list or a row.
 -- Assumes nothing.
-use mathlib.Core.Path.{_≡_, _∙_}
+use mathlib.Core.Path.{_≡_, refl, sym, _∙_}
 use mathlib.Core.List.{List, [], _∷_, _++_}
 use Prim.Native.Nat.{ℕ, suc, _+_, _≤_, _<_}
 use native.Mathlib.Nat.{add-suc, suc-add, add-zero}
 use native.Mathlib.Numerals.{add-one}
 use native.Mathlib.Omega.{arith}
-use lib.ListN.{length, take, getD, set}
+use lib.ListN.{length, take, getD, set, length-set}
 use lib.Seq.{sets, take-all, take-suc, length-take-le}
+use Rattle.table.specs.Filled.{padded}
+use Rattle.table.proofs.Filled.{padded-length, padded-at}
 
 -- one store more, behind vs
 pub sets-push : (vs t : List ℕ) (i x : ℕ) → set (sets t i vs) (i + length vs) x ≡ sets t i (vs ++ (x ∷ []))
@@ -23,3 +25,23 @@ module _ (vs t t₀ : List ℕ) (i j : ℕ) (e : t ≡ sets t₀ i (take j vs)) 
 
   pub stored-all : length vs ≤ j → t ≡ sets t₀ i vs
   stored-all h = e ∙ rw (take-all j vs h)
+
+-- t is t₀ with the first i of n bytes of a padded row stored from a place on: at the loop's start, after a turn and at
+-- its end
+pub record RowStored (t₀ : List ℕ) (at n : ℕ) (w t : List ℕ) (i : ℕ) : Type 0 where
+  pub within : i ≤ n
+  pub same-length : length t ≡ length t₀
+  pub table-is : t ≡ sets t₀ at (take i (padded n w))
+
+pub row-stored-none : (t₀ : List ℕ) (at n : ℕ) (w : List ℕ) → RowStored t₀ at n w t₀ 0
+row-stored-none t₀ at n w = record { within = omega arith; same-length = refl; table-is = refl }
+
+module _ {t₀ : List ℕ} {at n : ℕ} {w t : List ℕ} {i : ℕ} (h : RowStored t₀ at n w t i) where
+  pub row-stored-more : {x : ℕ} → i < n → x ≡ getD w i 0 → RowStored t₀ at n w (set t (at + i) x) (i + 1)
+  row-stored-more {x} l e =
+      let k : i < length (padded n w) = rw (padded-length n w) l in
+      let more = stored-more (padded n w) t t₀ at i (h .table-is) x k (e ∙ sym (padded-at n w i l)) in
+      record { within = omega arith; same-length = simp length-set (h .same-length); table-is = more }
+
+  pub row-stored-all : n ≤ i → t ≡ sets t₀ at (padded n w)
+  row-stored-all l = stored-all (padded n w) t t₀ at i (h .table-is) (rw (padded-length n w) l)

@@ -1,5 +1,5 @@
 -- Laws of the tests of bytes, and of a test of every byte of a list. Assumes nothing.
-use mathlib.Core.Path.{_≡_, refl}
+use mathlib.Core.Path.{_≡_, refl, sym, _∙_}
 use mathlib.Core.Bool.{Bool, true, false, _&&_, or-false, or-true}
 use mathlib.Core.List.{List, [], _∷_, _++_}
 use Prim.Native.Nat.{ℕ, zero, suc, _+_, _≤_, _<_}
@@ -81,16 +81,29 @@ module _ (p : ℕ → Bool) where
   all-push [] b h k = rw k
   all-push (c ∷ l) b h k = rw (all-head c l h) (all-push l b (all-tail c l h) k)
 
-  -- the entries from place i on
-  module _ (l : List ℕ) (i : ℕ) where
-    pub all-more : i < length l → p (getD l i 0) ≡ true → allOf p (drop i l) ≡ allOf p (drop (i + 1) l)
-    unfolding allOf
-    all-more h e = rw (add-one, drop-cons l i 0 h) (rw e)
+  pub all-ends : (l : List ℕ) (i : ℕ) → length l ≤ i → allOf p (drop i l) ≡ true
+  unfolding allOf
+  all-ends l i h = rw (drop-of-length-le l h)
 
-    pub all-stops : i < length l → p (getD l i 0) ≡ false → allOf p (drop i l) ≡ false
-    unfolding allOf
-    all-stops h e = rw (drop-cons l i 0 h) (rw e)
+-- every entry of l passes p if those from place i on do
+pub record AllFrom (p : ℕ → Bool) (l : List ℕ) (i : ℕ) : Type 0 where
+  pub within : i ≤ length l
+  pub all-is : allOf p l ≡ allOf p (drop i l)
 
-    pub all-ends : length l ≤ i → allOf p (drop i l) ≡ true
-    unfolding allOf
-    all-ends h = rw (drop-of-length-le l h)
+pub all-from-none : (p : ℕ → Bool) (l : List ℕ) → AllFrom p l 0
+all-from-none p l = record { within = omega arith; all-is = refl }
+
+module _ {p : ℕ → Bool} {l : List ℕ} {i : ℕ} (h : AllFrom p l i) where
+  pub all-from-more : i < length l → p (getD l i 0) ≡ true → AllFrom p l (i + 1)
+  unfolding allOf
+  all-from-more k e = record {
+    within = omega arith;
+    all-is = h .all-is ∙ rw (add-one, drop-cons l i 0 k) (rw e);
+  }
+
+  pub all-from-stops : i < length l → p (getD l i 0) ≡ false → false ≡ allOf p l
+  unfolding allOf
+  all-from-stops k e = sym (h .all-is ∙ rw (drop-cons l i 0 k) (rw e))
+
+  pub all-from-ends : length l ≤ i → true ≡ allOf p l
+  all-from-ends k = sym (h .all-is ∙ all-ends p l i k)

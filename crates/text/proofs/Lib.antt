@@ -1,13 +1,23 @@
 -- The laws of this crate, a file for each notion. Assumes nothing.
--- Slices: a part of a list with one entry more.
+-- Slices: parts of a list.
 -- ByteLaws: the tests of bytes, and a test of every byte.
 -- Same: the comparison of bytes.
+-- Places: the place of a word among words.
 -- LineLaws: the lines of a file.
 -- TokenLaws: the words and brackets of a line.
+-- TokenCounts: a line has at most as many tokens as bytes.
+-- NameLaws: the names of tokens, by the first of them.
 -- Words: what the words of a line are made of.
+-- Names: the names of a line.
+-- Each: what holds of each entry of a list.
 pub mod Slices
 pub mod ByteLaws
 pub mod Same
+pub mod Places
 pub mod LineLaws
 pub mod TokenLaws
+pub mod TokenCounts
+pub mod NameLaws
 pub mod Words
+pub mod Names
+pub mod Each

@@ -16,7 +16,7 @@ use Rattle.text.proofs.Slices.{slice-more}
 
 -- the lines of what is left of f from place i on, behind the part l of a line
 module _ (f l : List ℕ) (i : ℕ) where
-  pub lines-in : i < length f → (getD f i 0 ≡ 10 → ⊥)
+  lines-in : i < length f → (getD f i 0 ≡ 10 → ⊥)
       → linesFrom l (drop i f) ≡ linesFrom (l ++ (getD f i 0 ∷ [])) (drop (i + 1) f)
   unfolding linesFrom
   lines-in h n = rw (add-one, drop-cons f i 0 h) (rw (ne-eqb _ _ n))
@@ -25,11 +25,11 @@ module _ (f l : List ℕ) (i : ℕ) where
   unfolding linesFrom
   lines-stop h e = rw (add-one, drop-cons f i 0 h) (rw (eq-eqb _ _ e))
 
-pub last-line : (l : List ℕ) → 0 < length l → lastLine l ≡ l ∷ []
+last-line : (l : List ℕ) → 0 < length l → lastLine l ≡ l ∷ []
 last-line [] n = absurd (not-suc-le-zero n)
 last-line (b ∷ l) n = refl
 
-pub lines-end : (f l : List ℕ) (i : ℕ) → 0 < length l → length f ≤ i
+lines-end : (f l : List ℕ) (i : ℕ) → 0 < length l → length f ≤ i
     → linesFrom l (drop i f) ≡ l ∷ lines (drop (i + 1) f)
 unfolding linesFrom
 lines-end f l i n h =
@@ -42,25 +42,30 @@ unfolding linesFrom
 lines-none f i h = rw (drop-of-length-le f h)
 
 -- the bytes from place at to place i belong to one line: at the line's start, after a turn and at the line's end
-abbrev pub InLine : List ℕ → ℕ → ℕ → Type 0
-InLine f at i = (at ≤ i) × (i ≤ length f) × (lines (drop at f) ≡ linesFrom (slice at i f) (drop i f))
+pub record InLine (f : List ℕ) (at i : ℕ) : Type 0 where
+  pub onward : at ≤ i
+  pub within : i ≤ length f
+  pub lines-are : lines (drop at f) ≡ linesFrom (slice at i f) (drop i f)
 
-pub in-line-none : (f : List ℕ) (at : ℕ) → at ≤ length f → InLine f at at
-in-line-none f at h = (omega arith, h, rw slice-empty)
+pub in-line-none : (f : List ℕ) (at : ℕ) → at < length f → InLine f at at
+in-line-none f at h = record { onward = omega arith; within = omega arith; lines-are = rw slice-empty }
 
-module _ (f : List ℕ) (at i : ℕ) where
-  pub in-line-more : i < length f → (getD f i 0 ≡ 10 → ⊥) → InLine f at i → InLine f at (i + 1)
-  in-line-more h n (o, w, e) =
-      (omega arith, omega arith, e ∙ lines-in f (slice at i f) i h n ∙ rw (slice-more f at i o h))
+module _ {f : List ℕ} {at i : ℕ} (h : InLine f at i) where
+  pub in-line-more : i < length f → (getD f i 0 ≡ 10 → ⊥) → InLine f at (i + 1)
+  in-line-more k n = record {
+    onward = omega arith;
+    within = omega arith;
+    lines-are = h .lines-are ∙ lines-in f (slice at i f) i k n ∙ rw (slice-more f at i (h .onward) k);
+  }
 
-  pub in-line-stops : i < length f → getD f i 0 ≡ 10 → InLine f at i → LineEnds f at i
-  in-line-stops h q (o, w, e) =
-      record { onward = o; within = w; lines-are = e ∙ lines-stop f (slice at i f) i h q }
+  pub in-line-stops : i < length f → getD f i 0 ≡ 10 → LineEnds f at i
+  in-line-stops k q =
+      record { onward = h .onward; within = h .within; lines-are = h .lines-are ∙ lines-stop f (slice at i f) i k q }
 
-  pub in-line-ends : at < length f → length f ≤ i → InLine f at i → LineEnds f at i
-  in-line-ends h k (o, w, e) =
-      let n : 0 < length (slice at i f) = rw (length-slice at i f w) (omega arith) in
-      record { onward = o; within = w; lines-are = e ∙ lines-end f (slice at i f) i n k }
+  pub in-line-ends : at < length f → length f ≤ i → LineEnds f at i
+  in-line-ends l k =
+      let n : 0 < length (slice at i f) = rw (length-slice at i f (h .within)) (omega arith) in
+      record { onward = h .onward; within = h .within; lines-are = h .lines-are ∙ lines-end f (slice at i f) i n k }
 
 -- isComment
 

@@ -1,6 +1,6 @@
 -- What the words of a line are made of: at least one byte, and bytes that stand in words only; and what a name begins
 -- with. Assumes nothing.
-use mathlib.Core.Path.{_≡_, refl, subst}
+use mathlib.Core.Path.{_≡_, refl}
 use mathlib.Core.Bool.{Bool, true, false}
 use mathlib.Core.List.{List, [], _∷_, _++_}
 use Prim.Native.Nat.{ℕ, _≤_, _<_}
@@ -11,7 +11,8 @@ use lib.Seq.{slice, slice-cons}
 use Rattle.words.specs.Choice.{pick}
 use Rattle.text.specs.Bytes.{isLetter, isWordByte, allOf}
 use Rattle.text.specs.Tokens.{Token, ended, bracket, tokensFrom, tokens}
-use Rattle.text.specs.Words.{beginsWithLetter}
+use Rattle.text.specs.Words.{beginsWithLetter, namesFrom, namesIn}
+use Rattle.text.proofs.Each.{Each}
 use Rattle.text.proofs.ByteLaws.{all-push}
 
 -- a word that holds a byte, and only bytes that stand in words
@@ -25,7 +26,7 @@ WordBytes (Token.opening ∷ ts) = WordBytes ts
 WordBytes (Token.closing ∷ ts) = WordBytes ts
 WordBytes (Token.word w ∷ ts) = IsWord w × WordBytes ts
 
-pub ended-bytes : (w : List ℕ) (ts : List Token) → allOf isWordByte w ≡ true → WordBytes ts → WordBytes (ended w ts)
+ended-bytes : (w : List ℕ) (ts : List Token) → allOf isWordByte w ≡ true → WordBytes ts → WordBytes (ended w ts)
 ended-bytes [] ts h k = k
 ended-bytes (b ∷ w) ts h k = ((omega arith, h), k)
 
@@ -34,11 +35,11 @@ picked-bytes : (t : Bool) (x y : List Token) → (t ≡ true → WordBytes x) �
 picked-bytes true x y f g = f refl
 picked-bytes false x y f g = g refl
 
-pub bracket-bytes : (b : ℕ) (ts : List Token) → WordBytes ts → WordBytes (bracket b ts)
+bracket-bytes : (b : ℕ) (ts : List Token) → WordBytes ts → WordBytes (bracket b ts)
 bracket-bytes b ts h =
     picked-bytes (eqb b 40) _ _ (λ _. h) (λ _. picked-bytes (eqb b 41) _ _ (λ _. h) (λ _. h))
 
-pub tokens-from-bytes : (w l : List ℕ) → allOf isWordByte w ≡ true → WordBytes (tokensFrom w l)
+tokens-from-bytes : (w l : List ℕ) → allOf isWordByte w ≡ true → WordBytes (tokensFrom w l)
 unfolding tokensFrom allOf
 tokens-from-bytes w [] h = ended-bytes w [] h tt
 tokens-from-bytes w (b ∷ l) h =
@@ -50,9 +51,17 @@ pub tokens-word-bytes : (l : List ℕ) → WordBytes (tokens l)
 unfolding allOf
 tokens-word-bytes l = tokens-from-bytes [] l refl
 
--- the first word of a line, or of what is left of it
-pub first-word-bytes : (l w : List ℕ) (ts : List Token) → tokens l ≡ Token.word w ∷ ts → IsWord w
-first-word-bytes l w ts e = subst WordBytes e (tokens-word-bytes l) .0
+-- each name of a line is so
+names-are-words : (b : Bool) (ts : List Token) → WordBytes ts → Each IsWord (namesFrom b ts)
+unfolding namesFrom
+names-are-words b [] h = tt
+names-are-words b (Token.opening ∷ ts) h = names-are-words true ts h
+names-are-words b (Token.closing ∷ ts) h = names-are-words false ts h
+names-are-words true (Token.word w ∷ ts) h = names-are-words false ts (h .1)
+names-are-words false (Token.word w ∷ ts) h = (h .0, names-are-words false ts (h .1))
+
+pub line-names-are-words : (l : List ℕ) → Each IsWord (namesIn (tokens l))
+line-names-are-words l = names-are-words false (tokens l) (tokens-word-bytes l)
 
 -- a word is a name by its first byte
 pub name-first : (l : List ℕ) (a e : ℕ) → a < e → e ≤ length l → beginsWithLetter (slice a e l) ≡ isLetter (getD l a 0)

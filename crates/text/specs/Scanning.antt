@@ -4,6 +4,8 @@
 --   WordEnds l at e     the word that starts at place at of the line l ends before place e
 --   firstToken l r      the tokens that begin with what r found in the line l
 --   Found l at r        r is the first token at or behind place at of the line l
+--   firstName l r       the names that begin with what r found in the line l
+--   NameFound l at r    r is the first name at or behind place at of the line l, where no bracket is open at that place
 use mathlib.Core.Path.{_≡_}
 use mathlib.Core.List.{List, [], _∷_}
 use Prim.Native.Nat.{ℕ, _+_, _≤_, _<_}
@@ -11,8 +13,11 @@ use lib.ListN.{length, drop}
 use lib.Seq.{slice}
 use Rattle.text.specs.declared.tokens.Next.{Next}
 use Rattle.text.specs.declared.tokens.Next.the-variants.{End, Open, Close, Word}
+use Rattle.text.specs.declared.name.NextName.{NextName}
+use Rattle.text.specs.declared.name.NextName.the-variants.{NoName, Name}
 use Rattle.text.specs.Lines.{lines}
 use Rattle.text.specs.Tokens.{Token, tokens}
+use Rattle.text.specs.Words.{namesIn}
 
 pub record LineEnds (f : List ℕ) (at e : ℕ) : Type 0 where
   pub onward : at ≤ e
@@ -40,3 +45,16 @@ Inside l at (Word a e) = (at ≤ a) × (a < e) × (e ≤ length l)
 pub record Found (l : List ℕ) (at : ℕ) (r : Next) : Type 0 where
   pub tokens-are : tokens (drop at l) ≡ firstToken l r
   pub inside : Inside l at r
+
+abbrev pub firstName : List ℕ → NextName → List (List ℕ)
+firstName l NoName = []
+firstName l (Name a e) = slice a e l ∷ namesIn (tokens (drop e l))
+
+-- a name that was found lies in the line, at or behind place at
+abbrev pub NameInside : List ℕ → ℕ → NextName → Type 0
+NameInside l at NoName = Unit {0}
+NameInside l at (Name a e) = (at ≤ a) × (a < e) × (e ≤ length l)
+
+pub record NameFound (l : List ℕ) (at : ℕ) (r : NextName) : Type 0 where
+  pub names-are : namesIn (tokens (drop at l)) ≡ firstName l r
+  pub inside : NameInside l at r

@@ -2,7 +2,7 @@
 use mathlib.Core.Path.{_≡_, refl, sym, ap, ap₂, _∙_}
 use mathlib.Core.Bool.{Bool, true, false, _&&_, _||_, and-false, and-true, or-false, false≢true}
 use mathlib.Core.Logic.{⊎-elim}
-use Prim.Native.Nat.{ℕ, zero, suc, _+_, _≤_, _<_}
+use Prim.Native.Nat.{ℕ, zero, suc, _+_, _-_, _≤_, _<_}
 use native.Mathlib.Nat.{not-suc-le-zero, le-of-suc-le-suc, eq-or-lt-of-le, le-antisymm}
 use native.Mathlib.Numerals.{add-one}
 use native.Mathlib.Omega.{arith}
@@ -10,7 +10,7 @@ use lib.Dec.{eqb}
 use borrow.Author.Tests.{eq-eqb, ne-eqb}
 use Rattle.words.specs.Choice.{pick}
 use Rattle.words.specs.Below.{any, every, firstFrom}
-use Rattle.words.proofs.Tests.{Gives, or-gives, or-false-l, or-false-r, and-true-l, and-true-r, eqb-comm}
+use Rattle.words.proofs.Tests.{Gives, or-gives, or-false-l, or-false-r, and-true-l, and-true-r, eqb-comm, by-test}
 
 -- ---- any
 pub any-ext : (n : ℕ) (p q : ℕ → Bool) → ((i : ℕ) → i < n → p i ≡ q i) → any n p ≡ any n q
@@ -125,3 +125,20 @@ first-is (suc n) p k j h l e f =
     (λ (q : k < j).
     ap (λ (b : Bool). pick b k (firstFrom n p (suc k))) (f k q) ∙ first-is n p (suc k) j q (omega arith) e f)
     (eq-or-lt-of-le h)
+
+pub first-le : (n : ℕ) (p : ℕ → Bool) (k : ℕ) → firstFrom n p k ≤ k + n
+first-le zero p k = omega arith
+first-le (suc n) p k =
+    let ih = first-le n p (suc k) in
+    by-test (p k) (λ e. rw e (omega arith)) (λ e. rw e (omega arith))
+
+-- a loop over the numbers below n has reached k: it stops there, goes on or ends
+module _ (n : ℕ) (p : ℕ → Bool) (k : ℕ) where
+  pub first-stops : k < n → p k ≡ true → firstFrom (n - k) p k ≡ k
+  first-stops h e = let s : n - k ≡ suc (n - (k + 1)) = omega arith in rw s (rw e)
+
+  pub first-more : k < n → p k ≡ false → firstFrom (n - k) p k ≡ firstFrom (n - (k + 1)) p (k + 1)
+  first-more h e = let s : n - k ≡ suc (n - (k + 1)) = omega arith in rw (s, add-one) (rw e)
+
+  pub first-ends : n ≤ k → firstFrom (n - k) p k ≡ k
+  first-ends h = let s : n - k ≡ 0 = omega arith in rw s

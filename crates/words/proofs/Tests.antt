@@ -25,6 +25,10 @@ eqb-comm a b = go (eqb b a) refl
     go true e = eq-eqb a b (sym (eqb-true b a e)) ∙ sym e
     go false e = ne-eqb a b (λ q. eqb-false b a e (sym q)) ∙ sym e
 
+pub by-test : {P : Type 0} (t : Bool) → (t ≡ true → P) → (t ≡ false → P) → P
+by-test true f g = f refl
+by-test false f g = g refl
+
 -- a test that passes makes another pass
 abbrev pub Gives : Bool → Bool → Type 0
 Gives a b = a ≡ true → b ≡ true
@@ -41,6 +45,12 @@ and-gives {a = false} f g e = absurd (false≢true e)
 pub not-gives : {a b : Bool} → Gives a b → Gives (not b) (not a)
 not-gives {a = true} {b} f e = absurd (false≢true (sym (ap not (f refl)) ∙ e))
 not-gives {a = false} {b} f e = refl
+
+-- tests that make each other pass
+pub gives-same : (a b : Bool) → Gives a b → Gives b a → a ≡ b
+gives-same true b f g = sym (f refl)
+gives-same false true f g = g refl
+gives-same false false f g = refl
 
 -- a test that fails makes those fail that would make it pass
 pub gives-false : (a b : Bool) → Gives b a → a ≡ false → false ≡ b

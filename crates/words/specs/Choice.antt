@@ -4,6 +4,7 @@
 --   pick t x y             x where the test t holds, otherwise y
 --   consIf t x l           x in front of l where the test t holds, otherwise l
 --   unlessRefused n x y    x where the refusal n is 0, otherwise y
+--   firstOf n m            n where it is a refusal, otherwise m
 --   check n t              the test t, where it fails refused with n
 --   firstFailed l          the number of the first check of l that fails, 0 where all pass
 use mathlib.Core.Bool.{Bool, true, false}
@@ -21,6 +22,9 @@ consIf false x l = l
 abbrev pub unlessRefused : {A : Type 0} → ℕ → A → A → A
 unlessRefused zero x y = x
 unlessRefused (suc n) x y = y
+
+abbrev pub firstOf : ℕ → ℕ → ℕ
+firstOf n m = unlessRefused n m n
 
 -- a test, and the number of the refusal where it fails
 pub record Check : Type 0 where

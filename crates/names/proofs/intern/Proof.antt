@@ -1,11 +1,9 @@
 -- `names::intern` meets its contract: the name is known, or there is no room, or it is stored behind the others.
 -- Assumes nothing.
 use borrow.Author.Needs.{needs}
-use mathlib.Core.List.{List}
-use Prim.Native.Nat.{ℕ}
+use mathlib.Core.Path.{sym}
 use native.Mathlib.Omega.{arith}
-use lib.Seq.{slice}
-use Rattle.names.proofs.Interning.{interned-known, interned-full, interned-new}
+use Rattle.names.proofs.Interning.{rows-with-known, rows-with-full, rows-with-new}
 use Rattle.names.proofs.intern.Statement.{statement}
 use Rattle.names.proofs.intern.Tie as tie
 
@@ -16,27 +14,13 @@ same-length : tie.Need-same-length
 same-length c = search needs
 
 returns : tie.Need-returns
-returns c =
-    let b = c .before .before .before .before .before in
-    let a = b .args in
-    let f = c .before .find in
-    let w : List ℕ = slice (a .a) (a .e) (a .l .now) in
-    λ ns old q h g.
-    interned-known ns old (a .names .now) w (a .count) (f .result) q h (f .ensures .atom-is ns old q h g)
-    (c .if1 .taken)
+returns c = sym (rows-with-known _ _ _ (omega arith))
 
 same-length-2 : tie.Need-same-length-2
 same-length-2 c = search needs
 
 returns-2 : tie.Need-returns-2
-returns-2 c =
-    let b = c .before .before .before .before .before .before in
-    let a = b .args in
-    let f = c .before .before .find in
-    let w : List ℕ = slice (a .a) (a .e) (a .l .now) in
-    λ ns old q h g.
-    interned-full ns old (a .names .now) w (a .count) (f .result) q h (f .ensures .atom-is ns old q h g)
-    (c .before .if1 .left) (omega arith)
+returns-2 c = sym (rows-with-full _ _ _ (omega arith) (omega arith))
 
 mul-put-row : tie.Need-mul-put-row
 mul-put-row c = search needs
@@ -52,14 +36,8 @@ same-length-3 c = search needs
 
 returns-3 : tie.Need-returns-3
 returns-3 c =
-    let b = c .before .before .before .before .before .before .before .before .before .before in
-    let a = b .args in
-    let f = c .before .before .before .before .before .before .find in
-    let r = c .before .before .put-row in
-    let w : List ℕ = slice (a .a) (a .e) (a .l .now) in
-    λ ns old q h g.
-    interned-new ns old (a .names .now) w (a .count) (f .result) q h (f .ensures .atom-is ns old q h g)
-    (r .last .0) (b .pre .1) g (c .before .before .before .before .before .if1 .left) (omega arith) (r .ensures)
+    let p = c .before .before .put-row in
+    rw (p .ensures) (sym (rows-with-new _ _ _ (omega arith) (omega arith)))
 
 pub intern-spec : {M : Type 1} → statement M
 intern-spec =

@@ -1,77 +1,72 @@
--- `take::take_line` meets its contract: checks 3 and 4 and the comment between them, then `take_form`'s contract.
--- Assumes nothing.
-use mathlib.Core.Path.{sym, subst, _∙_}
-use native.Mathlib.Omega.{arith}
+-- `take::take_line` meets its contract, by what the look at the line found. Assumes nothing.
 use borrow.Author.Needs.{needs}
-use borrow.Author.Tests.{not-true, not-false}
-use Rattle.store.specs.Lent.{lent}
-use Rattle.store.specs.Held.{Held}
-use Rattle.store.proofs.TakingHeld.{held-spoilt}
-use Rattle.checks.proofs.TakingChecks.{refused-by, took-as, line-refused-3, line-refused-4, line-refused-as}
-use Rattle.checks.proofs.TakingChecks.{comment-passes, comment-says, line-says}
+use Rattle.checks.proofs.Taking.{line-refused, comment-taken, line-formed, line-taken}
 use Rattle.checks.proofs.take.take_line.Statement.{statement}
 use Rattle.checks.proofs.take.take_line.Tie as tie
 
+-- the places before: of the line taken by its form, and of that form
+abbrev half : tie.After-slice-known8 → tie.After-constraints
+half c = c .before .before .before .before .before
+
+abbrev formed : tie.After-slice-known8 → tie.After-take-form
+formed c = half c .before .before .before
+
+abbrev found : tie.After-take-form → tie.After-x
+found c = c .before .before .before .before .before .before
+
+look-requires : tie.Need-look-requires
+look-requires c κs = search needs
+
+enum-known-number : tie.Need-enum-known-number
+enum-known-number c = search needs
+
+enum-told : tie.Need-enum-told
+enum-told c = search needs
+
+enum-known-x : tie.Need-enum-known-x
+enum-known-x c = search needs
+
+take-form-requires : tie.Need-take-form-requires
+take-form-requires c κs = search (needs, line-formed)
+
 returns : tie.Need-returns
 returns c =
-    let a = c .before .before .before .before .before .before .args in
-    let l = a .l .now in
-    let t = lent (a .clauses .now) (a .constraints .now) (a .formula .now) (a .names .now) in
-    λ st old h. refused-by _ 3 old t (line-refused-3 st l (omega arith)) (omega arith) (held-spoilt st (a .c) old t h)
+    let n = c .before in
+    line-refused (n .before .before .look .ensures) (n .number .given .1)
 
 returns-2 : tie.Need-returns-2
-returns-2 c =
-    let a = c .before .before .before .before .before .before .before .before .args in
-    let l = a .l .now in
-    let t = lent (a .clauses .now) (a .constraints .now) (a .formula .now) (a .names .now) in
-    let comment = sym (c .before .is-comment .ensures) ∙ c .if2 .taken in
-    λ st old h.
-    record {
-      passed = comment-passes st l (omega arith) comment;
-      held = subst (λ s. Held s (a .c) old t) (sym (comment-says st l comment)) h;
-    }
+returns-2 c = comment-taken (c .before .before .look .ensures) (c .enum-told .given .1)
+
+same-length : tie.Need-same-length
+same-length c = search needs
+
+same-length-2 : tie.Need-same-length-2
+same-length-2 c = search needs
+
+same-length-3 : tie.Need-same-length-3
+same-length-3 c = search needs
+
+same-length-4 : tie.Need-same-length-4
+same-length-4 c = search needs
 
 returns-3 : tie.Need-returns-3
 returns-3 c =
-    let p = c .before .before in
-    let a = p .before .before .before .before .before .before .before .before .args in
-    let l = a .l .now in
-    let t = lent (a .clauses .now) (a .constraints .now) (a .formula .now) (a .names .now) in
-    let comment = sym (p .before .is-comment .ensures) ∙ p .if2 .left in
-    let b = c .before .all-allowed in
-    let bytes = sym (b .ensures) ∙ not-true (b .result) (c .if3 .taken) in
-    λ st old h. refused-by _ 4 old t (line-refused-4 st l (omega arith) comment bytes) (omega arith)
-    (held-spoilt st (a .c) old t h)
-
-returns-4 : tie.Need-returns-4
-returns-4 c =
-    let q = c .before .before .before .before .before .before .before .before .before .before .before .before .before in
-    let p = q .before .before in
-    let a = p .before .before .before .before .before .before .before .before .args in
-    let l = a .l .now in
-    let t = lent (a .clauses .now) (a .constraints .now) (a .formula .now) (a .names .now) in
-    let comment = sym (p .before .is-comment .ensures) ∙ p .if2 .left in
-    let b = q .before .all-allowed in
-    let bytes = sym (b .ensures) ∙ not-false (b .result) (q .if3 .left) in
-    let f = c .before .before .before .before .before .before .before .before .take-form in
-    let w = f .last .1 .1 in
-    let u = lent (w .0) (w .1 .0) (w .1 .1 .0) (w .1 .1 .1 .0) in
-    λ st old h.
-    took-as _ _ _ _ (f .result) old u (line-refused-as st l (omega arith) comment bytes) (line-says st l comment)
-    (f .ensures st old h)
+    let f = formed c in
+    line-taken (found f .before .before .look .ensures) (found f .x .given .1) (f .take-form .ensures)
 
 pub take-line-spec : {M : Type 1} → statement M
 take-line-spec =
     tie.close
     (tie.spec
+    look-requires
+    enum-known-number
+    enum-told
+    enum-known-x
+    take-form-requires
     returns
-    (λ c κs. search needs)
     returns-2
-    (λ c κs. search needs)
-    returns-3
-    (λ c κs. search needs)
-    (λ c. search needs)
-    (λ c. search needs)
-    (λ c. search needs)
-    (λ c. search needs)
-    returns-4)
+    same-length
+    same-length-2
+    same-length-3
+    same-length-4
+    returns-3)

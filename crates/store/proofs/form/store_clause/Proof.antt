@@ -1,36 +1,44 @@
--- `form::store_clause` meets its contract: the head is the name's atom, and the words of the clause stand behind those
--- of the others. Assumes nothing.
+-- `form::store_clause` meets its contract: the words of the clause stand behind those of the others. Assumes nothing.
 use native.Mathlib.Omega.{arith}
 use borrow.Author.Needs.{needs}
-use lib.Seq.{slice}
-use Rattle.store.proofs.TakingRows.{clause-full, clause-stored}
+use Rattle.store.proofs.NodeLaws.{row-few}
+use Rattle.store.proofs.Rows.{clause-put}
 use Rattle.store.proofs.form.store_clause.Statement.{statement}
 use Rattle.store.proofs.form.store_clause.Tie as tie
 
-returns : tie.Need-returns
-returns c =
-    let a = c .before .before .before .before .args in
-    clause-full (slice (a .a) (a .e) (a .l .now)) (a .kind) (a .m) (a .c) (a .names .now) (a .clauses .now)
-    (omega arith)
+find-requires : tie.Need-find-requires
+find-requires c κs = search needs
 
-returns-2 : tie.Need-returns-2
-returns-2 c =
-    let a = c .before .before .before .before .before .before .before .before .before .args in
-    let f = c .before .before .before .before .find in
-    let p = c .before .before .put-three in
-    clause-stored (slice (a .a) (a .e) (a .l .now)) (a .kind) (a .m) (a .c) (a .names .now) (a .clauses .now)
-    (f .result) (p .last .0) (f .ensures) (p .ensures)
+mul-put-three : tie.Need-mul-put-three
+mul-put-three c = search needs
+
+mul-put-three-2 : tie.Need-mul-put-three-2
+mul-put-three-2 c = search needs
+
+add-put-three : tie.Need-add-put-three
+add-put-three c = omega (arith, row-few _ _ _ (c .before .find .ensures))
+
+put-three-requires : tie.Need-put-three-requires
+put-three-requires c κs = search needs
+
+add-next : tie.Need-add-next
+add-next c = search needs
+
+same-length : tie.Need-same-length
+same-length c = search needs
+
+returns : tie.Need-returns
+returns c = search (needs, clause-put)
 
 pub store-clause-spec : {M : Type 1} → statement M
 store-clause-spec =
     tie.close
     (tie.spec
-    returns
-    (λ c κs. search needs)
-    (λ c. search needs)
-    (λ c. search needs)
-    (λ c. search needs)
-    (λ c κs. search needs)
-    (λ c. search needs)
-    (λ c. search needs)
-    returns-2)
+    find-requires
+    mul-put-three
+    mul-put-three-2
+    add-put-three
+    put-three-requires
+    add-next
+    same-length
+    returns)

@@ -8,6 +8,10 @@ use Rattle.text.proofs.bytes.is_allowed.Tie as tie
 is-word-byte-requires : tie.Need-is-word-byte-requires
 is-word-byte-requires c κs = search needs
 
+-- the place before: of the test of words' bytes
+abbrev tested : tie.Else3 → tie.Else1
+tested c = c .before .before
+
 returns : tie.Need-returns
 returns c = sym (allowed-word _ (sym (c .before .is-word-byte .ensures) ∙ c .if1 .taken))
 
@@ -19,7 +23,8 @@ returns-3 c = sym (allowed-opening _ (c .if3 .taken))
 
 returns-4 : tie.Need-returns-4
 returns-4 c =
-    let e = sym (c .before .before .before .is-word-byte .ensures) ∙ c .before .before .if1 .left in
+    let b = tested c in
+    let e = sym (b .before .is-word-byte .ensures) ∙ b .if1 .left in
     sym (allowed-others _ e (c .before .if2 .left) (c .if3 .left))
 
 pub is-allowed-spec : {M : Type 1} → statement M

@@ -1,20 +1,17 @@
--- `text::bytes::is_same` meets its contract. The invariant: the part is w if what is left of it is what is left of w.
--- Assumes nothing.
+-- `text::bytes::is_same` meets its contract. The invariant is `SameFrom`: the part is w if what is left of it is what is
+-- left of w. Assumes nothing.
 use borrow.Author.Needs.{needs}
-use mathlib.Core.Path.{_≡_, sym, _∙_}
-use Prim.Native.Nat.{_+_, _≤_, _-_}
-use native.Mathlib.Nat.{add-zero}
+use mathlib.Core.Path.{sym}
+use Prim.Native.Nat.{_-_}
 use native.Mathlib.Omega.{arith}
-use lib.ListN.{length, drop}
-use lib.Seq.{slice, length-slice}
-use Rattle.text.specs.Bytes.{sameBytes}
-use Rattle.text.proofs.Same.{same-lengths, same-more, same-stops, same-ends}
+use lib.ListN.{length}
+use lib.Seq.{length-slice}
+use Rattle.text.proofs.Same.{same-lengths, SameFrom, same-none, same-more, same-stops, same-ends}
 use Rattle.text.proofs.bytes.is_same.Statement.{statement}
 use Rattle.text.proofs.bytes.is_same.Tie as tie
 
 abbrev Inv-loop : tie.InvT-loop
-Inv-loop l a e w i₀ i =
-    (i ≤ length w) × (a + length w ≡ e) × (sameBytes (slice a e l) w ≡ sameBytes (slice (a + i) e l) (drop i w))
+Inv-loop l a e w i₀ i = SameFrom l a e w i
 
 abbrev μ-loop : tie.MeasureT-loop
 μ-loop l a e w i₀ i = length w - i
@@ -29,7 +26,7 @@ returns c =
     sym (same-lengths _ _ (λ q. omega (arith, e, q, c .if1 .taken)))
 
 loop-holds : tie.Need-loop-holds Inv-loop μ-loop
-loop-holds c = (search needs, omega arith, rw add-zero)
+loop-holds c = same-none _ _ _ _ (omega arith) (omega arith)
 
 add-if2 : tie.Need-add-if2 Inv-loop μ-loop
 add-if2 c = search needs
@@ -41,12 +38,7 @@ shared-slice-read-if2-2 : tie.Need-shared-slice-read-if2-2 Inv-loop μ-loop
 shared-slice-read-if2-2 c = search needs
 
 returns-2 : tie.Need-returns-2 Inv-loop μ-loop
-returns-2 c =
-    let b = c .before .before .before .before .before .before in
-    let a = b .args in
-    let p = c .before .before .before .before .loop in
-    let f = same-stops (a .l .now) (a .w .now) (a .a) (a .e) (p .i) (omega arith) (b .pre .1) (omega arith) in
-    sym (p .inv .2 ∙ f (c .if2 .taken))
+returns-2 c = search (needs, same-stops)
 
 add-i : tie.Need-add-i Inv-loop μ-loop
 add-i c = search needs
@@ -55,18 +47,10 @@ loop-less : tie.Need-loop-less Inv-loop μ-loop
 loop-less c = search needs
 
 loop-again : tie.Need-loop-again Inv-loop μ-loop
-loop-again c =
-    let b = c .before .before .before .before .before .before in
-    let a = b .args in
-    let p = c .before .before .before .before .loop in
-    let f = same-more (a .l .now) (a .w .now) (a .a) (a .e) (p .i) (omega arith) (b .pre .1) (omega arith) in
-    (omega arith, p .inv .1, p .inv .2 ∙ f (omega (arith, c .if2 .left)))
+loop-again c = search (needs, same-more)
 
 returns-3 : tie.Need-returns-3 Inv-loop μ-loop
-returns-3 c =
-    let a = c .before .before .before .args in
-    let p = c .before .loop in
-    sym (p .inv .2 ∙ same-ends (a .l .now) (a .w .now) (a .a) (a .e) (p .i) (omega arith) (omega arith))
+returns-3 c = search (needs, same-ends)
 
 pub is-same-spec : {M : Type 1} → statement M
 is-same-spec =

@@ -1,11 +1,9 @@
 -- `text::tokens::word_end` meets its contract. The invariant is `InWord`: the bytes passed belong to one word.
 -- Assumes nothing.
 use borrow.Author.Needs.{needs}
-use borrow.Author.Tests.{not-true, not-false}
-use mathlib.Core.Path.{sym, _∙_}
 use Prim.Native.Nat.{_-_}
-use native.Mathlib.Omega.{arith}
 use lib.ListN.{length}
+use Rattle.words.proofs.Tests.{failed, passed}
 use Rattle.text.proofs.TokenLaws.{InWord, in-word-none, in-word-more, in-word-stops, in-word-ends}
 use Rattle.text.proofs.tokens.word_end.Statement.{statement}
 use Rattle.text.proofs.tokens.word_end.Tie as tie
@@ -17,7 +15,7 @@ abbrev μ-loop : tie.MeasureT-loop
 μ-loop l at i₀ i = length l - i
 
 loop-holds : tie.Need-loop-holds Inv-loop μ-loop
-loop-holds c = in-word-none _ _ (omega arith)
+loop-holds c = search (needs, in-word-none)
 
 shared-slice-read-is-word-byte : tie.Need-shared-slice-read-is-word-byte Inv-loop μ-loop
 shared-slice-read-is-word-byte c = search needs
@@ -26,10 +24,7 @@ is-word-byte-requires : tie.Need-is-word-byte-requires Inv-loop μ-loop
 is-word-byte-requires c κs = search needs
 
 returns : tie.Need-returns Inv-loop μ-loop
-returns c =
-    let first = c .before .before .before .before .before .before .pre .1 in
-    let e = sym (c .before .is-word-byte .ensures) ∙ not-true _ (c .if1 .taken) in
-    in-word-stops _ _ _ first (omega arith) e (c .before .before .before .before .loop .inv)
+returns c = search (needs, in-word-stops, failed)
 
 add-i : tie.Need-add-i Inv-loop μ-loop
 add-i c = search needs
@@ -38,12 +33,10 @@ loop-less : tie.Need-loop-less Inv-loop μ-loop
 loop-less c = search needs
 
 loop-again : tie.Need-loop-again Inv-loop μ-loop
-loop-again c =
-    let e = sym (c .before .is-word-byte .ensures) ∙ not-false _ (c .if1 .left) in
-    in-word-more _ _ _ (omega arith) e (c .before .before .before .before .loop .inv)
+loop-again c = search (needs, in-word-more, passed)
 
 returns-2 : tie.Need-returns-2 Inv-loop μ-loop
-returns-2 c = in-word-ends _ _ _ (c .before .before .before .pre .0) (omega arith) (c .before .loop .inv)
+returns-2 c = search (needs, in-word-ends)
 
 pub word-end-spec : {M : Type 1} → statement M
 word-end-spec =

@@ -1,0 +1,47 @@
+-- `look::look` meets its contract: a law for each way out. Assumes nothing.
+use borrow.Author.Needs.{needs}
+use Rattle.words.proofs.Tests.{failed, passed}
+use Rattle.checks.proofs.Looking.{looked-long, looked-comment, looked-bytes, looked-no-form, looked-form}
+use Rattle.checks.proofs.look.look.Statement.{statement}
+use Rattle.checks.proofs.look.look.Tie as tie
+
+returns : tie.Need-returns
+returns c = search (needs, looked-long)
+
+is-comment-requires : tie.Need-is-comment-requires
+is-comment-requires c κs = search needs
+
+returns-2 : tie.Need-returns-2
+returns-2 c = search (needs, looked-comment)
+
+all-allowed-requires : tie.Need-all-allowed-requires
+all-allowed-requires c κs = search needs
+
+returns-3 : tie.Need-returns-3
+returns-3 c = search (needs, looked-bytes, failed)
+
+form-of-requires : tie.Need-form-of-requires
+form-of-requires c κs = search needs
+
+enum-told : tie.Need-enum-told
+enum-told c = search needs
+
+returns-4 : tie.Need-returns-4
+returns-4 c = search (needs, looked-form, passed)
+
+returns-5 : tie.Need-returns-5
+returns-5 c = search (needs, looked-no-form, passed)
+
+pub look-spec : {M : Type 1} → statement M
+look-spec =
+    tie.close
+    (tie.spec
+    returns
+    is-comment-requires
+    returns-2
+    all-allowed-requires
+    returns-3
+    form-of-requires
+    enum-told
+    returns-4
+    returns-5)

@@ -1,0 +1,20 @@
+-- `take::text_refusal` meets its contract: the first check that fails decides. Assumes nothing.
+use borrow.Author.Needs.{needs}
+use Rattle.checks.proofs.Refusing.{long-refused, deep-refused, text-passed}
+use Rattle.checks.proofs.take.text_refusal.Statement.{statement}
+use Rattle.checks.proofs.take.text_refusal.Tie as tie
+
+some-long-requires : tie.Need-some-long-requires
+some-long-requires c κs = search needs
+
+returns : tie.Need-returns
+returns c = search (needs, long-refused)
+
+returns-2 : tie.Need-returns-2
+returns-2 c = search (needs, deep-refused)
+
+returns-3 : tie.Need-returns-3
+returns-3 c = search (needs, text-passed)
+
+pub text-refusal-spec : {M : Type 1} → statement M
+text-refusal-spec = tie.close (tie.spec some-long-requires returns returns-2 returns-3)

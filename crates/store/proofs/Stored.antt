@@ -1,0 +1,151 @@
+-- Storing a form of a line leaves tables that hold what was read with that line: a law for each kind of line.
+-- Assumes nothing.
+use mathlib.Core.Path.{_≡_, refl, ap, subst}
+use mathlib.Core.List.{List, [], _∷_}
+use mathlib.Core.Option.{Option}
+use Prim.Native.Nat.{ℕ, zero, suc, _+_, _*_, _≤_, _<_}
+use native.Mathlib.Omega.{arith}
+use lib.Dec.{leb}
+use lib.ListN.{length, drop}
+use lib.Seq.{slice}
+use borrow.Author.Tests.{le-leb}
+use Rattle.words.specs.Choice.{pick}
+use Rattle.program.specs.declared.case.Case.{Case}
+use Rattle.program.specs.Case.{clauseSize, constraintSize}
+use Rattle.text.specs.Tokens.{tokens}
+use Rattle.table.proofs.Kept.{kept-refl, sets-kept}
+use Rattle.formulas.specs.Sentence.{Sentence}
+use Rattle.formulas.specs.Parsing.{sizeOf}
+use Rattle.formulas.proofs.Sizes.{first-formula-size}
+use Rattle.grammar.specs.declared.line.Form.{Form}
+use Rattle.grammar.specs.declared.line.Form.the-variants.{Skipped, NoForm, Clause, Never, Seen, Query}
+use Rattle.grammar.specs.Line.{Line, Literal}
+use Rattle.grammar.specs.Parsing.{FormIs, bodyIn}
+use Rattle.names.specs.Names.{atomOf}
+use Rattle.names.specs.Row.{rowOf}
+use Rattle.store.specs.declared.masks.Masks.{Masks}
+use Rattle.store.specs.Lent.{Lent, lent}
+use Rattle.store.specs.Saying.{saidBy}
+use Rattle.store.specs.Held.{Long}
+use Rattle.store.specs.Masks.{masksBy}
+use Rattle.store.specs.Nodes.{NodeTable}
+use Rattle.store.specs.Stored.{ClauseStored, ConstraintStored, ObservedStored, QueryStored, Storable, StoredAs}
+use Rattle.store.proofs.Encoded.{encoded-length}
+use Rattle.store.proofs.Lent.{lent-same, kept-refl-all}
+use Rattle.store.proofs.NodeLaws.{nodes-kept}
+use Rattle.store.proofs.Held.{clause-held, constraint-held, observed-held, query-held}
+
+size-positive : (f : Sentence) → 1 ≤ sizeOf f
+unfolding sizeOf
+size-positive (Sentence.name w) = omega arith
+size-positive (Sentence.negation f) = omega arith
+size-positive (Sentence.joined k f g) = omega arith
+
+-- the record of a case without query has no node
+no-query : (n : ℕ) → pick (leb 1 n) 1 0 + 1 ≤ 1 → n ≡ 0
+no-query zero h = refl
+no-query (suc n) h = absurd (omega (arith, rw (le-leb 1 (suc n) (omega arith)) at h))
+
+-- the masks m are those of the literals at place at of the line l, by the first n names in the table na
+abbrev pub MasksOf : List ℕ → ℕ → List ℕ → ℕ → Masks → Type 0
+MasksOf l at na n m = (ls : List Literal) → bodyIn (tokens (drop at l)) ≡ Option.some ls → m ≡ masksBy (rowOf na n) ls
+
+module _ {l : List ℕ} {x : Form} {c : Case} {y : Line} (s : Storable l x c y) where
+  form-told : {z : Form} → x ≡ z → FormIs l z y
+  form-told e = subst (λ q. FormIs l q y) e (s .form-is)
+
+  -- what the arms of a clause and of a constraint take
+
+  module _ {k a e at : ℕ} (q : x ≡ Clause k a e at) where
+    pub clause-kind : k ≤ 2
+    clause-kind = form-told q .0
+
+    pub head-onward : a ≤ e
+    head-onward = let f = form-told q .1 in omega arith
+
+    pub head-within : e ≤ length l
+    head-within = form-told q .1 .1
+
+    pub clause-room : c .clauses < 256
+    clause-room =
+        let room = rw (form-told q .2 .line-is) at (s .room .clauses-fit) in
+        omega arith
+
+  pub never-room : {at : ℕ} → x ≡ Never at → c .constraints < 32
+  never-room q =
+      let room = rw (form-told q .line-is) at (s .room .constraints-fit) in
+      omega arith
+
+  module _ {cl co fo na : List ℕ} where
+    pub skipped-stored : x ≡ Skipped → StoredAs y c (lent cl co fo na) c (lent cl co fo na)
+    unfolding saidBy
+    skipped-stored q = record { kept = kept-refl-all _; held = λ st h known. rw (form-told q) h }
+
+    pub no-form-stored : x ≡ NoForm → StoredAs y c (lent cl co fo na) c (lent cl co fo na)
+    unfolding saidBy
+    no-form-stored q = record { kept = kept-refl-all _; held = λ st h known. rw (form-told q) h }
+
+    module _ (long : Long (lent cl co fo na)) {at : ℕ} {r : Case} where
+      pub clause-stored : {k a e : ℕ} {m : Masks} {u : List ℕ} → x ≡ Clause k a e at → MasksOf l at na (c .atoms) m
+          → ClauseStored (slice a e l) k m c na cl r u → StoredAs y c (lent cl co fo na) r (lent u co fo na)
+      unfolding saidBy
+      clause-stored {k} {a} {e} q i d =
+          let f = form-told q .2 in
+          let room = clause-room q in
+          record {
+            kept =
+                lent-same (rw (d .table-is) (sets-kept clauseSize (_ ∷ (_ ∷ (_ ∷ []))) cl (3 * c .clauses) (omega arith))) (kept-refl _ co)
+                (kept-refl _ fo) (kept-refl _ na);
+            held = λ st h known.
+                rw (f .line-is)
+                (clause-held st c _ h long (f .literals) (i (f .literals) (f .literals-are)) k (slice a e l)
+                (rw (f .line-is) at known) room d);
+          }
+
+      pub never-stored : {m : Masks} {u : List ℕ} → x ≡ Never at → MasksOf l at na (c .atoms) m → ConstraintStored m c co r u
+          → StoredAs y c (lent cl co fo na) r (lent cl u fo na)
+      unfolding saidBy
+      never-stored q i d =
+          let f = form-told q in
+          let room = never-room q in
+          record {
+            kept =
+                lent-same (kept-refl _ cl) (rw (d .table-is) (sets-kept constraintSize (_ ∷ (_ ∷ [])) co (2 * c .constraints) (omega arith)))
+                (kept-refl _ fo) (kept-refl _ na);
+            held = λ st h known.
+                rw (f .line-is)
+                (constraint-held st c _ h long (f .literals) (i (f .literals) (f .literals-are))
+                (rw (f .line-is) at known) room d);
+          }
+
+      pub seen-stored : {m : Masks} → x ≡ Seen at → MasksOf l at na (c .atoms) m → ObservedStored m c r
+          → StoredAs y c (lent cl co fo na) r (lent cl co fo na)
+      unfolding saidBy
+      seen-stored q i d =
+          let f = form-told q in
+          record {
+            kept = kept-refl-all _;
+            held = λ st h known.
+                rw (f .line-is)
+                (observed-held st c _ h long (f .reading ∷ []) (i (f .reading ∷ []) (f .literals-are))
+                (rw (f .line-is) at known) d);
+          }
+
+      pub query-stored : {d : ℕ} {u : List ℕ} → x ≡ Query at d → QueryStored l at c na fo r u
+          → StoredAs y c (lent cl co fo na) r (lent cl co u na)
+      unfolding saidBy
+      query-stored q d =
+          let f = form-told q in
+          let b = first-formula-size l at (f .sentence) _ (f .items-are) in
+          let none = no-query (c .nodes) (rw (f .line-is) at (s .room .query-fits)) in
+          let some = size-positive (f .sentence) in
+          record {
+            kept =
+                lent-same (kept-refl _ cl) (kept-refl _ co)
+                (rw (ap (λ (k : NodeTable). k .table) (d .nodes-are)) (nodes-kept _ (c .nodes) fo)) (kept-refl _ na);
+            held = λ st h known.
+                let e = encoded-length (atomOf (st .names)) (f .sentence) in
+                rw (f .line-is)
+                (query-held st c _ h long (f .items-are) (rw (f .line-is) at known) none (omega (arith, s .short)) d
+                (omega arith));
+          }
