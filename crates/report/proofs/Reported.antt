@@ -11,6 +11,7 @@ use borrow.Author.Tests.{lt-ltb, le-ltb}
 use Rattle.words.proofs.Tests.{lt-or-le}
 use Rattle.table.specs.Filled.{padded}
 use Rattle.table.proofs.Filled.{filled-exact, padded-length}
+use Rattle.program.specs.Case.{tablesFull}
 use Rattle.program.specs.Cause.{causesOf}
 use Rattle.program.specs.Sound.{sound}
 use Rattle.program.proofs.Soundness.{clauses-held, sound-full, sound-limits}
@@ -25,7 +26,7 @@ use Rattle.store.specs.Saying.{Said}
 use Rattle.store.specs.Tables.{clauseWords, constraintWords, caseSaid}
 use Rattle.reader.specs.Reading.{Outcome, refusalOf, lineOfRefusal, readFile}
 use Rattle.reader.specs.Operation.{earlyRefusal, ReadAs}
-use Rattle.reader.proofs.EarlyRefusals.{Full, early-none, early-file-long}
+use Rattle.reader.proofs.EarlyRefusals.{early-none, early-file-long}
 use Rattle.reader.proofs.RefusalNumbers.{Numbered, file-numbered}
 use Rattle.output.specs.Writing.{Room}
 use Rattle.wording.specs.Text.{answerText, refusalText}
@@ -64,16 +65,16 @@ pub record Accepted (f : List ℕ) (u : Lent) (r : Answer) : Type 0 where
   pub names-are : u .names ≡ padded 1024 (rowsOf (said .names))
 
 module _ (f : List ℕ) (t u : Lent) (r : Answer) (x : Exact t) (h : ReadAs f t u r) where
-  is-full : Full f t true
+  is-full : true ≡ tablesFull (t .clauses) (t .constraints) (t .formula)
   is-full =
-      tables-full (t .clauses) (t .constraints) (t .formula) (omega (arith, x .clauses-exact))
-      (omega (arith, x .constraints-exact)) (omega (arith, x .formula-exact))
+      sym (tables-full (t .clauses) (t .constraints) (t .formula) (omega (arith, x .clauses-exact))
+      (omega (arith, x .constraints-exact)) (omega (arith, x .formula-exact)))
 
   is-early : 32768 < length f → earlyRefusal f t ≡ 2
-  is-early l = early-file-long f t is-full (omega (arith, x .names-exact)) l
+  is-early l = sym (early-file-long f t is-full refl (omega (arith, x .names-exact)) l)
 
   not-early : length f ≤ 32768 → earlyRefusal f t ≡ 0
-  not-early l = early-none f t is-full (omega (arith, x .names-exact)) l
+  not-early l = sym (early-none f t is-full refl (omega (arith, x .names-exact)) l)
 
   pub refused-report : (r .refusal ≡ 0 → ⊥) → refusalText (r .refusal) (r .line) ≡ reportText f
   refused-report k = ⊎-elim long short (lt-or-le 32768 (length f))
@@ -90,11 +91,12 @@ module _ (f : List ℕ) (t u : Lent) (r : Answer) (x : Exact t) (h : ReadAs f t 
   accepted-case : (st : Said) → readFile f ≡ Outcome.case st → length f ≤ 32768 → Accepted f u r
   accepted-case st e l =
       let n = not-early l in
+      let z : r .refusal ≡ 0 = rw (n, e) at (h .refusal-is) in
       record {
         said = st;
         read-is = e;
         text-is = report-read f l ∙ ap outcomeText e;
-        case-is = rw (n, e) at (h .case-is);
+        case-is = rw (z, e) at (h .case-is);
         clauses-are = rw (n, e) at (h .clauses-are) ∙ filled-exact 768 _ (t .clauses) (x .clauses-exact);
         constraints-are = rw (n, e) at (h .constraints-are) ∙ filled-exact 64 _ (t .constraints) (x .constraints-exact);
         formula-is = rw (n, e) at (h .formula-is) ∙ filled-exact 128 _ (t .formula) (x .formula-exact);

@@ -1,5 +1,6 @@
 -- The laws of this crate, a file for each notion.
 -- Lent: the four tables filled in their sizes.
+-- KeptTables: their lengths, and tables that hold nothing.
 -- Formulas: the atoms of a formula, and the nodes of a form.
 -- Encoded: formulas by a lookup of names.
 -- Literals: the words of literals.
@@ -10,6 +11,7 @@
 -- Held: tables that hold what was read with one row, reading, query or name more.
 -- Stored: what storing a form of a line leaves, for each kind of line.
 pub mod Lent
+pub mod KeptTables
 pub mod Formulas
 pub mod Encoded
 pub mod Literals
