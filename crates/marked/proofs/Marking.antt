@@ -19,15 +19,15 @@ use Rattle.text.specs.Tokens.{tokensFrom}
 use Rattle.table.specs.Filled.{padded}
 use Rattle.names.specs.Names.{someLong, withName, withNames, rowsOf}
 use Rattle.formulas.specs.Sentence.{depthOf}
-use Rattle.formulas.specs.Keyword.{nodeOf, kindOf}
+use Rattle.formulas.specs.Keyword.{nodeOf}
 use Rattle.text.specs.Words.{beginsWithLetter, namesFrom, placeOf}
 use Rattle.formulas.specs.Sentence.{isSentence}
 use Rattle.formulas.specs.Items.{withForm, itemsOf}
 use Rattle.grammar.specs.Line.{areNamed, isLine}
 use Rattle.grammar.specs.LineOf.{literalsOf, lineOf}
-use Rattle.store.specs.Saying.{someOn, plainAtoms, negatedAtoms, encoded, saidBy}
+use Rattle.store.specs.Saying.{someOn, atomsBy, encodedBy, saidBy}
 use Rattle.store.specs.Tables.{clauseWords, constraintWords, formulaNodes}
-use Rattle.checks.specs.Checks.{formRefusal, lineRefusal, saidAfter}
+use Rattle.checks.specs.Checks.{lookRefusal, formRefusal, lineRefusal, saidAfter}
 use Rattle.reader.specs.Reading.{ending, readLines, readFile}
 use Rattle.marked.specs.Marked.{MarkedRows}
 
@@ -37,7 +37,7 @@ unfolding ones onesIn has word valueOf literalsBelow nodes withNode spelled form
     someTrue allFalse nextValue step rounds roundCount settled observedTrue noneBroken explainsUnder setExplains
     subsetOf properOf someProper minimal minimalsBelow roundsBelow trueInAll falseInAll verdictOf isWordByte isAllowed
     allOf sameBytes linesFrom isComment tokensFrom padded namesFrom someLong placeOf withName withNames rowsOf nodeOf
-    kindOf beginsWithLetter depthOf withForm itemsOf literalsOf lineOf someOn plainAtoms negatedAtoms encoded saidBy
+    beginsWithLetter depthOf withForm itemsOf literalsOf lineOf someOn atomsBy encodedBy saidBy lookRefusal
     formRefusal lineRefusal saidAfter clauseWords ending readLines readFile constraintWords formulaNodes isSentence
     areNamed isLine
 marked-rows = refl

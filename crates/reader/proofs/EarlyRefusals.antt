@@ -1,90 +1,95 @@
 -- Laws of the early refusals 1 and 2, which touch nothing, and of reading where there is none. Assumes nothing.
-use mathlib.Core.Path.{_≡_, refl, sym}
-use mathlib.Core.Bool.{Bool, true, false}
+use mathlib.Core.Path.{_≡_, refl, sym, ap, _∙_}
+use mathlib.Core.Bool.{Bool, true, false, not}
 use mathlib.Core.List.{List, [], _∷_}
 use Prim.Native.Nat.{ℕ, zero, suc, _≤_, _<_}
 use lib.Dec.{leb}
 use lib.ListN.{length}
-use borrow.Author.Tests.{leb-true, le-leb, lt-leb}
-use Rattle.words.specs.Choice.{check}
+use borrow.Author.Tests.{leb-true, le-leb, lt-leb, not-true, not-false}
+use Rattle.words.specs.Choice.{unlessRefused, check}
 use Rattle.words.proofs.Tests.{and-true-l, and-true-r}
-use Rattle.program.specs.Case.{tablesFull}
+use Rattle.words.proofs.Checks.{none-failed}
+use Rattle.program.specs.Case.{nameSize, tablesFull}
 use Rattle.program.proofs.Soundness.{full-clauses, full-constraints, full-formula}
 use Rattle.store.specs.Lent.{Lent}
-use Rattle.store.specs.Tables.{formulaNodes}
+use Rattle.store.specs.Tables.{noCase}
 use Rattle.store.specs.Held.{Long}
-use Rattle.words.proofs.Checks.{none-failed}
 use Rattle.reader.specs.declared.read.Answer.{Answer}
 use Rattle.reader.specs.Operation.{tablesFit, earlyRefusal, ReadAs}
 use Rattle.reader.specs.Steps.{refusedAt, LinesRead}
 
-module _ (f : List ℕ) (t : Lent) where
-  abbrev pub Full : Bool → Type 0
-  Full b = tablesFull (t .clauses) (t .constraints) (t .formula) ≡ b
+unless-refused : {A : Type 0} (n : ℕ) (x y : A) → (n ≡ 0 → ⊥) → y ≡ unlessRefused n x y
+unless-refused zero x y h = absurd (h refl)
+unless-refused (suc n) x y h = refl
 
-  pub long-tables : Full true → 1024 ≤ length (t .names) → Long t
-  long-tables h k = record {
-    clauses-long = full-clauses (t .clauses) (t .constraints) (t .formula) h;
-    constraints-long = full-constraints (t .clauses) (t .constraints) (t .formula) h;
-    formula-long = full-formula (t .clauses) (t .constraints) (t .formula) h;
-    names-long = k;
-  }
+-- the four tables fit where they have their full sizes
+pub fit-long : (t : Lent) → tablesFit t ≡ true → Long t
+unfolding tablesFit
+fit-long t h =
+    let a = tablesFull (t .clauses) (t .constraints) (t .formula) in
+    let b = leb nameSize (length (t .names)) in
+    let full = and-true-l a b h in
+    record {
+      clauses-long = full-clauses _ _ _ full;
+      constraints-long = full-constraints _ _ _ full;
+      formula-long = full-formula _ _ _ full;
+      names-long = leb-true nameSize (length (t .names)) (and-true-r a b h);
+    }
 
-  -- the four tables fit where they have their full sizes
-  pub fit-long : tablesFit t ≡ true → Long t
-  unfolding tablesFit
-  fit-long h =
-      let a = tablesFull (t .clauses) (t .constraints) (t .formula) in
-      let b = leb 1024 (length (t .names)) in
-      long-tables (and-true-l a b h) (leb-true 1024 (length (t .names)) (and-true-r a b h))
-
-  pub early-table-short : Full false → earlyRefusal f t ≡ 1
+-- the tests one after the other
+module _ (f : List ℕ) (t : Lent) {b : Bool} (full : b ≡ tablesFull (t .clauses) (t .constraints) (t .formula)) where
+  pub early-table-short : not b ≡ true → 1 ≡ earlyRefusal f t
   unfolding earlyRefusal tablesFit
-  early-table-short h = rw h
+  early-table-short h = rw (← full, not-true b h)
 
-  pub early-names-short : Full true → length (t .names) < 1024 → earlyRefusal f t ≡ 1
-  unfolding earlyRefusal tablesFit
-  early-names-short h k = rw (h, lt-leb 1024 (length (t .names)) k)
+  module _ (h : not b ≡ false) where
+    pub early-names-short : length (t .names) < nameSize → 1 ≡ earlyRefusal f t
+    unfolding earlyRefusal tablesFit
+    early-names-short k = rw (← full, not-false b h, lt-leb nameSize (length (t .names)) k)
 
-  pub early-file-long : Full true → 1024 ≤ length (t .names) → 32768 < length f → earlyRefusal f t ≡ 2
-  unfolding earlyRefusal tablesFit
-  early-file-long h k l = rw (h, le-leb 1024 (length (t .names)) k, lt-leb (length f) 32768 l)
+    module _ (k : nameSize ≤ length (t .names)) where
+      pub early-file-long : 32768 < length f → 2 ≡ earlyRefusal f t
+      unfolding earlyRefusal tablesFit
+      early-file-long l = rw (← full, not-false b h, le-leb nameSize _ k, lt-leb (length f) 32768 l)
 
-  pub early-none : Full true → 1024 ≤ length (t .names) → length f ≤ 32768 → earlyRefusal f t ≡ 0
-  unfolding earlyRefusal tablesFit
-  early-none h k l = rw (h, le-leb 1024 (length (t .names)) k, le-leb (length f) 32768 l)
+      pub early-none : length f ≤ 32768 → 0 ≡ earlyRefusal f t
+      unfolding earlyRefusal tablesFit
+      early-none l = rw (← full, not-false b h, le-leb nameSize _ k, le-leb (length f) 32768 l)
 
-  read-early : (n : ℕ) (r : Answer) → earlyRefusal f t ≡ suc n → r ≡ refusedAt (suc n) 0 → ReadAs f t t r
-  unfolding formulaNodes
-  read-early n r e a = record {
-    refusal-is = rw (a, e);
-    line-is = rw (a, e);
-    case-is = rw (a, e);
-    clauses-are = rw e;
-    constraints-are = rw e;
-    formula-is = rw e;
-    names-are = rw e;
-  }
-
-  -- a refusal with a number that is not 0
-  pub read-refused : (n : ℕ) (r : Answer) → n ≡ earlyRefusal f t → (n ≡ 0 → ⊥) → r ≡ refusedAt n 0 → ReadAs f t t r
-  read-refused zero r e h a = absurd (h refl)
-  read-refused (suc n) r e h a = read-early n r (sym e) a
-
+-- the number n is that of the early refusal
+module _ (f : List ℕ) (t : Lent) {n : ℕ} (e : n ≡ earlyRefusal f t) where
   -- where there is none, the tables have their sizes and the file is not too long
-  pub early-passed : earlyRefusal f t ≡ 0 → Long t × (length f ≤ 32768)
+  pub early-passed : n ≡ 0 → Long t × (length f ≤ 32768)
   unfolding earlyRefusal
-  early-passed e =
-      let p = none-failed (check 1 (tablesFit t) ∷ check 2 (leb (length f) 32768) ∷ []) refl e in
-      (fit-long (p .0), leb-true _ 32768 (p .1 .0))
+  early-passed z =
+      let p = none-failed (check 1 (tablesFit t) ∷ check 2 (leb (length f) 32768) ∷ []) refl (sym e ∙ z) in
+      (fit-long t (p .0), leb-true _ 32768 (p .1 .0))
 
-  pub read-through : (u : Lent) (r : Answer) → earlyRefusal f t ≡ 0 → LinesRead f t u r → ReadAs f t u r
-  read-through u r e h = record {
-    refusal-is = rw e (h .refusal-is);
-    line-is = rw e (h .line-is);
-    case-is = rw e (h .case-is);
-    clauses-are = rw e (h .clauses-are);
-    constraints-are = rw e (h .constraints-are);
-    formula-is = rw e (h .formula-is);
-    names-are = rw e (h .names-are);
+  -- what is chosen by an early refusal
+  chosen : {A : Type 0} (x y : A) → (n ≡ 0 → ⊥) → y ≡ unlessRefused (earlyRefusal f t) x y
+  chosen x y h = rw (← e) (unless-refused n x y h)
+
+  pub read-refused : (n ≡ 0 → ⊥) → ReadAs f t t (refusedAt n 0)
+  read-refused h = record {
+    refusal-is = rw (← e) (unless-refused n _ n h);
+    line-is = chosen _ 0 h;
+    case-is = unless-refused n _ noCase h;
+    clauses-are = chosen _ (t .clauses) h;
+    constraints-are = chosen _ (t .constraints) h;
+    formula-is = chosen _ (t .formula) h;
+    names-are = chosen _ (t .names) h;
+  }
+
+  passed : {A : Type 0} (x y z : A) → n ≡ 0 → z ≡ x → z ≡ unlessRefused (earlyRefusal f t) x y
+  passed x y z k h = rw (← e, k) h
+
+  pub read-through : {u : Lent} {r : Answer} → n ≡ 0 → LinesRead f t u r → ReadAs f t u r
+  read-through k h = record {
+    refusal-is = passed _ _ _ k (rw (h .answer-is));
+    line-is = passed _ _ _ k (rw (h .answer-is));
+    case-is = rw (h .answer-is);
+    clauses-are = passed _ _ _ k (ap (λ (x : Lent). x .clauses) (h .tables-are));
+    constraints-are = passed _ _ _ k (ap (λ (x : Lent). x .constraints) (h .tables-are));
+    formula-is = passed _ _ _ k (ap (λ (x : Lent). x .formula) (h .tables-are));
+    names-are = passed _ _ _ k (ap (λ (x : Lent). x .names) (h .tables-are));
   }

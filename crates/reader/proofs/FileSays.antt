@@ -1,12 +1,12 @@
 -- An accepted file's record and tables say what the file says. Assumes nothing.
 use mathlib.Core.Path.{_≡_, refl, sym, ap, _∙_}
 use mathlib.Core.List.{List, [], _∷_}
-use Prim.Native.Nat.{ℕ, zero, suc, _^_, _<_}
+use Prim.Native.Nat.{ℕ, _^_, _<_}
 use native.Mathlib.Nat.{lt-of-lt-of-le}
 use native.Mathlib.Omega.{arith}
 use lib.ListN.{length, take}
 use lib.Pow.{pow-mono}
-use Rattle.words.specs.Choice.{unlessRefused}
+use Rattle.words.proofs.Checks.{first-of-none}
 use Rattle.words.proofs.Words.{is-word}
 use Rattle.logic.specs.Formula.{Formula}
 use Rattle.logic.specs.Nodes.{formulaOf}
@@ -17,10 +17,10 @@ use Rattle.program.specs.Program.{clausesOf}
 use Rattle.text.specs.Lines.{lines}
 use Rattle.table.specs.Filled.{filled}
 use Rattle.names.specs.Names.{rowsOf}
-use Rattle.names.proofs.Each.{Each, each-gives}
+use Rattle.text.proofs.Each.{Each, each-gives}
 use Rattle.names.proofs.Rows.{filled-row}
 use Rattle.store.specs.Lent.{Lent}
-use Rattle.store.specs.Saying.{ClauseRow, Said, nothingSaid, plainAtoms, negatedAtoms}
+use Rattle.store.specs.Saying.{ClauseRow, Said, nothingSaid, atomsBy, plainAtoms, negatedAtoms}
 use Rattle.store.specs.Tables.{clauseWords, constraintWords, formulaNodes, caseSaid}
 use Rattle.store.specs.Held.{Long}
 use Rattle.reader.specs.declared.read.Answer.{Answer}
@@ -45,21 +45,22 @@ module _ (f : List ℕ) (st : Said) (e : readFile f ≡ Outcome.case st) where
 
   content-read : Saying (fileNames f) st (fileContent f)
   content-read =
-      rw (accepted-through f st e .2) at
-      (through-saying (fileNames f) (lines f) nothingSaid noContent (nothing-saying (fileNames f)) refl)
+      let a = accepted-through f st e in
+      rw (a .2) at
+      (through-saying (fileNames f) (lines f) nothingSaid noContent (nothing-saying (fileNames f)) (a .0) refl)
 
   -- a word of the atoms
   below-word : (w : ℕ) → w < 2 ^ length (st .names) → w < 2 ^ 64
   below-word w h = lt-of-lt-of-le h (pow-mono (ended .formed .names .rows .few))
 
   plain-read : st .plain ≡ plainAtoms (fileNames f) (fileContent f .observed)
-  unfolding plainAtoms
+  unfolding atomsBy
   plain-read =
       is-word 64 (st .plain) _ (below-word _ (ended .formed .observed .plain-lt))
       (content-read .plain-are)
 
   negated-read : st .negated ≡ negatedAtoms (fileNames f) (fileContent f .observed)
-  unfolding negatedAtoms
+  unfolding atomsBy
   negated-read =
       is-word 64 (st .negated) _ (below-word _ (ended .formed .observed .negated-lt))
       (content-read .negated-are)
@@ -106,7 +107,8 @@ module _ (f : List ℕ) (st : Said) (e : readFile f ≡ Outcome.case st) where
       atoms-are = rw found (ap length names-read);
       names-are = λ a h.
           rw (na, ← names-read)
-          (filled-row (st .names) (t .names) a (long .names-long) (ended .formed .names .rows .few) (rw found at h));
+          (filled-row (st .names) (t .names) a (long .names-long)
+          (let few = ended .formed .names .rows .few in let l = rw found at h in omega arith));
       clauses-are = clauses-said;
       constraints-are = constraints-said;
       plain-are = rw found plain-read;
@@ -121,16 +123,12 @@ not-refused : (o : Outcome) → Numbered o → refusalOf o ≡ 0 → (st : Said)
 not-refused (Outcome.case st) h e = (st, refl)
 not-refused (Outcome.refused n k) h e = absurd (h e)
 
-not-early : (n m : ℕ) → unlessRefused n m n ≡ 0 → (n ≡ 0) × (m ≡ 0)
-not-early zero m e = (refl, e)
-not-early (suc n) m e = absurd (omega arith)
-
 pub answer-says : (f : List ℕ) (t u : Lent) (r : Answer) → ReadAs f t u r → r .refusal ≡ 0 → Says f (r .found) u
 answer-says f t u r h z =
-    let p = not-early (earlyRefusal f t) (refusalOf (readFile f)) (sym (h .refusal-is) ∙ z) in
+    let p = first-of-none (earlyRefusal f t) (refusalOf (readFile f)) (sym (h .refusal-is) ∙ z) in
     let a = not-refused (readFile f) (file-numbered f) (p .1) in
     let early = p .0 in
     let said = a .1 in
-    says f (a .0) said (r .found) t u (early-passed f t early .0)
-    (rw (early, said) at (h .case-is)) (rw (early, said) at (h .clauses-are)) (rw (early, said) at (h .constraints-are))
+    says f (a .0) said (r .found) t u (early-passed f t (sym early) refl .0)
+    (rw (z, said) at (h .case-is)) (rw (early, said) at (h .clauses-are)) (rw (early, said) at (h .constraints-are))
     (rw (early, said) at (h .formula-is)) (rw (early, said) at (h .names-are))

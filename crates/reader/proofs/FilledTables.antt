@@ -7,9 +7,10 @@
 use mathlib.Core.Path.{_≡_, refl, ap, _∙_}
 use mathlib.Core.List.{List, [], _∷_, _++_, map, map-append}
 use Prim.Native.Nat.{ℕ, zero, suc, _+_, _*_, _/_, _%_, _≤_, _<_}
+use native.Mathlib.Nat.{not-suc-le-zero, le-of-suc-le-suc, mul-suc}
 use native.Mathlib.Omega.{arith}
-use lib.ListN.{length, getD, take, drop}
-use lib.Seq.{take-suc, take-length, length-take-le, getD-take, getD-drop, drop-cons, ext-getD}
+use lib.ListN.{length, getD, take, List·getD-append}
+use lib.Seq.{take-suc, take-length, length-take-le, getD-take, getD-append-add, ext-getD}
 use Rattle.logic.specs.Formula.{Formula, body}
 use Rattle.program.specs.Case.{clauseSize, constraintSize, plainAt, negatedAt, forbidden, forbiddenNot}
 use Rattle.program.specs.Program.{Clause, clause, byKind, clauseAt, clausesOf}
@@ -17,10 +18,9 @@ use Rattle.program.specs.Sound.{fewCauses}
 use Rattle.program.proofs.MakingSound.{few-causes-ext}
 use Rattle.table.specs.Filled.{filled}
 use Rattle.table.proofs.Filled.{filled-length, filled-at}
-use Rattle.names.proofs.Each.{Each, each-at}
+use Rattle.text.proofs.Each.{Each, each-at}
 use Rattle.store.specs.Saying.{ClauseRow, ConstraintRow}
 use Rattle.store.specs.Tables.{clauseWords, constraintWords}
-use Rattle.store.specs.Taking.{rowWith, pairWith}
 use Rattle.reader.specs.Contents.{constraintsOf}
 
 abbrev pub rowClause : ClauseRow → Clause
@@ -30,10 +30,10 @@ abbrev pub rowBody : ConstraintRow → Formula
 rowBody r = body (r .plain) (r .negated)
 
 abbrev pub noRow : ClauseRow
-noRow = rowWith 0 0 0 0
+noRow = record { head = 0; kind = 0; plain = 0; negated = 0 }
 
 abbrev pub noPair : ConstraintRow
-noPair = pairWith 0 0
+noPair = record { plain = 0; negated = 0 }
 
 -- Plain lists
 
@@ -57,33 +57,45 @@ module _ {A B : Type 0} (l : List A) (d : A) (h : A → B) (g : ℕ → List B) 
   grown-all : g (length l) ≡ map h l
   grown-all = grown-first (length l) (omega arith) ∙ ap (map h) (take-length l)
 
+-- a table of rows of w words each: word j of row k
+module _ {A : Type 0} (w : ℕ) (words : A → List ℕ) (table : List A → List ℕ) (d : A)
+    (more : (x : A) (l : List A) → table (x ∷ l) ≡ words x ++ table l) (width : (x : A) → length (words x) ≡ w) where
+  row-at : (l : List A) (k j : ℕ) → k < length l → j < w → getD (table l) (w * k + j) 0 ≡ getD (words (getD l k d)) j 0
+  row-at [] k j h m = absurd (not-suc-le-zero h)
+  row-at (x ∷ l) zero j h m =
+      let e : w * 0 + j ≡ j = omega arith in
+      let n = width x in
+      rw (more x l, e) (List·getD-append (words x) (table l) 0 j (omega arith))
+  row-at (x ∷ l) (suc k) j h m =
+      let e : w * suc k + j ≡ length (words x) + (w * k + j) = omega (arith, width x, mul-suc w k) in
+      rw (more x l, e, getD-append-add) (row-at l k j (le-of-suc-le-suc h) m)
+
+  row-word : (n : ℕ) (l : List A) (old : List ℕ) (k j i : ℕ) → n ≤ length old → i < n → k < length l → j < w
+      → i ≡ w * k + j → getD (filled n (table l) old) i 0 ≡ getD (words (getD l k d)) j 0
+  row-word n l old k j i long fits h m e = filled-at n (table l) old i fits long ∙ rw e (row-at l k j h m)
+
 -- Clauses
+
+abbrev clauseRowWords : ClauseRow → List ℕ
+clauseRowWords r = (r .head + 64 * r .kind) ∷ (r .plain ∷ (r .negated ∷ []))
 
 pub record ClauseIs (cl : List ℕ) (k : ℕ) (r : ClauseRow) : Type 0 where
   pub first-is : getD cl (3 * k) 0 ≡ r .head + 64 * r .kind
   pub plain-is : plainAt cl k ≡ r .plain
   pub negated-is : negatedAt cl k ≡ r .negated
 
-clauses-from : (cs : List ClauseRow) (k : ℕ) → drop (3 * k) (clauseWords cs) ≡ clauseWords (drop k cs)
-unfolding clauseWords
-clauses-from cs zero = refl
-clauses-from [] (suc k) = let e : 3 * suc k ≡ suc (suc (suc (3 * k))) = omega arith in rw e
-clauses-from (c ∷ cs) (suc k) =
-    let e : 3 * suc k ≡ suc (suc (suc (3 * k))) = omega arith in
-    rw e (clauses-from cs k)
-
 module _ (cs : List ClauseRow) (old : List ℕ) (long : clauseSize ≤ length old) (few : length cs ≤ 256) where
   abbrev cl : List ℕ
   cl = filled clauseSize (clauseWords cs) old
 
   clause-word : (k j i : ℕ) → k < length cs → j < 3 → i ≡ 3 * k + j
-      → getD cl i 0 ≡ getD (clauseWords (getD cs k noRow ∷ drop (suc k) cs)) j 0
+      → getD cl i 0 ≡ getD (clauseRowWords (getD cs k noRow)) j 0
+  unfolding clauseWords
   clause-word k j i l m e =
-      filled-at clauseSize (clauseWords cs) old i (omega arith) long
-      ∙ rw (e, ← getD-drop (3 * k) (clauseWords cs) j 0, clauses-from cs k, drop-cons cs k noRow l)
+      row-word 3 clauseRowWords clauseWords noRow (λ x l. refl) (λ x. refl) clauseSize cs old k j i long (omega arith) l
+      m e
 
   pub clause-is : (k : ℕ) → k < length cs → ClauseIs cl k (getD cs k noRow)
-  unfolding clauseWords
   clause-is k l = record {
     first-is = clause-word k 0 _ l (omega arith) (omega arith);
     plain-is = clause-word k 1 _ l (omega arith) (omega arith);
@@ -112,26 +124,21 @@ pub record ConstraintIs (co : List ℕ) (k : ℕ) (r : ConstraintRow) : Type 0 w
   pub plain-is : forbidden co k ≡ r .plain
   pub negated-is : forbiddenNot co k ≡ r .negated
 
-constraints-from : (cs : List ConstraintRow) (k : ℕ) → drop (2 * k) (constraintWords cs) ≡ constraintWords (drop k cs)
-unfolding constraintWords
-constraints-from cs zero = refl
-constraints-from [] (suc k) = let e : 2 * suc k ≡ suc (suc (2 * k)) = omega arith in rw e
-constraints-from (c ∷ cs) (suc k) =
-    let e : 2 * suc k ≡ suc (suc (2 * k)) = omega arith in
-    rw e (constraints-from cs k)
+abbrev constraintRowWords : ConstraintRow → List ℕ
+constraintRowWords r = r .plain ∷ (r .negated ∷ [])
 
 module _ (cs : List ConstraintRow) (old : List ℕ) (long : constraintSize ≤ length old) (few : length cs ≤ 32) where
   abbrev co : List ℕ
   co = filled constraintSize (constraintWords cs) old
 
   constraint-word : (k j i : ℕ) → k < length cs → j < 2 → i ≡ 2 * k + j
-      → getD co i 0 ≡ getD (constraintWords (getD cs k noPair ∷ drop (suc k) cs)) j 0
+      → getD co i 0 ≡ getD (constraintRowWords (getD cs k noPair)) j 0
+  unfolding constraintWords
   constraint-word k j i l m e =
-      filled-at constraintSize (constraintWords cs) old i (omega arith) long
-      ∙ rw (e, ← getD-drop (2 * k) (constraintWords cs) j 0, constraints-from cs k, drop-cons cs k noPair l)
+      row-word 2 constraintRowWords constraintWords noPair (λ x l. refl) (λ x. refl) constraintSize cs old k j i long
+      (omega arith) l m e
 
   pub constraint-is : (k : ℕ) → k < length cs → ConstraintIs co k (getD cs k noPair)
-  unfolding constraintWords
   constraint-is k l = record {
     plain-is = constraint-word k 0 _ l (omega arith) (omega arith);
     negated-is = constraint-word k 1 _ l (omega arith) (omega arith);

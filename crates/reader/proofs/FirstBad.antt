@@ -2,13 +2,13 @@
 -- one of the two is so. Assumes nothing.
 use mathlib.Core.Path.{_≡_, refl, sym, ap, _∙_}
 use mathlib.Core.Bool.{true}
-use mathlib.Core.List.{List, [], _∷_}
+use mathlib.Core.List.{List, [], _∷_, _++_, append-nil}
 use mathlib.Core.Logic.{_⊎_, inl, inr, ⊎-elim}
 use Prim.Native.Nat.{ℕ, zero, suc, _+_}
-use native.Mathlib.Nat.{not-suc-le-zero, le-of-suc-le-suc}
 use native.Mathlib.Omega.{arith}
 use lib.Dec.{eqb}
-use lib.ListN.{take}
+use lib.ListN.{length, getD, take}
+use lib.Seq.{length-take-le, split-at}
 use borrow.Author.Tests.{eqb-true, eq-eqb}
 use Rattle.words.proofs.Tests.{and-true-l, and-true-r}
 use Rattle.text.specs.Lines.{lines}
@@ -35,10 +35,6 @@ module _ (l : List ℕ) (ls : List (List ℕ)) (st : Said) where
   unfolding allPass saidThrough
   bad-here n e = record { there = omega arith; before-pass = refl; refused-with = e; not-zero = λ z. omega arith }
 
-  bad-first : (n : ℕ) → BadAt (l ∷ ls) st n 0 → lineRefusal st l ≡ n
-  unfolding saidThrough
-  bad-first n b = b .refused-with
-
   bad-later : (n k : ℕ) → lineRefusal st l ≡ 0 → BadAt ls (saidAfter st l) n k → BadAt (l ∷ ls) st n (suc k)
   unfolding allPass saidThrough
   bad-later n k e b = record {
@@ -48,40 +44,31 @@ module _ (l : List ℕ) (ls : List (List ℕ)) (st : Said) where
     not-zero = b .not-zero;
   }
 
-bad-behind : (l : List ℕ) (ls : List (List ℕ)) (st : Said) (n k : ℕ) → BadAt (l ∷ ls) st n (suc k)
-    → (lineRefusal st l ≡ 0) × BadAt ls (saidAfter st l) n k
-unfolding saidThrough
-bad-behind l ls st n k b =
-    let p = first-passes l (take k ls) st (b .before-pass) in
-    let rest : BadAt ls (saidAfter st l) n k = record {
-      there = le-of-suc-le-suc (b .there);
-      before-pass = p .1;
-      refused-with = b .refused-with;
-      not-zero = b .not-zero;
-    } in
-    (p .0, rest)
-
 -- Both ways
+
+-- behind lines that pass, the others are read
+read-behind : (ls ms : List (List ℕ)) (st : Said) (k : ℕ) → allPass ls st ≡ true
+    → readLines (ls ++ ms) st k ≡ readLines ms (saidThrough ls st) (length ls + k)
+unfolding saidThrough
+read-behind [] ms st k h = let s : 0 + k ≡ k = omega arith in rw s
+read-behind (l ∷ ls) ms st k h =
+    let p = first-passes l ls st h in
+    let s : length ls + (k + 1) ≡ length (l ∷ ls) + k = omega arith in
+    lines-go l (ls ++ ms) st k (p .0) ∙ read-behind ls ms (saidAfter st l) (k + 1) (p .1) ∙ ap (readLines ms _) s
 
 all-read : (ls : List (List ℕ)) (st : Said) (k : ℕ) → allPass ls st ≡ true
     → readLines ls st k ≡ ending (saidThrough ls st)
-unfolding readLines saidThrough
-all-read [] st k h = refl
-all-read (l ∷ ls) st k h =
-    let p = first-passes l ls st h in
-    lines-go l ls st k (p .0) ∙ all-read ls (saidAfter st l) (k + 1) (p .1)
+unfolding readLines
+all-read ls st k h = rw append-nil at (read-behind ls [] st k h)
 
 bad-read : (ls : List (List ℕ)) (st : Said) (n j k : ℕ) → BadAt ls st n j
     → readLines ls st k ≡ Outcome.refused n (j + k)
-bad-read [] st n j k b = absurd (not-suc-le-zero (b .there))
-bad-read (l ∷ ls) st n zero k b =
-    let e = bad-first l ls st n b in
-    let s : k ≡ 0 + k = omega arith in
-    lines-stop l ls st k (λ z. b .not-zero (sym e ∙ z)) ∙ cc
-bad-read (l ∷ ls) st n (suc j) k b =
-    let p = bad-behind l ls st n j b in
-    let s : j + (k + 1) ≡ suc j + k = omega arith in
-    lines-go l ls st k (p .0) ∙ bad-read ls (saidAfter st l) n j (k + 1) (p .1) ∙ ap (Outcome.refused n) s
+bad-read ls st n j k b =
+    let before = take j ls in
+    ap (λ (m : List (List ℕ)). readLines m st k) (split-at ls j [] (b .there))
+    ∙ read-behind before _ st k (b .before-pass)
+    ∙ lines-stop (getD ls j []) _ (saidThrough before st) _ (λ z. b .not-zero (sym (b .refused-with) ∙ z))
+    ∙ rw (b .refused-with, length-take-le j ls (omega (arith, b .there)))
 
 -- all of the lines pass, or one is the first bad one
 abbrev AllOrBad : List (List ℕ) → Said → Type 0

@@ -14,7 +14,7 @@ use Rattle.program.proofs.MakingSound.{tables-full, limits-hold, within-below, 
 use Rattle.program.proofs.MakingSound.{constraint-passes, constraints-pass}
 use Rattle.table.specs.Filled.{filled}
 use Rattle.table.proofs.Filled.{filled-length}
-use Rattle.names.proofs.Each.{each-at}
+use Rattle.text.proofs.Each.{each-at}
 use Rattle.store.specs.Lent.{Lent}
 use Rattle.store.specs.Held.{Long}
 use Rattle.store.specs.Saying.{ClauseRow, ConstraintRow, Said}

@@ -6,9 +6,10 @@ use native.Mathlib.Omega.{arith}
 use lib.ListN.{length}
 use Rattle.text.specs.Tokens.{tokens}
 use Rattle.formulas.specs.Parsing.{sizeOf}
-use Rattle.formulas.proofs.Sizes.{tokens-le-bytes}
-use Rattle.grammar.proofs.Shapes.{Shaped, line-shaped}
-use Rattle.names.proofs.Each.{each-at}
+use Rattle.text.proofs.TokenCounts.{tokens-le-bytes}
+use Rattle.grammar.proofs.LineLaws.{Shaped, line-shaped}
+use Rattle.text.proofs.Each.{each-at}
+use Rattle.names.specs.Names.{atomOf}
 use Rattle.names.proofs.Adding.{distinct-atom}
 use Rattle.store.proofs.Encoded.{encoded-length}
 use Rattle.checks.specs.Naming.{IsName}
@@ -21,7 +22,7 @@ use Rattle.reader.proofs.FileSays.{answer-says}
 use Rattle.reader.proofs.FirstBad.{file-passes, file-bad, read-cases, ending-line}
 
 pub accepted-sound : AcceptedSound
-accepted-sound f st t h e = ended-sound st t (fit-long f t h) (accepted-formed f st e)
+accepted-sound f st t h e = ended-sound st t (fit-long t h) (accepted-formed f st e)
 
 pub tables-say : TablesSay
 tables-say = answer-says
@@ -52,4 +53,4 @@ no-bad-line f n e =
 pub nodes-fit : NodesFit
 nodes-fit l f ns h e =
     let s : 2 * sizeOf f ≤ length (tokens l) = subst (Shaped (length (tokens l))) e (line-shaped (tokens l)) in
-    omega (arith, encoded-length ns f, tokens-le-bytes l)
+    omega (arith, encoded-length (atomOf ns) f, tokens-le-bytes l)

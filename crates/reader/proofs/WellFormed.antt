@@ -1,7 +1,7 @@
 -- What was read is well formed: within the limits, over its names only, and of the listed shapes. Assumes nothing.
 --
 --   Rows P m l           at most m entries, and P holds of each
---   Below n p q          every bit of the two words names one of n atoms
+--   BitsBelow n p q      every bit of the two words names one of n atoms
 --   NamesFormed ns       at most 64 names, which are names and differ
 --   ClauseFormed n c     a clause over n atoms; ConstraintFormed and QueryFormed are alike
 --   OneQuery n fs        the one query of fs, over n atoms, and its nodes
@@ -20,7 +20,7 @@ use Rattle.logic.specs.Claims.{Spells}
 use Rattle.program.specs.Sound.{bare, shaped}
 use Rattle.names.specs.Names.{withNames}
 use Rattle.names.proofs.Distinct.{Distinct}
-use Rattle.names.proofs.Each.{Each, each-append, each-gives}
+use Rattle.text.proofs.Each.{Each, each-append, each-gives}
 use Rattle.names.proofs.Adding.{distinct-none, with-names-length, with-names-distinct, with-names-each}
 use Rattle.store.specs.Saying.{ClauseRow, ConstraintRow, Said, nothingSaid, renamed}
 use Rattle.store.specs.Tables.{formulaNodes}
@@ -46,7 +46,7 @@ module _ {A : Type 0} (P : A → Type 0) (m : ℕ) (l : List A) where
 
 -- The parts, over n atoms
 
-pub record Below (n p q : ℕ) : Type 0 where
+pub record BitsBelow (n p q : ℕ) : Type 0 where
   pub plain-lt : p < 2 ^ n
   pub negated-lt : q < 2 ^ n
 
@@ -56,11 +56,11 @@ pub record NamesFormed (ns : List (List ℕ)) : Type 0 where
 
 pub record ClauseFormed (n : ℕ) (c : ClauseRow) : Type 0 where
   pub head-lt : c .head < n
-  pub below : Below n (c .plain) (c .negated)
+  pub below : BitsBelow n (c .plain) (c .negated)
   pub shape : shaped (c .kind) (bare (c .plain) (c .negated)) ≡ true
 
 pub record ConstraintFormed (n : ℕ) (c : ConstraintRow) : Type 0 where
-  pub below : Below n (c .plain) (c .negated)
+  pub below : BitsBelow n (c .plain) (c .negated)
   pub some : bare (c .plain) (c .negated) ≡ false
 
 pub record QueryFormed (n : ℕ) (f : Formula) : Type 0 where
@@ -95,13 +95,13 @@ pub record WellFormed (st : Said) : Type 0 where
   pub names : NamesFormed (st .names)
   pub clauses : Rows (ClauseFormed (length (st .names))) 256 (st .clauses)
   pub constraints : Rows (ConstraintFormed (length (st .names))) 32 (st .constraints)
-  pub observed : Below (length (st .names)) (st .plain) (st .negated)
+  pub observed : BitsBelow (length (st .names)) (st .plain) (st .negated)
   pub queries : Rows (QueryFormed (length (st .names))) 1 (st .queries)
 
 -- by its parts
 pub well-formed : (st : Said) → NamesFormed (st .names) → Rows (ClauseFormed (length (st .names))) 256 (st .clauses)
     → Rows (ConstraintFormed (length (st .names))) 32 (st .constraints)
-    → Below (length (st .names)) (st .plain) (st .negated)
+    → BitsBelow (length (st .names)) (st .plain) (st .negated)
     → Rows (QueryFormed (length (st .names))) 1 (st .queries) → WellFormed st
 well-formed st ns cs ds o fs = record { names = ns; clauses = cs; constraints = ds; observed = o; queries = fs }
 
@@ -113,7 +113,7 @@ nothing-formed =
 -- More names
 
 module _ (m n : ℕ) (h : m ≤ n) where
-  below-mono : (p q : ℕ) → Below m p q → Below n p q
+  below-mono : (p q : ℕ) → BitsBelow m p q → BitsBelow n p q
   below-mono p q b = record {
     plain-lt = lt-of-lt-of-le (b .plain-lt) (pow-mono h);
     negated-lt = lt-of-lt-of-le (b .negated-lt) (pow-mono h);

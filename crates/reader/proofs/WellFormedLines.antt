@@ -1,153 +1,128 @@
 -- What was read stays well formed with a line that passes its checks, and so is at the end of an accepted file.
 -- Assumes nothing.
-use mathlib.Core.Path.{_≡_, refl, sym, ap, _∙_}
+use mathlib.Core.Path.{_≡_, refl, ap, subst}
 use mathlib.Core.Bool.{Bool, true, false, not}
 use mathlib.Core.List.{List, [], _∷_}
 use Prim.Native.Nat.{ℕ, zero, suc, _*_, _≤_}
 use native.Mathlib.Omega.{arith}
-use lib.Dec.{leb}
 use lib.ListN.{length}
-use borrow.Author.Tests.{leb-true, leb-false, ltb-false, not-true}
+use borrow.Author.Tests.{leb-true}
 use Rattle.words.specs.Choice.{pick}
-use Rattle.logic.specs.Formula.{Formula}
+use Rattle.words.proofs.Checks.{none-failed}
 use Rattle.program.specs.Sound.{bare, shaped, fewCauses}
 use Rattle.text.specs.Lines.{lines, isComment}
 use Rattle.text.specs.Tokens.{tokens}
-use Rattle.formulas.specs.Sentence.{Sentence}
-use Rattle.formulas.specs.Parsing.{sizeOf}
-use Rattle.formulas.specs.Sentence.{depthOf}
-use Rattle.formulas.proofs.Sentences.{EachName}
-use Rattle.formulas.proofs.Sizes.{tokens-le-bytes}
-use Rattle.grammar.specs.Line.{Line, Literal, isDeep}
-use Rattle.grammar.specs.LineOf.{lineOf}
-use Rattle.grammar.proofs.Names.{EachLiteral, EachOfLine}
-use Rattle.grammar.proofs.Shapes.{Bodied, ClauseShaped, Shaped, line-shaped}
 use Rattle.text.specs.Words.{namesIn}
-use Rattle.names.specs.Names.{withNames}
+use Rattle.text.proofs.Each.{Each}
+use Rattle.formulas.specs.Sentence.{Sentence, sentenceNames, depthOf}
+use Rattle.formulas.specs.Parsing.{sizeOf}
+use Rattle.text.proofs.TokenCounts.{tokens-le-bytes}
+use Rattle.grammar.specs.Line.{Line, Literal, bodyNames, lineNames, isLine, brings}
+use Rattle.grammar.specs.LineOf.{lineOf}
+use Rattle.grammar.proofs.LineLaws.{line-names, Bodied, ClauseShaped, Shaped, line-shaped}
+use Rattle.names.specs.Names.{atomOf, withNames}
 use Rattle.names.proofs.Adding.{each-found}
-use Rattle.store.specs.Saying.{ClauseRow, ConstraintRow, Said, nothingSaid, plainAtoms, negatedAtoms, encoded}
-use Rattle.store.specs.Saying.{clauseRow, constraintRow, renamed, withClause, withConstraint, withObserved, withQuery}
-use Rattle.store.specs.Saying.{saidBy}
-use Rattle.store.specs.Checking.{isOneTooMany, isSecondQuery}
+use Rattle.store.specs.Saying.{Said, nothingSaid, plainAtoms, negatedAtoms, encoded, clauseRow, constraintRow}
+use Rattle.store.specs.Saying.{renamed, saidBy}
 use Rattle.store.specs.Tables.{clauseWords}
 use Rattle.store.proofs.Encoded.{Known, encoded-length, encoded-depth, encoded-over}
-use Rattle.store.proofs.Literals.{or-atoms-lt, plain-lt, negated-lt, none-bare, body-not-bare}
+use Rattle.store.proofs.Literals.{or-atoms-lt, atoms-lt, none-bare, body-not-bare}
 use Rattle.checks.specs.Checks.{saidWith, lineRefusal, saidAfter}
-use Rattle.checks.proofs.LineNames.{names-line, names-named}
-use Rattle.words.proofs.Checks.{none-failed}
-use Rattle.checks.proofs.SaidWith.{rows-said, queries-said}
-use Rattle.checks.proofs.Passing.{FormPasses, line-passes}
+use Rattle.checks.proofs.Passing.{RoomPasses, FormPasses, line-passes}
+use Rattle.checks.proofs.Naming.{names-named}
 use Rattle.reader.specs.Reading.{Outcome, endChecks, readFile}
 use Rattle.reader.specs.Claims.{saidThrough, allPass}
-use Rattle.reader.proofs.WellFormed.{rows-push, Below, ClauseFormed, ConstraintFormed, QueryFormed, OneQuery}
+use Rattle.reader.proofs.WellFormed.{rows-push, BitsBelow, ClauseFormed, ConstraintFormed, QueryFormed, OneQuery}
 use Rattle.reader.proofs.WellFormed.{one-query, WellFormed, well-formed, nothing-formed, renamed-formed}
 use Rattle.reader.proofs.FirstBad.{first-passes, accepted-through}
-
--- An entry more
-
-module _ (st : Said) (r : WellFormed st) where
-  clause-formed : (c : ClauseRow) → leb 256 (length (st .clauses)) ≡ false → ClauseFormed (length (st .names)) c
-      → WellFormed (withClause st c)
-  clause-formed c h k =
-      well-formed (withClause st c) (r .names) (rows-push _ 256 _ c (r .clauses) (leb-false 256 _ h) k)
-      (r .constraints) (r .observed) (r .queries)
-
-  constraint-formed : (c : ConstraintRow) → leb 32 (length (st .constraints)) ≡ false
-      → ConstraintFormed (length (st .names)) c → WellFormed (withConstraint st c)
-  constraint-formed c h k =
-      well-formed (withConstraint st c) (r .names) (r .clauses)
-      (rows-push _ 32 _ c (r .constraints) (leb-false 32 _ h) k) (r .observed) (r .queries)
-
-  observed-formed : (l : List Literal)
-      → Below (length (st .names)) (plainAtoms (st .names) l) (negatedAtoms (st .names) l)
-      → WellFormed (withObserved st l)
-  observed-formed l b =
-      let few = r .names .rows .few in
-      well-formed (withObserved st l) (r .names) (r .clauses) (r .constraints)
-      (record {
-        plain-lt = or-atoms-lt _ _ _ few (r .observed .plain-lt) (b .plain-lt);
-        negated-lt = or-atoms-lt _ _ _ few (r .observed .negated-lt) (b .negated-lt);
-      })
-      (r .queries)
-
-  query-formed : (f : Formula) → leb 1 (length (st .queries)) ≡ false → QueryFormed (length (st .names)) f
-      → WellFormed (withQuery st f)
-  query-formed f h k =
-      well-formed (withQuery st f) (r .names) (r .clauses) (r .constraints) (r .observed)
-      (rows-push _ 1 _ f (r .queries) (leb-false 1 _ h) k)
 
 -- What a line's parts make, where their names are all among ns
 
 module _ (ns : List (List ℕ)) (h : length ns ≤ 64) where
-  literals-below : (l : List Literal) → EachLiteral (Known ns) l
-      → Below (length ns) (plainAtoms ns l) (negatedAtoms ns l)
-  literals-below l k = record { plain-lt = plain-lt ns l h k; negated-lt = negated-lt ns l h k }
+  literals-below : (l : List Literal) → Each (Known ns) (bodyNames l)
+      → BitsBelow (length ns) (plainAtoms ns l) (negatedAtoms ns l)
+  literals-below l k =
+      record { plain-lt = atoms-lt (atomOf ns) _ false l h k; negated-lt = atoms-lt (atomOf ns) _ true l h k }
 
-  row-formed : (kind : ℕ) (w : List ℕ) (l : List Literal) → Known ns w → ClauseShaped kind l → EachLiteral (Known ns) l
-      → ClauseFormed (length ns) (clauseRow ns kind w l)
+  row-formed : (kind : ℕ) (w : List ℕ) (l : List Literal) → Known ns w → ClauseShaped kind l
+      → Each (Known ns) (bodyNames l) → ClauseFormed (length ns) (clauseRow ns kind w l)
   row-formed kind w l k b e = record { head-lt = k; below = literals-below l e; shape = go kind b }
     where
       bare-none : l ≡ [] → bare (plainAtoms ns l) (negatedAtoms ns l) ≡ true
-      bare-none d = rw d (none-bare ns)
+      bare-none d = rw d (none-bare (atomOf ns) (length ns))
 
       go : (i : ℕ) → ClauseShaped i l → shaped i (bare (plainAtoms ns l) (negatedAtoms ns l)) ≡ true
       go zero d = bare-none d
       go (suc zero) d = bare-none d
-      go (suc (suc zero)) d = ap not (body-not-bare ns l h d e)
+      go (suc (suc zero)) d = ap not (body-not-bare (atomOf ns) _ l h d e)
       go (suc (suc (suc i))) d = absurd d
 
-  never-formed : (l : List Literal) → Bodied l → EachLiteral (Known ns) l
+  never-formed : (l : List Literal) → Bodied l → Each (Known ns) (bodyNames l)
       → ConstraintFormed (length ns) (constraintRow ns l)
-  never-formed l b e = record { below = literals-below l e; some = body-not-bare ns l h b e }
+  never-formed l b e = record { below = literals-below l e; some = body-not-bare (atomOf ns) _ l h b e }
 
-  sentence-formed : (f : Sentence) → EachName (Known ns) f → 2 * sizeOf f ≤ 200 → depthOf f ≤ 16
+  sentence-formed : (f : Sentence) → Each (Known ns) (sentenceNames f) → 2 * sizeOf f ≤ 200 → depthOf f ≤ 16
       → QueryFormed (length ns) (encoded ns f)
   sentence-formed f k s d = record {
-    over-atoms = encoded-over ns f k;
-    not-deep = omega (arith, encoded-depth ns f);
-    nodes-few = omega (arith, encoded-length ns f);
+    over-atoms = encoded-over (atomOf ns) _ f k;
+    not-deep = omega (arith, encoded-depth (atomOf ns) f);
+    nodes-few = omega (arith, encoded-length (atomOf ns) f);
   }
 
-said-formed : (ns : List (List ℕ)) (st : Said) (x : Line) (n : ℕ) → WellFormed (renamed ns st) → EachOfLine (Known ns) x
-    → Shaped n x → n ≤ 200 → isDeep x ≡ false → isOneTooMany st x ≡ false → isSecondQuery st x ≡ false
-    → WellFormed (saidBy (renamed ns st) x)
-unfolding saidBy
-said-formed ns st Line.skipped n r p b s d m q = r
-said-formed ns st Line.noForm n r p b s d m q = r
-said-formed ns st (Line.clause k w l) n r p b s d m q =
-    clause-formed _ r _ m (row-formed ns (r .names .rows .few) k w l (p .0) b (p .1))
-said-formed ns st (Line.never l) n r p b s d m q =
-    constraint-formed _ r _ m (never-formed ns (r .names .rows .few) l b p)
-said-formed ns st (Line.seen (Literal.literal a w)) n r p b s d m q =
-    let l = Literal.literal a w ∷ [] in
-    observed-formed _ r l (literals-below ns (r .names .rows .few) l (p, tt))
-said-formed ns st (Line.query f) n r p b s d m q =
-    query-formed _ r _ q (sentence-formed ns (r .names .rows .few) f p (omega arith) (ltb-false 16 _ d))
+  -- with one entry more
+  module _ (st : Said) (r : WellFormed (renamed ns st)) (n : ℕ) (s : n ≤ 200) where
+    said-formed : (y : Line) → Each (Known ns) (lineNames y) → Shaped n y → brings y .depth ≤ 16
+        → RoomPasses (length ns) (length (st .clauses)) (length (st .constraints)) (length (st .queries)) (brings y)
+        → WellFormed (saidBy (renamed ns st) y)
+    unfolding saidBy
+    said-formed Line.skipped p b d m = r
+    said-formed Line.noForm p b d m = r
+    said-formed (Line.clause k w l) p b d m =
+        well-formed _ (r .names)
+        (rows-push _ 256 _ _ (r .clauses) (omega (arith, m .clauses-few)) (row-formed k w l (p .0) b (p .1)))
+        (r .constraints) (r .observed) (r .queries)
+    said-formed (Line.never l) p b d m =
+        well-formed _ (r .names) (r .clauses)
+        (rows-push _ 32 _ _ (r .constraints) (omega (arith, m .constraints-few)) (never-formed l b p)) (r .observed)
+        (r .queries)
+    said-formed (Line.seen x) p b d m =
+        let o = literals-below (x ∷ []) p in
+        well-formed _ (r .names) (r .clauses) (r .constraints)
+        (record {
+          plain-lt = or-atoms-lt _ _ _ h (r .observed .plain-lt) (o .plain-lt);
+          negated-lt = or-atoms-lt _ _ _ h (r .observed .negated-lt) (o .negated-lt);
+        })
+        (r .queries)
+    said-formed (Line.query f) p b d m =
+        well-formed _ (r .names) (r .clauses) (r .constraints) (r .observed)
+        (rows-push _ 1 _ _ (r .queries) (omega (arith, m .queries-few)) (sentence-formed f p (omega arith) d))
 
 -- A line
+
+-- the names of a line are known with it
+pub line-known : (st : Said) (l : List ℕ) → isLine (lineOf (tokens l)) ≡ true
+    → Each (Known (withNames (st .names) (namesIn (tokens l)))) (lineNames (lineOf (tokens l)))
+line-known st l h =
+    let ws : List (List ℕ) = namesIn (tokens l) in
+    subst (Each (Known (withNames (st .names) ws))) (line-names (tokens l) h) (each-found (st .names) ws)
 
 form-formed : (st : Said) (l : List ℕ) → WellFormed st → length l ≤ 200 → FormPasses st (tokens l)
     → WellFormed (saidWith st (tokens l))
 form-formed st l r h p =
     let ws : List (List ℕ) = namesIn (tokens l) in
     let ns : List (List ℕ) = withNames (st .names) ws in
-    let named = renamed-formed st ws r (names-named l (p .is-form) (p .names-short)) (p .names-few) in
-    let known = names-line (Known ns) (tokens l) (each-found (st .names) ws) in
-    let y = lineOf (tokens l) in
-    said-formed ns st y (length (tokens l)) named known (line-shaped (tokens l))
-    (omega (arith, tokens-le-bytes l)) (p .not-deep)
-    (not-true _ (sym (rows-said st ns (r .clauses .few) (r .constraints .few) y) ∙ p .rows-few))
-    (not-true _ (sym (queries-said st ns (r .queries .few) y) ∙ p .only-query))
+    let named = renamed-formed st ws r (names-named l (p .is-line) (p .names-short)) (p .room .names-few) in
+    said-formed ns (p .room .names-few) st named (length (tokens l)) (omega (arith, tokens-le-bytes l))
+    (lineOf (tokens l)) (line-known st l (p .is-line)) (line-shaped (tokens l)) (p .not-deep) (p .room)
 
 picked-formed : (t : Bool) (x y : Said) → WellFormed x → (t ≡ false → WellFormed y) → WellFormed (pick t x y)
 picked-formed true x y h k = h
 picked-formed false x y h k = k refl
 
-pub line-formed : (st : Said) (l : List ℕ) → WellFormed st → lineRefusal st l ≡ 0 → WellFormed (saidAfter st l)
+line-formed : (st : Said) (l : List ℕ) → WellFormed st → lineRefusal st l ≡ 0 → WellFormed (saidAfter st l)
 unfolding saidAfter
 line-formed st l r e =
-    let p = line-passes st l e in
-    picked-formed (isComment l) st _ r (λ c. form-formed st l r (p .short) (p .form-passes c))
+    picked-formed (isComment l) st _ r (λ c. let p = line-passes st l e c in form-formed st l r (p .0) (p .1))
 
 -- A file
 

@@ -11,6 +11,7 @@ use Prim.Native.Nat.{ℕ, suc, _≤_, _<_}
 use lib.Dec.{eqb}
 use lib.ListN.{length, getD, take}
 use Rattle.logic.specs.Nodes.{nodes}
+use Rattle.program.specs.Case.{clauseSize, constraintSize, formulaSize}
 use Rattle.program.specs.Sound.{sound}
 use Rattle.text.specs.Lines.{lines}
 use Rattle.text.specs.Tokens.{tokens}
@@ -33,9 +34,9 @@ use Rattle.reader.specs.Operation.{tablesFit, ReadAs}
 abbrev pub AcceptedSound : Type 0
 AcceptedSound = (f : List ℕ) (st : Said) (t : Lent) → tablesFit t ≡ true → readFile f ≡ Outcome.case st
     → sound (caseSaid st)
-    (filled 768 (clauseWords (st .clauses)) (t .clauses))
-    (filled 64 (constraintWords (st .constraints)) (t .constraints))
-    (filled 128 (formulaNodes (st .queries)) (t .formula)) ≡ true
+    (filled clauseSize (clauseWords (st .clauses)) (t .clauses))
+    (filled constraintSize (constraintWords (st .constraints)) (t .constraints))
+    (filled formulaSize (formulaNodes (st .queries)) (t .formula)) ≡ true
 
 -- where reading accepts the file f, the record and the tables that it leaves say what f says
 abbrev pub TablesSay : Type 0

@@ -12,17 +12,16 @@ use Prim.Native.Nat.{ℕ}
 use lib.Dec.{leb}
 use lib.ListN.{length}
 use Rattle.words.specs.Choice.{unlessRefused, check, firstFailed}
-use Rattle.program.specs.Case.{tablesFull}
+use Rattle.program.specs.Case.{clauseSize, constraintSize, formulaSize, nameSize, tablesFull}
 use Rattle.table.specs.Filled.{filled}
 use Rattle.names.specs.Names.{rowsOf}
 use Rattle.store.specs.Lent.{Lent}
-use Rattle.store.specs.Saying.{nothingSaid}
-use Rattle.store.specs.Tables.{clauseWords, constraintWords, formulaNodes, caseSaid}
+use Rattle.store.specs.Tables.{clauseWords, constraintWords, formulaNodes, caseSaid, noCase}
 use Rattle.reader.specs.declared.read.Answer.{Answer}
 use Rattle.reader.specs.Reading.{saidIn, refusalOf, lineOfRefusal, readFile}
 
 unfoldable pub tablesFit : Lent → Bool
-tablesFit t = tablesFull (t .clauses) (t .constraints) (t .formula) && leb 1024 (length (t .names))
+tablesFit t = tablesFull (t .clauses) (t .constraints) (t .formula) && leb nameSize (length (t .names))
 
 unfoldable pub earlyRefusal : List ℕ → Lent → ℕ
 earlyRefusal f t = firstFailed (check 1 (tablesFit t) ∷ check 2 (leb (length f) 32768) ∷ [])
@@ -33,9 +32,9 @@ tableLeft f t n l old = unlessRefused (earlyRefusal f t) (filled n l old) old
 pub record ReadAs (f : List ℕ) (t u : Lent) (r : Answer) : Type 0 where
   pub refusal-is : r .refusal ≡ unlessRefused (earlyRefusal f t) (refusalOf (readFile f)) (earlyRefusal f t)
   pub line-is : r .line ≡ unlessRefused (earlyRefusal f t) (lineOfRefusal (readFile f)) 0
-  pub case-is : r .found ≡ caseSaid (unlessRefused (earlyRefusal f t) (saidIn (readFile f)) nothingSaid)
-  pub clauses-are : u .clauses ≡ tableLeft f t 768 (clauseWords (saidIn (readFile f) .clauses)) (t .clauses)
+  pub case-is : r .found ≡ unlessRefused (r .refusal) (caseSaid (saidIn (readFile f))) noCase
+  pub clauses-are : u .clauses ≡ tableLeft f t clauseSize (clauseWords (saidIn (readFile f) .clauses)) (t .clauses)
   pub constraints-are : u .constraints
-      ≡ tableLeft f t 64 (constraintWords (saidIn (readFile f) .constraints)) (t .constraints)
-  pub formula-is : u .formula ≡ tableLeft f t 128 (formulaNodes (saidIn (readFile f) .queries)) (t .formula)
-  pub names-are : u .names ≡ tableLeft f t 1024 (rowsOf (saidIn (readFile f) .names)) (t .names)
+      ≡ tableLeft f t constraintSize (constraintWords (saidIn (readFile f) .constraints)) (t .constraints)
+  pub formula-is : u .formula ≡ tableLeft f t formulaSize (formulaNodes (saidIn (readFile f) .queries)) (t .formula)
+  pub names-are : u .names ≡ tableLeft f t nameSize (rowsOf (saidIn (readFile f) .names)) (t .names)

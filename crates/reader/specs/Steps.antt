@@ -1,55 +1,63 @@
 -- What the code's steps of reading answer and leave.
 --
 --   endRefusalIn c cl       the checks 11 and 12 of a record and its clause table
+--   Countable c cl          what counting the causes of a record takes
 --   Zeroed t u              the tables u are t with zeros in their sizes
---   LinesRead f t u r       what reading a file of at most 32,768 bytes into tables of full size answers and leaves
+--   Ready f t               the file f is not too long, and the tables t have their full sizes and hold nothing
+--   refusedAt n k           the answer for the refusal n at line k; answerOf o the answer for an outcome
+--   FileTaken f t u r       what reading a file into tables that hold nothing answers and leaves
+--   LinesRead f t u r       what reading a file into tables of full size answers and leaves
 use mathlib.Core.Path.{_≡_}
 use mathlib.Core.List.{List, [], _∷_}
-use Prim.Native.Nat.{ℕ, _*_, _≤_}
+use Prim.Native.Nat.{ℕ, _≤_}
 use lib.Dec.{leb}
 use lib.ListN.{length}
-use Rattle.words.specs.Choice.{check, firstFailed}
+use Rattle.words.specs.Choice.{unlessRefused, check, firstFailed}
 use Rattle.program.specs.declared.case.Case.{Case}
+use Rattle.program.specs.Case.{clauseSize}
 use Rattle.program.specs.Sound.{fewCauses}
-use Rattle.table.specs.Filled.{filled}
-use Rattle.names.specs.Names.{rowsOf}
-use Rattle.store.specs.Lent.{Lent}
-use Rattle.store.specs.Tables.{clauseWords, constraintWords, formulaNodes, caseWith, caseSaid}
+use Rattle.store.specs.Lent.{Lent, filledWith}
+use Rattle.store.specs.Saying.{nothingSaid}
+use Rattle.store.specs.Tables.{wordsOf, caseSaid, noCase}
+use Rattle.store.specs.Held.{Long, InLimits, Held, Kept}
 use Rattle.reader.specs.declared.read.Answer.{Answer}
-use Rattle.reader.specs.Reading.{saidIn, refusalOf, lineOfRefusal, readFile}
+use Rattle.reader.specs.Reading.{Outcome, saidIn, refusalOf, lineOfRefusal, readFile}
 
 -- a record has nodes exactly when there is a query
 abbrev pub endRefusalIn : Case → List ℕ → ℕ
 endRefusalIn c cl =
     firstFailed (check 11 (leb 1 (c .nodes)) ∷ check 12 (fewCauses (c .atoms) cl (c .clauses)) ∷ [])
 
--- what counting the causes of a record with a query takes
+-- a record with a query has an atom
 pub record Countable (c : Case) (cl : List ℕ) : Type 0 where
+  pub limits : InLimits c
   pub atoms-some : (c .nodes ≡ 0 → ⊥) → 1 ≤ c .atoms
-  pub atoms-few : c .atoms ≤ 64
-  pub clauses-few : c .clauses ≤ 256
-  pub clauses-fit : 3 * c .clauses ≤ length cl
+  pub clauses-long : clauseSize ≤ length cl
 
--- the tables u are t with zeros in their sizes
 pub record Zeroed (t u : Lent) : Type 0 where
-  pub clauses-zero : u .clauses ≡ filled 768 [] (t .clauses)
-  pub constraints-zero : u .constraints ≡ filled 64 [] (t .constraints)
-  pub formula-zero : u .formula ≡ filled 128 [] (t .formula)
-  pub names-zero : u .names ≡ filled 1024 [] (t .names)
+  pub tables-are : u ≡ filledWith (wordsOf nothingSaid) t
 
--- the record of zeros
-abbrev pub noCase : Case
-noCase = caseWith 0 0 0 0 0 0
+pub record Ready (f : List ℕ) (t : Lent) : Type 0 where
+  pub short : length f ≤ 32768
+  pub long : Long t
+  pub held : Held nothingSaid noCase t
 
 abbrev pub refusedAt : ℕ → ℕ → Answer
 refusedAt n k = record { refusal = n; line = k; found = noCase }
 
--- the file f, of at most 32,768 bytes, read into tables of full size
+abbrev pub answerOf : Outcome → Answer
+answerOf o = record {
+  refusal = refusalOf o;
+  line = lineOfRefusal o;
+  found = unlessRefused (refusalOf o) (caseSaid (saidIn o)) noCase;
+}
+
+-- the tables hold what the file says, where it is not refused
+pub record FileTaken (f : List ℕ) (t u : Lent) (r : Answer) : Type 0 where
+  pub answer-is : r ≡ answerOf (readFile f)
+  pub kept : Kept t u
+  pub tables-are : r .refusal ≡ 0 → u ≡ filledWith (wordsOf (saidIn (readFile f))) u
+
 pub record LinesRead (f : List ℕ) (t u : Lent) (r : Answer) : Type 0 where
-  pub refusal-is : r .refusal ≡ refusalOf (readFile f)
-  pub line-is : r .line ≡ lineOfRefusal (readFile f)
-  pub case-is : r .found ≡ caseSaid (saidIn (readFile f))
-  pub clauses-are : u .clauses ≡ filled 768 (clauseWords (saidIn (readFile f) .clauses)) (t .clauses)
-  pub constraints-are : u .constraints ≡ filled 64 (constraintWords (saidIn (readFile f) .constraints)) (t .constraints)
-  pub formula-is : u .formula ≡ filled 128 (formulaNodes (saidIn (readFile f) .queries)) (t .formula)
-  pub names-are : u .names ≡ filled 1024 (rowsOf (saidIn (readFile f) .names)) (t .names)
+  pub answer-is : r ≡ answerOf (readFile f)
+  pub tables-are : u ≡ filledWith (wordsOf (saidIn (readFile f))) t

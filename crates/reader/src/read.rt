@@ -5,8 +5,7 @@ ghost use lib.ListN.{length};
 ghost use Rattle.store.specs.Lent.{lent};
 ghost use Rattle.store.specs.Held.{Long};
 ghost use Rattle.reader.specs.Operation.{earlyRefusal, ReadAs};
-ghost use Rattle.reader.specs.Steps.{endRefusalIn, Countable, Zeroed, refusedAt, LinesRead};
-use checks::take::Taken;
+ghost use Rattle.reader.specs.Steps.{endRefusalIn, Countable, Zeroed, Ready, FileTaken, LinesRead};
 use checks::take::take_line;
 use program::case::Case;
 
@@ -17,23 +16,15 @@ pub struct Answer {
     pub found: Case,
 }
 
-// A refusal with its number and line.
-fn refused(number: u32, line: u32) -> Answer
-    ensures { λ r. ⌜ r ≡ refusedAt number line ⌝ }
-{
-    Answer {
-        refusal: number,
-        line,
-        found: Case {
-            atoms: 0,
-            clauses: 0,
-            constraints: 0,
-            nodes: 0,
-            plain: 0,
-            negated: 0,
-        },
-    }
-}
+// The record of zeros.
+const NO_CASE: Case = Case {
+    atoms: 0,
+    clauses: 0,
+    constraints: 0,
+    nodes: 0,
+    plain: 0,
+    negated: 0,
+};
 
 // Zeroes the four tables in their sizes.
 fn zero(clauses: &mut [u64], constraints: &mut [u64], formula: &mut [u8], names: &mut [u8])
@@ -45,7 +36,7 @@ fn zero(clauses: &mut [u64], constraints: &mut [u64], formula: &mut [u8], names:
     table::zero_words(clauses, Case::CLAUSE_WORDS);
     table::zero_words(constraints, Case::CONSTRAINT_WORDS);
     table::zero_bytes(formula, Case::FORMULA_BYTES);
-    table::zero_bytes(names, 1024);
+    table::zero_bytes(names, Case::NAME_BYTES);
 }
 
 // The number of the refusal after the last line: 11 no query, 12 more than ten causes, 0 for neither.
@@ -62,7 +53,52 @@ fn end_refusal(c: Case, clauses: &[u64]) -> u32
     0
 }
 
-// Reads a file of at most 32,768 bytes into tables of full size.
+// Reads a file of at most 32,768 bytes into tables that hold nothing, up to the first refusal.
+fn take_lines(
+    file: &[u8],
+    clauses: &mut [u64],
+    constraints: &mut [u64],
+    formula: &mut [u8],
+    names: &mut [u8],
+) -> Answer
+    requires { ⌜ Ready (now file) (lent (now clauses) (now constraints) (now formula) (now names)) ⌝ }
+    ensures { λ r. ⌜ FileTaken (now (file .entry))
+        (lent (now (clauses .entry)) (now (constraints .entry)) (now (formula .entry)) (now (names .entry)))
+        (lent (now (clauses .exit)) (now (constraints .exit)) (now (formula .exit)) (now (names .exit))) r ⌝ }
+{
+    let mut c = NO_CASE;
+    let mut at = 0;
+    let mut line: u32 = 1;
+    while at < file.len() {
+        let e = text::lines::line_end(file, at);
+        let taken = take_line(&file[at..e], c, clauses, constraints, formula, names);
+        if taken.refusal != 0 {
+            return Answer {
+                refusal: taken.refusal,
+                line,
+                found: NO_CASE,
+            };
+        }
+        c = taken.found;
+        at = e + 1;
+        line += 1;
+    }
+    let number = end_refusal(c, clauses);
+    if number != 0 {
+        return Answer {
+            refusal: number,
+            line: 0,
+            found: NO_CASE,
+        };
+    }
+    Answer {
+        refusal: 0,
+        line: 0,
+        found: c,
+    }
+}
+
+// Reads a file of at most 32,768 bytes into tables of full size, which a refusal leaves zero in their sizes.
 fn read_lines(
     file: &[u8],
     clauses: &mut [u64],
@@ -76,40 +112,11 @@ fn read_lines(
         (lent (now (clauses .exit)) (now (constraints .exit)) (now (formula .exit)) (now (names .exit))) r ⌝ }
 {
     zero(clauses, constraints, formula, names);
-    let mut c = Case {
-        atoms: 0,
-        clauses: 0,
-        constraints: 0,
-        nodes: 0,
-        plain: 0,
-        negated: 0,
-    };
-    let mut at = 0;
-    let mut line: u32 = 1;
-    while at < file.len() {
-        let e = text::lines::line_end(file, at);
-        match take_line(&file[at..e], c, clauses, constraints, formula, names) {
-            Taken::Next(next) => {
-                c = next;
-                at = e + 1;
-                line += 1;
-            }
-            Taken::Stop(number) => {
-                zero(clauses, constraints, formula, names);
-                return refused(number, line);
-            }
-        }
-    }
-    let number = end_refusal(c, clauses);
-    if number != 0 {
+    let answer = take_lines(file, clauses, constraints, formula, names);
+    if answer.refusal != 0 {
         zero(clauses, constraints, formula, names);
-        return refused(number, 0);
     }
-    Answer {
-        refusal: 0,
-        line: 0,
-        found: c,
-    }
+    answer
 }
 
 // The number of the refusal before the first line: 1 a table shorter than its size, 2 a file over 32,768 bytes, 0 for
@@ -127,7 +134,7 @@ fn early_refusal(
     if !program::case::tables_full(clauses, constraints, formula) {
         return 1;
     }
-    if names.len() < 1024 {
+    if names.len() < Case::NAME_BYTES {
         return 1;
     }
     if 32768 < file.len() {
@@ -152,7 +159,11 @@ pub fn read(
 {
     let number = early_refusal(file, clauses, constraints, formula, names);
     if number != 0 {
-        return refused(number, 0);
+        return Answer {
+            refusal: number,
+            line: 0,
+            found: NO_CASE,
+        };
     }
     read_lines(file, clauses, constraints, formula, names)
 }

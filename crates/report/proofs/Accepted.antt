@@ -21,7 +21,7 @@ use Rattle.names.specs.Names.{rowsOf}
 use Rattle.names.specs.Row.{nameIn}
 use Rattle.names.specs.Held.{Named}
 use Rattle.names.proofs.RowNames.{every-named, table-name}
-use Rattle.names.proofs.LineNames.{no-zero}
+use Rattle.names.proofs.Short.{no-zero}
 use Rattle.question.specs.declared.operation.Answer.{Answer}
 use Rattle.question.specs.Operation.{settingsIn, choicesIn, questionRefusal, Asked}
 use Rattle.question.proofs.Answers.{refusal-none, asked-verdict, asked-minimal, asked-written}

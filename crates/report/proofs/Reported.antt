@@ -13,6 +13,7 @@ use Rattle.words.proofs.Checks.{first-failed-here, first-failed-behind}
 use Rattle.words.proofs.Tests.{lt-or-le}
 use Rattle.table.specs.Filled.{padded}
 use Rattle.table.proofs.Filled.{filled-exact, padded-length}
+use Rattle.program.specs.Case.{tablesFull}
 use Rattle.program.specs.Program.{headsOf}
 use Rattle.program.specs.Cause.{causesAmong}
 use Rattle.program.specs.Sound.{sound}
@@ -29,7 +30,7 @@ use Rattle.store.specs.Saying.{Said}
 use Rattle.store.specs.Tables.{clauseWords, constraintWords, caseSaid}
 use Rattle.reader.specs.Reading.{Outcome, refusalOf, lineOfRefusal, readFile}
 use Rattle.reader.specs.Operation.{earlyRefusal, ReadAs}
-use Rattle.reader.proofs.EarlyRefusals.{Full, early-none, early-file-long}
+use Rattle.reader.proofs.EarlyRefusals.{early-none, early-file-long}
 use Rattle.reader.proofs.RefusalNumbers.{Numbered, file-numbered}
 use Rattle.output.specs.declared.Answer as output
 use Rattle.output.specs.Writing.{Room}
@@ -70,16 +71,16 @@ pub record Accepted (f : List ℕ) (u : Lent) (r : Answer) : Type 0 where
 -- the file f was read into the tables t of their sizes, which became u, with the answer r
 module _ {f : List ℕ} {t u : Lent} {r : Answer} {list work : List ℕ}
     (x : FullSizes (t .clauses) (t .constraints) (t .formula) (t .names) list work) (h : ReadAs f t u r) where
-  is-full : Full f t true
+  is-full : true ≡ tablesFull (t .clauses) (t .constraints) (t .formula)
   is-full =
-      tables-full (t .clauses) (t .constraints) (t .formula) (omega (arith, x .clauses-full))
-      (omega (arith, x .constraints-full)) (omega (arith, x .formula-full))
+      sym (tables-full (t .clauses) (t .constraints) (t .formula) (omega (arith, x .clauses-full))
+      (omega (arith, x .constraints-full)) (omega (arith, x .formula-full)))
 
   is-early : 32768 < length f → earlyRefusal f t ≡ 2
-  is-early l = early-file-long f t is-full (omega (arith, x .names-full)) l
+  is-early l = sym (early-file-long f t is-full refl (omega (arith, x .names-full)) l)
 
   not-early : length f ≤ 32768 → earlyRefusal f t ≡ 0
-  not-early l = early-none f t is-full (omega (arith, x .names-full)) l
+  not-early l = sym (early-none f t is-full refl (omega (arith, x .names-full)) l)
 
   refused-report : (r .refusal ≡ 0 → ⊥) → refusalText (r .refusal) (r .line) ≡ reportText f
   refused-report k = ⊎-elim long short (lt-or-le 32768 (length f))
@@ -100,11 +101,12 @@ module _ {f : List ℕ} {t u : Lent} {r : Answer} {list work : List ℕ}
   accepted-case : (st : Said) → readFile f ≡ Outcome.case st → length f ≤ 32768 → Accepted f u r
   accepted-case st e l =
       let n = not-early l in
+      let z : r .refusal ≡ 0 = rw (n, e) at (h .refusal-is) in
       record {
         said = st;
         read-is = e;
         text-is = report-read f l ∙ ap outcomeText e;
-        case-is = rw (n, e) at (h .case-is);
+        case-is = rw (z, e) at (h .case-is);
         clauses-are = rw (n, e) at (h .clauses-are) ∙ filled-exact 768 _ (t .clauses) (x .clauses-full);
         constraints-are = rw (n, e) at (h .constraints-are) ∙ filled-exact 64 _ (t .constraints) (x .constraints-full);
         formula-is = rw (n, e) at (h .formula-is) ∙ filled-exact 128 _ (t .formula) (x .formula-full);

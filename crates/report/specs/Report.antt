@@ -14,6 +14,7 @@ use lib.Dec.{leb}
 use lib.ListN.{length, getD, take}
 use Rattle.words.specs.Choice.{unlessRefused, check, firstFailed}
 use Rattle.table.specs.Filled.{padded}
+use Rattle.program.specs.Case.{clauseSize, constraintSize, formulaSize}
 use Rattle.program.specs.Cause.{causesOf}
 use Rattle.verdict.specs.declared.verdict.Verdict.{Verdict}
 use Rattle.explanation.specs.Judge.{Judge, judgeOf}
@@ -30,13 +31,13 @@ listLength = 1024
 
 -- the tables that hold what a file says, in their sizes
 abbrev pub clauseTable : Said → List ℕ
-clauseTable st = padded 768 (clauseWords (st .clauses))
+clauseTable st = padded clauseSize (clauseWords (st .clauses))
 
 abbrev pub constraintTable : Said → List ℕ
-constraintTable st = padded 64 (constraintWords (st .constraints))
+constraintTable st = padded constraintSize (constraintWords (st .constraints))
 
 abbrev pub formulaTable : Said → List ℕ
-formulaTable st = padded 128 (formulaNodes (st .queries))
+formulaTable st = padded formulaSize (formulaNodes (st .queries))
 
 abbrev pub causesIn : Said → ℕ
 causesIn st = causesOf (caseSaid st) (clauseTable st)

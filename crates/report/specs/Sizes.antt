@@ -5,11 +5,12 @@ use mathlib.Core.Path.{_≡_}
 use mathlib.Core.List.{List}
 use Prim.Native.Nat.{ℕ}
 use lib.ListN.{length}
+use Rattle.program.specs.Case.{clauseSize, constraintSize, formulaSize, nameSize}
 
 pub record FullSizes (clauses constraints formula names list work : List ℕ) : Type 0 where
-  pub clauses-full : length clauses ≡ 768
-  pub constraints-full : length constraints ≡ 64
-  pub formula-full : length formula ≡ 128
-  pub names-full : length names ≡ 1024
+  pub clauses-full : length clauses ≡ clauseSize
+  pub constraints-full : length constraints ≡ constraintSize
+  pub formula-full : length formula ≡ formulaSize
+  pub names-full : length names ≡ nameSize
   pub list-full : length list ≡ 1024
   pub work-full : length work ≡ 59049

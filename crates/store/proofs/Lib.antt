@@ -1,6 +1,7 @@
 -- The laws of this crate, a file for each notion.
 -- Lent: the four tables filled in their sizes.
 -- Saying: what a line says.
+-- KeptTables: their lengths, and tables that hold nothing.
 -- Formulas: the atoms of a formula, and the nodes of a form.
 -- Encoded: formulas by a lookup of names.
 -- Literals: the words of literals.
@@ -12,6 +13,7 @@
 -- Stored: what storing a form of a line leaves, for each kind of line.
 pub mod Lent
 pub mod Saying
+pub mod KeptTables
 pub mod Formulas
 pub mod Encoded
 pub mod Literals
