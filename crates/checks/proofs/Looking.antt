@@ -63,5 +63,7 @@ module _ {l : List ℕ} where
         looked-form o =
             let other = sym (no-form-is (tokens l)) ∙ other-form l x _ o (f .form-is) in
             let is = not-false (isLine (lineOf (tokens l))) other in
-            let formed : Formed l x = record { no-comment = sym c ∙ a; short = h; form-is = f .form-is; is-line = is } in
+            let formed : Formed l x =
+            record { no-comment = sym c ∙ a; short = h; form-is = f .form-is; is-line = is }
+            in
             record { told = (rw (le-leb _ _ h, sym c ∙ a, b, is), formed) }

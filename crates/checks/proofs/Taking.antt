@@ -118,8 +118,10 @@ module _ {l : List ℕ} {x : Form} (f : Formed l x) {b : Brings} (g : Brought x 
             });
           }
 
-          pub form-taken : {r : Case} {v : Lent} → StoredAs (lineOf (tokens l)) (withAtomCount c n) (lent cl co fo u) r v
-              → TakenAs (λ st. formRefusal st (tokens l)) (λ st. saidWith st (tokens l)) c (lent cl co fo na) (taken 0 r) v
+          pub form-taken : {r : Case} {v : Lent}
+              → StoredAs (lineOf (tokens l)) (withAtomCount c n) (lent cl co fo u) r v
+              → TakenAs (λ st. formRefusal st (tokens l)) (λ st. saidWith st (tokens l)) c (lent cl co fo na)
+              (taken 0 r) v
           form-taken {r} {v} s = record {
             kept = kept-trans-all _ _ names-kept v (s .kept);
             took = λ st h.

@@ -75,7 +75,8 @@ fn take_form(
 ) -> Taken
     requires { ⌜ Long (lent (now clauses) (now constraints) (now formula) (now names)) × InLimits c
         × Formed (now l) x ⌝ }
-    ensures { λ r. ⌜ TakenAs (λ st. formRefusal st (tokens (now (l .entry)))) (λ st. saidWith st (tokens (now (l .entry)))) c
+    ensures { λ r. ⌜ TakenAs (λ st. formRefusal st (tokens (now (l .entry))))
+        (λ st. saidWith st (tokens (now (l .entry)))) c
         (lent (now (clauses .entry)) (now (constraints .entry)) (now (formula .entry)) (now (names .entry))) r
         (lent (now (clauses .exit)) (now (constraints .exit)) (now (formula .exit)) (now (names .exit))) ⌝ }
 {
