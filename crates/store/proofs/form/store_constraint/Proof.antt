@@ -8,4 +8,6 @@ returns : tie.Need-returns
 returns c = search needs
 
 pub store-constraint-spec : {M : Type 1} → statement M
-store-constraint-spec = tie.close (tie.spec (λ c. search needs) (λ c κs. search needs) (λ c. search needs) (λ c. search needs) returns)
+store-constraint-spec =
+    tie.close
+    (tie.spec (λ c. search needs) (λ c κs. search needs) (λ c. search needs) (λ c. search needs) returns)
