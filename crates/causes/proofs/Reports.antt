@@ -5,19 +5,19 @@ use Prim.Native.Nat.{ℕ, _≤_, _<_}
 use native.Mathlib.Omega.{arith}
 use lib.ListN.{length, take}
 use Rattle.io.proofs.Counting.{counts}
-use Rattle.report.specs.declared.operation.Answer.{Answer}
+use Rattle.output.specs.declared.Answer.{Answer}
 use Rattle.report.specs.Report.{reportText}
 use Rattle.report.specs.Operation.{Reported}
 use Rattle.report.specs.Claims.{reportLimit}
-use Rattle.report.proofs.Showing.{shown-within, shown-whole}
+use Rattle.report.proofs.Showing.{report-within, report-whole}
 use Rattle.report.proofs.Theorems.{report-fits, report-cut}
 use Rattle.causes.specs.Program.{Answered, ReportOf}
 
 pub answered : {f out u : List ℕ} {r : Answer} → Reported f out r u → reportLimit ≤ length out
     → Answered f (r .length) u
 answered {f} {out} {u} {r} s room = record {
-  counted = counts (r .length) u (shown-within s);
-  text-is = shown-whole s (omega (arith, report-fits f));
+  counted = counts (r .length) u (report-within s);
+  text-is = report-whole s (omega (arith, report-fits f));
 }
 
 -- n bytes of a buffer were read, and t is their report

@@ -1,5 +1,5 @@
 -- The refusal of a line by the checks 3 to 5, one law for each way out of `look`. Assumes nothing.
-use mathlib.Core.Path.{_≡_, refl, sym, ap, _∙_}
+use mathlib.Core.Path.{_≡_, sym, ap, _∙_}
 use mathlib.Core.Bool.{Bool, true, false, not}
 use mathlib.Core.List.{List, [], _∷_}
 use Prim.Native.Nat.{ℕ, _≤_, _<_}
@@ -63,5 +63,7 @@ module _ {l : List ℕ} where
         looked-form o =
             let other = sym (no-form-is (tokens l)) ∙ other-form l x _ o (f .form-is) in
             let is = not-false (isLine (lineOf (tokens l))) other in
-            let formed : Formed l x = record { no-comment = sym c ∙ a; short = h; form-is = f .form-is; is-line = is } in
+            let formed : Formed l x =
+            record { no-comment = sym c ∙ a; short = h; form-is = f .form-is; is-line = is }
+            in
             record { told = (rw (le-leb _ _ h, sym c ∙ a, b, is), formed) }

@@ -1,12 +1,12 @@
 -- What a line that passes its checks is known to be. Assumes nothing.
 use mathlib.Core.Path.{_≡_, refl, sym, ap, _∙_}
-use mathlib.Core.Bool.{Bool, true, false, _&&_, true≢false}
-use mathlib.Core.List.{List, [], _∷_, _++_}
+use mathlib.Core.Bool.{true, false}
+use mathlib.Core.List.{List, [], _∷_}
 use Prim.Native.Nat.{ℕ, _+_, _≤_}
 use lib.Dec.{leb}
 use lib.ListN.{length}
 use borrow.Author.Tests.{leb-true, not-true}
-use Rattle.words.specs.Choice.{pick, firstOf, Check, check, firstFailed}
+use Rattle.words.specs.Choice.{firstOf, Check, check, firstFailed}
 use Rattle.words.proofs.Tests.{and-true-l, and-true-r}
 use Rattle.words.proofs.Checks.{Passes, none-failed, first-failed-append, first-of-none}
 use Rattle.text.specs.Bytes.{isAllowed, allOf}

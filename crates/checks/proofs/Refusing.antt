@@ -1,6 +1,6 @@
 -- The number of a line's refusal by the checks 6 and 7 and by the checks 8 to 10, one law for each way out of
 -- `text_refusal` and `room_refusal`. Assumes nothing.
-use mathlib.Core.Path.{_≡_, refl, sym, ap, _∙_}
+use mathlib.Core.Path.{_≡_, sym, _∙_}
 use mathlib.Core.Bool.{Bool, true, false}
 use mathlib.Core.List.{List}
 use Prim.Native.Nat.{ℕ, _+_, _-_, _≤_, _<_}

@@ -1,30 +1,26 @@
 -- The checks 6 to 10 of a line, and what taking it leaves: one law for each way out of `take_form` and `take_line`.
 -- Assumes nothing.
 use mathlib.Core.Path.{_≡_, refl, sym, ap, subst, _∙_}
-use mathlib.Core.Bool.{true, false}
-use mathlib.Core.List.{List, [], _∷_}
+use mathlib.Core.List.{List}
 use mathlib.Core.Logic.{⊎-elim}
-use Prim.Native.Nat.{ℕ, zero, suc, _≤_, _<_}
+use Prim.Native.Nat.{ℕ, zero, suc}
 use native.Mathlib.Omega.{arith}
 use lib.Dec.{leb}
 use lib.ListN.{length}
-use borrow.Author.Tests.{le-leb, lt-leb}
+use borrow.Author.Tests.{lt-leb}
 use Rattle.words.specs.Choice.{firstOf, firstFailed}
 use Rattle.words.proofs.Tests.{lt-or-le}
 use Rattle.program.specs.declared.case.Case.{Case}
-use Rattle.program.specs.Case.{nameSize}
-use Rattle.text.specs.Lines.{isComment}
 use Rattle.text.specs.Tokens.{tokens}
 use Rattle.text.specs.Words.{namesIn}
-use Rattle.text.proofs.Each.{Each}
 use Rattle.table.proofs.Kept.{kept-refl}
 use Rattle.grammar.specs.declared.brings.Brings.{Brings}
 use Rattle.grammar.specs.declared.line.Form.{Form}
-use Rattle.grammar.specs.Line.{Line, lineNames, brings}
+use Rattle.grammar.specs.Line.{Line, brings}
 use Rattle.grammar.specs.LineOf.{lineOf}
 use Rattle.grammar.specs.Parsing.{Brought}
 use Rattle.grammar.proofs.LineLaws.{line-names}
-use Rattle.names.specs.Names.{atomOf, withNames}
+use Rattle.names.specs.Names.{withNames}
 use Rattle.names.specs.Row.{rows, rowsThrough}
 use Rattle.names.proofs.Adding.{with-names-again}
 use Rattle.names.proofs.Interning.{LineInterned, rows-kept, line-interned}
@@ -38,7 +34,7 @@ use Rattle.store.proofs.Held.{withAtomCount, queries-in, names-held, named-held
 use Rattle.checks.specs.declared.look.Looked.{Looked}
 use Rattle.checks.specs.declared.look.Looked.the-variants as looked
 use Rattle.checks.specs.declared.take.Taken.{Taken}
-use Rattle.checks.specs.Checks.{lookRefusal, textChecks, roomChecks, saidWith, formRefusal, lineRefusal, saidAfter}
+use Rattle.checks.specs.Checks.{textChecks, roomChecks, saidWith, formRefusal, lineRefusal, saidAfter}
 use Rattle.checks.specs.Looked.{Formed, Told, LookedAs}
 use Rattle.checks.specs.Took.{Took, TakenAs}
 use Rattle.checks.proofs.Passing.{RoomPasses, textNumber, roomNumber, form-refusal-is, room-passes}
@@ -122,8 +118,10 @@ module _ {l : List ℕ} {x : Form} (f : Formed l x) {b : Brings} (g : Brought x 
             });
           }
 
-          pub form-taken : {r : Case} {v : Lent} → StoredAs (lineOf (tokens l)) (withAtomCount c n) (lent cl co fo u) r v
-              → TakenAs (λ st. formRefusal st (tokens l)) (λ st. saidWith st (tokens l)) c (lent cl co fo na) (taken 0 r) v
+          pub form-taken : {r : Case} {v : Lent}
+              → StoredAs (lineOf (tokens l)) (withAtomCount c n) (lent cl co fo u) r v
+              → TakenAs (λ st. formRefusal st (tokens l)) (λ st. saidWith st (tokens l)) c (lent cl co fo na)
+              (taken 0 r) v
           form-taken {r} {v} s = record {
             kept = kept-trans-all _ _ names-kept v (s .kept);
             took = λ st h.

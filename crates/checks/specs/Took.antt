@@ -1,6 +1,6 @@
 -- What taking a line answers and leaves.
 --
---   Took n after r u    the number n of its refusal, and where it is 0 a record and tables that hold what was read after
+--   Took n after r u    the number n of its refusal; where it is 0, a record and tables that hold what was read after
 --   TakenAs ..          the same for whatever was read before, and that nothing past the sizes of the tables changes
 use mathlib.Core.Path.{_≡_}
 use Prim.Native.Nat.{ℕ}

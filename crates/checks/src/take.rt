@@ -1,6 +1,5 @@
 // Taking a line: its checks, and what it adds to the record and the tables.
 ghost use mathlib.Core.Path.{_≡_};
-ghost use Prim.Native.Nat.{_≤_};
 ghost use Rattle.words.specs.Choice.{firstFailed};
 ghost use Rattle.text.specs.Tokens.{tokens};
 ghost use Rattle.text.specs.Words.{namesIn};
@@ -76,7 +75,8 @@ fn take_form(
 ) -> Taken
     requires { ⌜ Long (lent (now clauses) (now constraints) (now formula) (now names)) × InLimits c
         × Formed (now l) x ⌝ }
-    ensures { λ r. ⌜ TakenAs (λ st. formRefusal st (tokens (now (l .entry)))) (λ st. saidWith st (tokens (now (l .entry)))) c
+    ensures { λ r. ⌜ TakenAs (λ st. formRefusal st (tokens (now (l .entry))))
+        (λ st. saidWith st (tokens (now (l .entry)))) c
         (lent (now (clauses .entry)) (now (constraints .entry)) (now (formula .entry)) (now (names .entry))) r
         (lent (now (clauses .exit)) (now (constraints .exit)) (now (formula .exit)) (now (names .exit))) ⌝ }
 {

@@ -21,8 +21,8 @@ use Rattle.store.specs.Lent.{Lent}
 use Rattle.reader.specs.Operation.{ReadAs}
 use Rattle.question.specs.declared.operation.Answer as asked
 use Rattle.question.specs.Operation.{Asked}
-use Rattle.question.specs.Walk.{verdictNumber}
-use Rattle.report.specs.declared.operation.Answer as reported
+use Rattle.verdict.specs.Walk.{verdictNumber}
+use Rattle.output.specs.declared.Answer as reported
 use Rattle.report.specs.Operation.{Reported}
 use Rattle.embed.specs.Words.{caseWords, caseIn}
 

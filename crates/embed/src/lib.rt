@@ -6,12 +6,12 @@ ghost use mathlib.Core.List.{[], _∷_};
 ghost use Prim.Native.Nat.{_≤_};
 ghost use lib.ListN.{length};
 ghost use Rattle.words.specs.Lists.{over};
-ghost use Rattle.question.specs.Walk.{verdictNumber};
+ghost use Rattle.verdict.specs.Walk.{verdictNumber};
 ghost use Rattle.store.specs.Lent.{lent};
 ghost use Rattle.embed.specs.Words.{caseWords, caseIn};
 ghost use Rattle.embed.specs.Operation.{ReadOut, SettleOut, QuestionOut, ReportOut};
 use program::case::Case;
-use question::verdict::Verdict;
+use verdict::verdict::Verdict;
 
 // The case record in six words.
 fn case_in(fields: &[u64]) -> Case

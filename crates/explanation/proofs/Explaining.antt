@@ -16,8 +16,8 @@ use Rattle.logic.specs.Interpretation.{valueAt}
 use Rattle.program.specs.declared.case.Case.{Case}
 use Rattle.program.specs.declared.cause.Additions.{Additions}
 use Rattle.program.specs.Case.{forbidden, forbiddenNot}
-use Rattle.lanes.specs.declared.plane.Lanes.{Lanes}
-use Rattle.lanes.specs.Planes.{column, Worth}
+use Rattle.planes.specs.declared.plane.Lanes.{Lanes}
+use Rattle.planes.specs.Planes.{column, Worth}
 use Rattle.explanation.specs.Explanation.{observedTrue, noneBroken, explainsUnder, settledWith, setExplains}
 
 pub lacking-bits : (w v : ℕ) → v < 2 ^ 64 → (j : ℕ) → j < 64

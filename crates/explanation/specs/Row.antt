@@ -20,8 +20,8 @@ use Rattle.words.specs.Below.{any}
 use Rattle.words.specs.Bits.{has}
 use Rattle.program.specs.Cause.{atomsIn}
 use Rattle.program.specs.Setting.{choicesFor, settingsOf}
-use Rattle.lanes.specs.Planes.{at}
-use Rattle.lanes.specs.Fill.{Filled}
+use Rattle.planes.specs.Planes.{at}
+use Rattle.planes.specs.Fill.{Filled}
 use Rattle.explanation.specs.Subset.{someProper}
 use Rattle.explanation.specs.Covering.{covers, Weights}
 

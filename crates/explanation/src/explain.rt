@@ -5,10 +5,10 @@ ghost use Prim.Native.Nat.{ℕ, _*_, _≤_, _<_};
 ghost use lib.ListN.{length};
 ghost use Rattle.words.specs.Bits.{has};
 ghost use Rattle.logic.specs.Interpretation.{valueAt};
-ghost use Rattle.lanes.specs.Planes.{column, Planes};
+ghost use Rattle.planes.specs.Planes.{column, Planes};
 ghost use Rattle.explanation.specs.Explanation.{noneBroken, explainsUnder};
-use lanes::plane::Lanes;
-use lanes::plane::body;
+use planes::plane::Lanes;
+use planes::plane::body;
 use program::case::Case;
 
 // The lanes of w that are none of v.

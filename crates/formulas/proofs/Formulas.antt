@@ -20,7 +20,8 @@ use Rattle.formulas.specs.declared.formula.Head.{Head}
 use Rattle.formulas.specs.declared.formula.Head.the-variants.{NoHead, Name, Form}
 use Rattle.formulas.specs.declared.formula.Parse.{Parse}
 use Rattle.formulas.specs.declared.formula.Parse.the-variants.{NoFormula, Formula}
-use Rattle.formulas.specs.Parsing.{sizeOf, beginsFormula, NameAt, FormAt, HeadAt, FormulaAt, Parsed, closedAmong, Closed}
+use Rattle.formulas.specs.Parsing.{sizeOf, beginsFormula, NameAt, FormAt, HeadAt, FormulaAt, Parsed}
+use Rattle.formulas.specs.Parsing.{closedAmong, Closed}
 use Rattle.formulas.proofs.Keywords.{node-ge}
 use Rattle.formulas.proofs.Sentences.{depth-le-size}
 use Rattle.formulas.proofs.Reading.{items-closing, items-name, items-word, items-form}

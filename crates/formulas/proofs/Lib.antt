@@ -2,6 +2,7 @@
 -- Keywords: the numbers that words have.
 -- WordTables: words in a table.
 -- Sentences: how a formula's depth, nodes and tokens bound each other, and its names.
+-- NameSentence: the formula that is a name.
 -- Reading: what tokens are read as, by cases.
 -- FirstItem: what items begin with, by the token in front.
 -- Forms: a form in front of items.
@@ -12,6 +13,7 @@ pub mod Theorems
 pub mod Keywords
 pub mod WordTables
 pub mod Sentences
+pub mod NameSentence
 pub mod Reading
 pub mod FirstItem
 pub mod Forms

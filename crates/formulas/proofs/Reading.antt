@@ -2,8 +2,6 @@
 --
 --   FormRead k x y      the form with node k in front of the items x makes them the items y
 --   Read ts x           the tokens ts are read as the items x
---   NameFront w x f m   f is the name w, and x the items m behind it
---   FormFront k x f m   f is the form with node k, x its operands, its closing bracket and the items m behind it
 -- Assumes nothing.
 use mathlib.Core.Path.{_≡_, refl, sym}
 use mathlib.Core.Bool.{Bool, true, false}
@@ -142,38 +140,3 @@ module _ (ts : List Token) where
     pub items-form : itemsOf (Token.opening ∷ (Token.word w ∷ ts)) ≡ withForm (nodeOf w) (itemsOf ts)
     unfolding itemsOf
     items-form = refl
-
--- Items that begin with a formula
-
--- no items are items
-pub none-items : {A : Type 0} {m : List Item} → Option.none ≡ Option.some m → A
-none-items e = let z : _≡_ {A = ℕ} 0 1 = cc in absurd (omega arith)
-
-pub behind-item : (i : Item) (x : Items) (m : List Item) → prepend i x ≡ Option.some (i ∷ m) → x ≡ Option.some m
-behind-item i Option.none m e = none-items e
-behind-item i (Option.some l) m e = cc
-
-pub record NameFront (w : List ℕ) (x : Items) (f : Sentence) (m : List Item) : Type 0 where
-  pub sentence-is : f ≡ Sentence.name w
-  pub rest-is : x ≡ Option.some m
-
-pub name-front : (w : List ℕ) (x : Items) (f : Sentence) (m : List Item)
-    → prepend (Item.formula (Sentence.name w)) x ≡ Option.some (Item.formula f ∷ m) → NameFront w x f m
-name-front w Option.none f m e = none-items e
-name-front w (Option.some l) f m e = record { sentence-is = cc; rest-is = cc }
-
-pub data FormFront (k : ℕ) (x : Items) (f : Sentence) (m : List Item) : Type 0 where
-  of-negation : (g : Sentence) → k ≡ 64 → x ≡ Option.some (Item.formula g ∷ (Item.closing ∷ m))
-      → f ≡ Sentence.negation g → FormFront k x f m
-  of-joined : (g h : Sentence) → k ≤ 68 → (k ≡ 64 → ⊥)
-      → x ≡ Option.some (Item.formula g ∷ (Item.formula h ∷ (Item.closing ∷ m))) → f ≡ Sentence.joined k g h
-      → FormFront k x f m
-
-module _ (k : ℕ) (f : Sentence) (m : List Item) where
-  read-front : {x y : Items} → FormRead k x y → y ≡ Option.some (Item.formula f ∷ m) → FormFront k x f m
-  read-front FormRead.no-form e = none-items e
-  read-front (FormRead.negation {g} q) e = FormFront.of-negation g q (cc) (cc)
-  read-front (FormRead.joined {g} {h} b q) e = FormFront.of-joined g h b q (cc) (cc)
-
-  pub form-front : (x : Items) → withForm k x ≡ Option.some (Item.formula f ∷ m) → FormFront k x f m
-  form-front x e = read-front (form-read k x) e

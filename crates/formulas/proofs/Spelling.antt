@@ -14,8 +14,10 @@ use native.Mathlib.Omega.{arith}
 use lib.ListN.{getD}
 use borrow.Author.Tests.{leb-true, le-leb}
 use Rattle.text.specs.Tokens.{Token}
+use Rattle.text.specs.Words.{beginsWithLetter}
 use Rattle.text.proofs.ByteLaws.{and-true-both}
-use Rattle.formulas.specs.Sentence.{Sentence, formWords, tokensOf, isSentence}
+use Rattle.text.proofs.Each.{Each, each-append}
+use Rattle.formulas.specs.Sentence.{Sentence, formWords, tokensOf, isSentence, sentenceNames}
 use Rattle.formulas.specs.Items.{prepend, Item, withForm, itemsOf}
 use Rattle.formulas.specs.Parsing.{Items}
 use Rattle.formulas.proofs.Keywords.{word-node}
@@ -38,6 +40,18 @@ joined-sentence k f g h =
     let b = and-true-both _ _ (a .0) in
     let c = and-true-both _ _ (b .0) in
     record { low = leb-true 65 k (c .0); high = leb-true k 68 (c .1); first = b .1; second = a .1 }
+
+-- its names begin with a letter
+abbrev pub Lettered : List ℕ → Type 0
+Lettered w = beginsWithLetter w ≡ true
+
+pub sentence-lettered : (f : Sentence) → isSentence f ≡ true → Each Lettered (sentenceNames f)
+unfolding isSentence sentenceNames
+sentence-lettered (Sentence.name w) h = (h, tt)
+sentence-lettered (Sentence.negation f) h = sentence-lettered f h
+sentence-lettered (Sentence.joined k f g) h =
+    let j = joined-sentence k f g h in
+    each-append Lettered (sentenceNames f) _ (sentence-lettered f (j .first)) (sentence-lettered g (j .second))
 
 -- the tokens us of a form's operands and closing bracket, in front of the tokens ts
 module _ (us ts : List Token) where

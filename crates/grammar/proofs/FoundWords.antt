@@ -1,10 +1,8 @@
--- The ends of a word that was found, and what a test of it says. Assumes nothing.
-use mathlib.Core.Path.{_≡_, sym, _∙_}
-use mathlib.Core.Bool.{Bool, true, false, not}
+-- The ends of a word that was found. Assumes nothing.
+use mathlib.Core.Path.{_≡_}
 use mathlib.Core.List.{List}
 use Prim.Native.Nat.{ℕ, _≤_, _<_}
 use native.Mathlib.Omega.{arith}
-use borrow.Author.Tests.{not-true, not-false}
 use lib.ListN.{length}
 use Rattle.text.specs.Scanning.{Found}
 use Rattle.text.specs.declared.tokens.Next.{Next}
@@ -20,10 +18,3 @@ module _ {l : List ℕ} {at a e : ℕ} {r : Next} (t : Found l at r) (w : r ≡ 
 
   pub word-within : e ≤ length l
   word-within = found-as t w .inside .2
-
--- the test t that r is, where code returned early (failed) or went on (passed) on `not r`
-pub failed : {r t : Bool} → r ≡ t → not r ≡ true → t ≡ false
-failed {r} e h = sym e ∙ not-true r h
-
-pub passed : {r t : Bool} → r ≡ t → not r ≡ false → t ≡ true
-passed {r} e h = sym e ∙ not-false r h

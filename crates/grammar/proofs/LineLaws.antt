@@ -1,38 +1,49 @@
--- What a line holds: its names are those among its tokens, a body has a literal, and a query has at most half as many
--- nodes as the line has tokens.
+-- What a line holds: its names are those among its tokens, what it brings is told by its form, a body has a literal,
+-- and a query has at most half as many nodes as the line has tokens.
 --
+--   bringsOf x      what a line of the form x brings
 --   Bodied ls       there is a literal
 --   ClauseShaped k  the literals of a clause of kind k are as many as it takes
 --   Shaped n x      the bodies of the line x have a literal, its query at most n / 2 nodes
 -- Assumes nothing.
-use mathlib.Core.Path.{_≡_, refl, sym, ap, _∙_}
+use mathlib.Core.Path.{_≡_, refl, sym, ap, _∙_, subst}
 use mathlib.Core.Bool.{true, false}
 use mathlib.Core.List.{List, [], _∷_, _++_, append-assoc, append-nil}
 use mathlib.Core.Logic.{inl, inr}
 use Prim.Native.Nat.{ℕ, zero, suc, _*_, _≤_, _<_}
 use native.Mathlib.Omega.{arith}
 use lib.Dec.{ltb}
-use lib.ListN.{length}
+use lib.ListN.{length, getD}
+use denote.Enum.Declared.{tagOf}
+use types.Run.{OneOf, miss}
 use borrow.Author.Tests.{ltb-true, eqb-true}
 use Rattle.text.specs.Tokens.{Token}
-use Rattle.text.specs.Words.{namesFrom, namesIn}
+use Rattle.text.specs.Words.{namesIn}
+use Rattle.text.proofs.NameLaws.{names-end, names-closing, names-name, names-form}
 use Rattle.text.proofs.ByteLaws.{and-true-both}
-use Rattle.formulas.specs.Sentence.{sentenceNames, tokensOf}
+use Rattle.text.proofs.Each.{Each}
+use Rattle.formulas.specs.Sentence.{sentenceNames, formTokens, tokensOf, isSentence}
+use Rattle.formulas.proofs.NameSentence.{name-names, negation-names}
 use Rattle.formulas.proofs.Sentences.{sentence-names}
+use Rattle.formulas.proofs.Spelling.{Lettered, sentence-lettered}
 use Rattle.formulas.specs.Parsing.{sizeOf}
 use Rattle.formulas.specs.Items.{Item}
 use Rattle.formulas.proofs.Sizes.{formula-size}
-use Rattle.grammar.specs.Line.{Literal, Line, ofLiteral, bodyTokens, lineTokens, areNamed, takes, isLine}
-use Rattle.grammar.specs.Line.{bodyNames, lineNames}
+use Rattle.grammar.specs.Line.{Literal, Line, lineWords, ofLiteral, bodyTokens, lineTokens, areNamed, takes}
+use Rattle.grammar.specs.Line.{isLine, bodyNames, lineNames, bringing}
 use Rattle.grammar.specs.LineOf.{lineOf}
+use Rattle.grammar.specs.Parsing.{Brought}
+use Rattle.grammar.specs.declared.line.Form.{Form}
+use Rattle.grammar.specs.declared.line.Form.the-variants.{Skipped, NoForm, Clause, Never, Seen, Query}
+use Rattle.grammar.specs.declared.brings.Brings.{Brings}
+use Rattle.grammar.proofs.line.Form.{the-type}
 use Rattle.grammar.proofs.Spelling.{sentence-read, clause-parts, Right, line-right, line-spells}
 
 -- Names
 
 literal-names : (x : Literal) → sentenceNames (ofLiteral x) ≡ bodyNames (x ∷ [])
-unfolding sentenceNames
-literal-names (Literal.literal false w) = refl
-literal-names (Literal.literal true w) = refl
+literal-names (Literal.literal false w) = name-names w
+literal-names (Literal.literal true w) = negation-names w
 
 body-names : (ls : List Literal) (ts : List Token) → namesIn (bodyTokens ls ++ ts) ≡ bodyNames ls ++ namesIn ts
 unfolding bodyTokens
@@ -40,17 +51,75 @@ body-names [] ts = refl
 body-names (Literal.literal b w ∷ ls) ts =
     rw (append-assoc, sentence-names (ofLiteral (Literal.literal b w)), literal-names, body-names ls)
 
+-- a line with the word w, of whose tokens ns are the names
+form-names : (w : List ℕ) (ts : List Token) {ns : List (List ℕ)}
+    → namesIn (ts ++ (Token.closing ∷ [])) ≡ ns ++ namesIn (Token.closing ∷ []) → namesIn (formTokens w ts) ≡ ns
+form-names w ts h = names-form (ts ++ (Token.closing ∷ [])) w ∙ h ∙ rw (names-closing, names-end, append-nil)
+
 pub names-are : (x : Line) → namesIn (lineTokens x) ≡ lineNames x
-unfolding lineTokens namesFrom
-names-are Line.skipped = refl
-names-are Line.noForm = refl
-names-are (Line.clause k w ls) = rw (body-names ls, append-nil)
-names-are (Line.never ls) = rw (body-names ls, append-nil)
-names-are (Line.seen x) = rw (sentence-names (ofLiteral x), append-nil, literal-names)
-names-are (Line.query f) = rw (sentence-names f, append-nil)
+unfolding lineTokens
+names-are Line.skipped = names-end
+names-are Line.noForm = names-end
+names-are (Line.clause k w ls) =
+    form-names (getD lineWords k []) (Token.word w ∷ bodyTokens ls) (rw (names-name, body-names ls))
+names-are (Line.never ls) = form-names (getD lineWords 3 []) (bodyTokens ls) (body-names ls _)
+names-are (Line.seen x) =
+    form-names (getD lineWords 4 []) (tokensOf (ofLiteral x)) (sentence-names (ofLiteral x) _) ∙ literal-names x
+names-are (Line.query f) = form-names (getD lineWords 5 []) (tokensOf f) (sentence-names f _)
 
 pub line-names : (ts : List Token) → isLine (lineOf ts) ≡ true → namesIn ts ≡ lineNames (lineOf ts)
 line-names ts h = sym (ap namesIn (line-spells ts h)) ∙ names-are (lineOf ts)
+
+-- they begin with a letter
+
+body-lettered : (ls : List Literal) → areNamed ls ≡ true → Each Lettered (bodyNames ls)
+unfolding areNamed
+body-lettered [] h = tt
+body-lettered (Literal.literal b w ∷ ls) h =
+    let x = Literal.literal b w in
+    let a = and-true-both (isSentence (ofLiteral x)) (areNamed ls) h in
+    let first = rw (literal-names x) at (sentence-lettered (ofLiteral x) (a .0)) in
+    (first .0, body-lettered ls (a .1))
+
+pub line-lettered : (x : Line) → isLine x ≡ true → Each Lettered (lineNames x)
+unfolding isLine
+line-lettered Line.skipped h = tt
+line-lettered Line.noForm h = tt
+line-lettered (Line.clause k w ls) h =
+    let p = clause-parts {k = k} {w = w} {ls = ls} h in (p .head, body-lettered ls (p .body))
+line-lettered (Line.never ls) h = body-lettered ls (and-true-both (areNamed ls) (takes 3 (length ls)) h .0)
+line-lettered (Line.seen x) h = rw (literal-names x) at (sentence-lettered (ofLiteral x) h)
+line-lettered (Line.query f) h = sentence-lettered f h
+
+-- What a line brings, by its form
+
+abbrev bringsOf : Form → Brings
+bringsOf Skipped = bringing 0 0 0 0
+bringsOf NoForm = bringing 0 0 0 0
+bringsOf (Clause k a e at) = bringing 1 0 0 0
+bringsOf (Never at) = bringing 0 1 0 0
+bringsOf (Seen at) = bringing 0 0 0 0
+bringsOf (Query at d) = bringing 0 0 1 d
+
+brought : (x : Form) → Brought x (bringsOf x)
+brought Skipped l y h = rw h
+brought NoForm l y h = rw h
+brought (Clause k a e at) l y h = rw (h .2 .line-is)
+brought (Never at) l y h = rw (h .line-is)
+brought (Seen at) l y h = rw (h .line-is)
+brought (Query at d) l y h = rw (h .line-is, h .depth-is)
+
+-- the forms that bring nothing
+pub brought-nothing : (x : Form) → OneOf (0 ∷ (1 ∷ (4 ∷ []))) (tagOf the-type x) → Brought x (bringing 0 0 0 0)
+brought-nothing Skipped h = brought Skipped
+brought-nothing NoForm h = brought NoForm
+brought-nothing (Clause k a e at) h = absurd (miss (0 ∷ (1 ∷ (4 ∷ []))) 2 tt h)
+brought-nothing (Never at) h = absurd (miss (0 ∷ (1 ∷ (4 ∷ []))) 3 tt h)
+brought-nothing (Seen at) h = brought (Seen at)
+brought-nothing (Query at d) h = absurd (miss (0 ∷ (1 ∷ (4 ∷ []))) 5 tt h)
+
+pub brought-as : {x : Form} (y : Form) → x ≡ y → Brought x (bringsOf y)
+brought-as y e = subst (λ z. Brought z (bringsOf y)) (sym e) (brought y)
 
 -- Literals and nodes
 

@@ -22,6 +22,7 @@ use Rattle.formulas.specs.Parsing.{Items}
 use Rattle.formulas.specs.Sentence.{Sentence, formTokens, tokensOf, isSentence}
 use Rattle.formulas.specs.Items.{prepend, Item, itemsOf}
 use Rattle.formulas.proofs.Reading.{items-end, items-closing}
+use Rattle.formulas.proofs.NameSentence.{name-tokens, name-is-sentence}
 use Rattle.formulas.proofs.Spelling.{tokensOf-read, spelledItems, AreSentences, Spells, items-spell}
 use Rattle.grammar.specs.Line.{Literal, Line, lineWords, ofLiteral, bodyTokens, lineTokens, areNamed, takes}
 use Rattle.grammar.specs.Line.{isLine}
@@ -29,7 +30,7 @@ use Rattle.grammar.specs.LineOf.{withSentence, literalsOf, withBody, see
 use Rattle.grammar.specs.LineOf.{withItems, kindOf, lineOf, isNoForm}
 use Rattle.grammar.specs.Parsing.{literalsAmong, bodyIn}
 use Rattle.grammar.proofs.KindLaws.{word-kind, kind-word, fit-body, body-kind}
-use Rattle.grammar.proofs.Lines.{clause-is}
+use Rattle.grammar.proofs.Forms.{clause-is}
 
 -- What is spelled is read
 
@@ -166,14 +167,15 @@ module _ (w : List ℕ) (ts : List Token) where
 
   clause-right : (k : ℕ) (m : List Item) → k < 3 → w ≡ getD lineWords k [] → Spells ts (Option.some m)
       → Right opened (clauseOf k m)
-  unfolding spelledItems tokensOf lineTokens isLine isSentence
+  unfolding spelledItems lineTokens isLine
   clause-right k [] i e h = inl refl
   clause-right k (Item.closing ∷ m) i e h = inl refl
   clause-right k (Item.formula (Sentence.negation f) ∷ m) i e h = inl refl
   clause-right k (Item.formula (Sentence.joined j f g) ∷ m) i e h = inl refl
   clause-right k (Item.formula (Sentence.name v) ∷ m) i e h =
       body-right k (Line.clause k v) m (literalsOf m) (body-spells m (h .1 .1))
-      (λ ls b t. inr (rw (lt-ltb k 3 i, h .1 .0, b .1, t), rw (e, h .0, b .0)))
+      (λ ls b t.
+      inr (rw (lt-ltb k 3 i, ← name-is-sentence v, h .1 .0, b .1, t), rw (e, h .0, name-tokens, b .0)))
 
   query-right : (m : List Item) → w ≡ getD lineWords 5 [] → Spells ts (Option.some m) → Right opened (queryOf m)
   unfolding spelledItems lineTokens isLine

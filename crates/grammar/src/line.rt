@@ -124,18 +124,6 @@ pub fn brings(x: Form) -> Brings
     ensures { λ r. ⌜ Brought x r ⌝ }
 {
     match x {
-        Form::Skipped => Brings {
-            clauses: 0,
-            constraints: 0,
-            queries: 0,
-            depth: 0,
-        },
-        Form::NoForm => Brings {
-            clauses: 0,
-            constraints: 0,
-            queries: 0,
-            depth: 0,
-        },
         Form::Clause(_, _, _, _) => Brings {
             clauses: 1,
             constraints: 0,
@@ -148,17 +136,17 @@ pub fn brings(x: Form) -> Brings
             queries: 0,
             depth: 0,
         },
-        Form::Seen(_) => Brings {
-            clauses: 0,
-            constraints: 0,
-            queries: 0,
-            depth: 0,
-        },
         Form::Query(_, depth) => Brings {
             clauses: 0,
             constraints: 0,
             queries: 1,
             depth: depth,
+        },
+        _ => Brings {
+            clauses: 0,
+            constraints: 0,
+            queries: 0,
+            depth: 0,
         },
     }
 }

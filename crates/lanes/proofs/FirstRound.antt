@@ -24,13 +24,13 @@ use Rattle.settle.proofs.Settling.{changes-before}
 use Rattle.prepared.specs.declared.opening.Opening.{Opening}
 use Rattle.prepared.specs.Opening.{openingOf, opened}
 use Rattle.prepared.proofs.Openings.{opened-step}
-use Rattle.lanes.specs.declared.redo.Changed.{Changed}
-use Rattle.lanes.specs.Planes.{at, column}
-use Rattle.lanes.specs.Fill.{Filled, Even}
-use Rattle.lanes.specs.Begin.{decidedAt, Opens}
+use Rattle.round.specs.declared.redo.Changed.{Changed}
+use Rattle.planes.specs.Planes.{at, column}
+use Rattle.planes.specs.Fill.{Filled, Even}
+use Rattle.round.specs.Begin.{decidedAt, Opens}
 use Rattle.lanes.specs.Rounds.{sum, addsAt}
-use Rattle.lanes.proofs.Columns.{column-is}
-use Rattle.lanes.proofs.Choosing.{differs-none}
+use Rattle.planes.proofs.Columns.{column-is}
+use Rattle.planes.proofs.Choosing.{differs-none}
 use Rattle.lanes.proofs.LaneRounds.{Settling}
 
 -- the planes ot, of and oh have the opening o in each lane, xs and ys what the settings from first on add

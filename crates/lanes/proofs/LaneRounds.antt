@@ -29,11 +29,11 @@ use Rattle.settle.proofs.Reached.{rounds-good, rounds-rise}
 use Rattle.settle.proofs.Settling.{rounds-settled, changes-before, round-count-le}
 use Rattle.prepared.specs.Dependents.{touchedFrom}
 use Rattle.prepared.proofs.Redoing.{redone, openIn, redone-step}
-use Rattle.lanes.specs.declared.redo.Changed.{Changed}
-use Rattle.lanes.specs.Planes.{column, Planes, Sizes}
-use Rattle.lanes.specs.Redo.{fresh, isDecided, Redone}
+use Rattle.round.specs.declared.redo.Changed.{Changed}
+use Rattle.planes.specs.Planes.{column, Planes, Sizes}
+use Rattle.round.specs.Redo.{fresh, isDecided, Redone}
 use Rattle.lanes.specs.Rounds.{sum, Settles}
-use Rattle.lanes.proofs.Columns.{column-good}
+use Rattle.planes.proofs.Columns.{column-good}
 use Rattle.lanes.proofs.OneRound.{redone-column, moved-at}
 use Rattle.lanes.proofs.Sums.{sum-ext, sum-add, sum-le, ones-lowest, one-more}
 

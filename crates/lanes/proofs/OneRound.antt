@@ -13,11 +13,11 @@ use Rattle.logic.specs.Value.{isTrue, isFalse}
 use Rattle.logic.specs.Interpretation.{valueAt}
 use Rattle.logic.proofs.Interpretations.{changed, has-changed}
 use Rattle.prepared.proofs.Redoing.{redone, openIn, has-open}
-use Rattle.lanes.specs.declared.redo.Changed.{Changed}
-use Rattle.lanes.specs.Planes.{at, column, Planes}
-use Rattle.lanes.specs.Redo.{openAt, ruled, fresh, isDecided, Redone}
-use Rattle.lanes.proofs.Columns.{column-true, column-false, column-good, column-values}
-use Rattle.lanes.proofs.Choosing.{kept-true, kept-false, chosen-differs}
+use Rattle.round.specs.declared.redo.Changed.{Changed}
+use Rattle.planes.specs.Planes.{at, column, Planes}
+use Rattle.round.specs.Redo.{openAt, ruled, fresh, isDecided, Redone}
+use Rattle.planes.proofs.Columns.{column-true, column-false, column-good, column-values}
+use Rattle.planes.proofs.Choosing.{kept-true, kept-false, chosen-differs}
 
 module _ (cl : List ℕ) (n heads : ℕ) (t f t₁ f₁ : List ℕ) (r : Changed) (d : Planes t f)
     (e : Redone cl n heads t f t₁ f₁ r) (j : ℕ) (l : j < 64) where

@@ -1,13 +1,25 @@
 // Settling 64 settings at a time: rounds until no lane changes.
-ghost use Prim.Native.Nat.{_≤_};
+ghost use mathlib.Core.Path.{_≡_};
+ghost use Prim.Native.Nat.{_≤_, min};
 ghost use Rattle.prepared.specs.Prepared.{Prepared};
-ghost use Rattle.lanes.specs.Planes.{Sizes};
-ghost use Rattle.lanes.specs.Fill.{Even, Filled};
+ghost use Rattle.planes.specs.Planes.{Sizes};
+ghost use Rattle.planes.specs.Fill.{Even, Filled};
 ghost use Rattle.lanes.specs.Rounds.{addsAt, Settles};
-use crate::begin::begin;
-use crate::redo::redo;
 use prepared::dependent::touched;
 use prepared::opening::Opening;
+use round::begin::begin;
+use round::redo::redo;
+
+// How many of the next 64 settings there are, where n are left.
+pub fn lanes_of(n: usize) -> u32
+    requires { ⌜ 1 ≤ n ⌝ }
+    ensures { λ r. ⌜ r ≡ min 64 n ⌝ }
+{
+    if n < 64 {
+        return n as u32;
+    }
+    64
+}
 
 // Settles the 64 settings from first on, in lanes; answers the sum of the round counts of the first m of them.
 // opening, causes and first say what the planes ot, of, oh, x and y are filled with.

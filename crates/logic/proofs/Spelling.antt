@@ -1,6 +1,6 @@
 -- Laws of spellings: what a node in front of formulas gives, what it was put in front of, and how the value and the
 -- depth of the first formula follow. Assumes nothing.
-use mathlib.Core.Path.{_≡_, refl, sym, ap, _∙_}
+use mathlib.Core.Path.{_≡_, refl, sym, ap, ap₂, _∙_}
 use mathlib.Core.List.{List, [], _∷_}
 use mathlib.Core.Bool.{Bool, true, false, _&&_, and-false, false≢true}
 use Prim.Native.Nat.{ℕ, zero, suc, _+_, _-_, _≤_, _<_, max}
@@ -10,7 +10,7 @@ use borrow.Author.Tests.{lt-ltb, le-ltb, ltb-true, ltb-false, ne-eqb, eqb-true, 
 use Rattle.words.specs.Choice.{pick}
 use Rattle.words.proofs.Tests.{and-true-l, and-true-r}
 use Rattle.logic.specs.declared.value.Value.{Value}
-use Rattle.logic.specs.Value.{negated}
+use Rattle.logic.specs.Value.{negated, lesser, greater, implies, equivalent}
 use Rattle.logic.specs.Formula.{Formula, valueOf, depth, over}
 use Rattle.logic.specs.Nodes.{Spelling, spelled, withNode, withNot, withForm, joined}
 use Rattle.logic.specs.Nodes.{single, oneFormula, firstOf, formulaOf}
@@ -136,6 +136,24 @@ module _ (v : ℕ → Value) (k : ℕ) (s : Spelling) where
   }
 
 -- The depth of the first formula
+
+-- the forms of two operands with the values x and y
+module _ (v : ℕ → Value) (f g : Formula) {x y : Value} (p : x ≡ valueOf v f) (q : y ≡ valueOf v g) where
+  pub conjunction-value : lesser x y ≡ valueOf v (Formula.conjunction f g)
+  unfolding valueOf
+  conjunction-value = ap₂ lesser p q
+
+  pub disjunction-value : greater x y ≡ valueOf v (Formula.disjunction f g)
+  unfolding valueOf
+  disjunction-value = ap₂ greater p q
+
+  pub implication-value : implies x y ≡ valueOf v (Formula.implication f g)
+  unfolding valueOf
+  implication-value = ap₂ implies p q
+
+  pub equivalence-value : equivalent x y ≡ valueOf v (Formula.equivalence f g)
+  unfolding valueOf
+  equivalence-value = ap₂ equivalent p q
 
 pub joined-over : (n k : ℕ) (f g : Formula) → over n (joined k f g) ≡ (over n f && over n g)
 unfolding over

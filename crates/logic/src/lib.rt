@@ -1,4 +1,3 @@
-// Three-valued logic: values and connectives, interpretations, formulas in prefix order.
-pub mod formula;
+// Three-valued logic: values and connectives, interpretations.
 pub mod interpretation;
 pub mod value;

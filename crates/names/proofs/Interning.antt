@@ -55,7 +55,8 @@ module _ (s next : Rows) (w : List ℕ) (ws : List (List ℕ)) (e : next ≡ row
 with-kept : (n : ℕ) (t w : List ℕ) → let u = rowsWith (rows n t) w .table in u ≡ filled nameSize u t
 with-kept n t w =
     let m = padded-length 16 w in
-    let new : n ≤ rowOf t n w → n < 64 → rowsWith (rows n t) w .table ≡ filled nameSize (rowsWith (rows n t) w .table) t =
+    let new : n ≤ rowOf t n w → n < 64
+    → rowsWith (rows n t) w .table ≡ filled nameSize (rowsWith (rows n t) w .table) t =
     λ h k. rw (rows-with-new n t w h k) (sets-kept nameSize (padded 16 w) t (n * 16) (omega arith))
     in
     ⊎-elim

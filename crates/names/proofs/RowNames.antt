@@ -16,12 +16,6 @@ use Rattle.names.proofs.Rows.{rows-padded}
 
 -- beforeZero
 
-pub before-zero-length : (l : List ℕ) → length (beforeZero l) ≤ length l
-unfolding beforeZero
-before-zero-length [] = omega arith
-before-zero-length (zero ∷ l) = omega arith
-before-zero-length (suc b ∷ l) = omega (arith, before-zero-length l)
-
 pub before-zero-stops : (b : ℕ) (l : List ℕ) → b ≡ 0 → beforeZero (b ∷ l) ≡ []
 unfolding beforeZero
 before-zero-stops zero l e = refl

@@ -1,7 +1,7 @@
 -- A names table that holds names.
 --
 --   Named w             w is at most 16 bytes long and has no byte 0
---   Holds ns t          the first bytes of the table t, as many as reading fills, are the rows of the names ns and zeros
+--   Holds ns t          the bytes of the table t that reading fills are the rows of the names ns and zeros
 use mathlib.Core.Path.{_≡_}
 use mathlib.Core.List.{List, [], _∷_}
 use Prim.Native.Nat.{ℕ, _≤_}

@@ -1,12 +1,12 @@
 -- Laws of what writing to a lent output leaves in it: one text behind another, and the room they take. Assumes nothing.
 use mathlib.Core.Path.{_≡_, refl, sym, ap, _∙_}
 use mathlib.Core.List.{List, [], _∷_, _++_}
-use Prim.Native.Nat.{ℕ, suc, _+_, _≤_, _<_}
+use Prim.Native.Nat.{ℕ, suc, _+_, _≤_, _<_, min}
 use native.Mathlib.Nat.{add-zero, add-suc, suc-add, zero-add}
 use native.Mathlib.Numerals.{add-one}
 use native.Mathlib.Omega.{arith}
-use lib.ListN.{length, take, getD, set, length-append, length-set}
-use lib.Seq.{sets, sets-eq, set-out, take-suc}
+use lib.ListN.{length, take, getD, set, length-append, length-set, length-take}
+use lib.Seq.{sets, sets-eq, set-out, take-suc, take-all}
 use Rattle.words.specs.Lists.{over}
 use Rattle.output.specs.Writing.{laid, Writes, Room}
 
@@ -65,6 +65,16 @@ writes-length {s} {out} {out₁} {at} {r} h = ap length (h .out-is) ∙ laid-len
 pub writes-more : {out out₁ out₂ : List ℕ} {at m r : ℕ} (s : List ℕ) (i : ℕ) → i < length s
     → Writes (take i s) out at m out₁ → Writes (getD s i 0 ∷ []) out₁ m r out₂ → Writes (take (i + 1) s) out at r out₂
 writes-more s i h k l = rw (add-one, take-suc s i 0 h) (writes-append k l)
+
+-- all of s
+pub writes-all : {out out₁ : List ℕ} {at m : ℕ} (s : List ℕ) (i : ℕ) → length s ≤ i → Writes (take i s) out at m out₁
+    → Writes s out at m out₁
+writes-all s i h k = rw (take-all i s h) at k
+
+-- where the first entries of s end
+pub writes-ends : {out out₁ : List ℕ} {at m : ℕ} (s : List ℕ) (i : ℕ) → Writes (take i s) out at m out₁
+    → m ≡ at + min i (length s)
+writes-ends s i k = k .place-is ∙ rw (length-take i s)
 
 -- Room
 

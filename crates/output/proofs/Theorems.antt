@@ -1,37 +1,36 @@
 -- The claims on numbers in decimal (specs/Claims). Assumes nothing.
-use mathlib.Core.Path.{_≡_, refl, _∙_}
+use mathlib.Core.Path.{_≡_, _∙_}
 use mathlib.Core.Bool.{true}
 use mathlib.Core.List.{List, [], _∷_, _++_}
-use Prim.Native.Nat.{ℕ, _+_, _-_, _*_, _/_, _%_, _≤_, _<_}
+use Prim.Native.Nat.{ℕ, _+_, _-_, _/_, _%_, _≤_, _<_}
 use native.Mathlib.Omega.{arith}
 use lib.ListN.{getD}
 use borrow.Author.Tests.{le-leb}
-use Rattle.text.specs.Bytes.{isDigit, allOf}
-use Rattle.text.proofs.ByteLaws.{all-push}
+use Rattle.text.specs.Bytes.{isDigit}
+use Rattle.text.specs.Numbers.{numberFrom}
+use Rattle.text.proofs.ByteLaws.{all-push, all-ends}
+use Rattle.text.proofs.NumberLaws.{number-none, number-push}
 use Rattle.output.specs.Decimal.{digitByte, decimal}
-use Rattle.output.specs.Claims.{numberFrom, InDecimal, DecimalExact}
+use Rattle.output.specs.Claims.{InDecimal, DecimalExact}
 use Rattle.output.proofs.Decimals.{within-induct}
 
 is-digit : (d : ℕ) → d < 10 → isDigit (digitByte d) ≡ true
 is-digit d h = rw (le-leb 48 (48 + d) (omega arith), le-leb (48 + d) 57 (omega arith))
 
-number-push : (m b : ℕ) (l : List ℕ) → numberFrom m (l ++ (b ∷ [])) ≡ numberFrom m l * 10 + (b - 48)
-unfolding numberFrom
-number-push m b [] = refl
-number-push m b (c ∷ l) = number-push (m * 10 + (c - 48)) b l
+-- one digit
+number-one : (b : ℕ) → numberFrom 0 (b ∷ []) ≡ b - 48
+number-one b = number-push 0 b [] ∙ omega (arith, number-none 0)
 
 -- the first of the digits of a number that isn't 0
 first-kept : (n b : ℕ) (l : List ℕ) → 0 < n → InDecimal n l → getD (l ++ (b ∷ [])) 0 0 ≡ 48 → ⊥
-unfolding numberFrom
-first-kept n b [] h i e = omega (arith, i .stands-for)
-first-kept n b (c ∷ []) h i e = omega (arith, i .stands-for)
+first-kept n b [] h i e = omega (arith, i .stands-for, number-none 0)
+first-kept n b (c ∷ []) h i e = omega (arith, i .stands-for, number-one c)
 first-kept n b (c ∷ d ∷ l) h i e = i .no-zero-first (omega arith) e
 
 one-digit : (n : ℕ) → n < 10 → InDecimal n (digitByte (n % 10) ∷ [])
-unfolding numberFrom allOf
 one-digit n h = record {
-  are-digits = rw (is-digit (n % 10) (omega arith));
-  stands-for = omega arith;
+  are-digits = all-push isDigit [] _ (all-ends isDigit [] 0 (omega arith)) (is-digit (n % 10) (omega arith));
+  stands-for = omega (arith, number-one (digitByte (n % 10)));
   no-zero-first = λ k. absurd (omega arith);
 }
 

@@ -6,7 +6,7 @@
 --   Room s at           the bytes s end at or before that limit
 use mathlib.Core.Path.{_≡_}
 use mathlib.Core.List.{List, [], _∷_}
-use Prim.Native.Nat.{ℕ, suc, _+_, _≤_}
+use Prim.Native.Nat.{ℕ, suc, _+_, _^_, _≤_}
 use lib.ListN.{length, set}
 
 unfoldable pub laid : List ℕ → ℕ → List ℕ → List ℕ
@@ -18,7 +18,7 @@ pub record Writes (s out : List ℕ) (at r : ℕ) (outAfter : List ℕ) : Type 0
   pub out-is : outAfter ≡ laid out at s
 
 abbrev pub textLimit : ℕ
-textLimit = 1000000
+textLimit = 2 ^ 32
 
-abbrev pub Room : List ℕ → ℕ → Type 0
-Room s at = at + length s ≤ textLimit
+pub record Room (s : List ℕ) (at : ℕ) : Type 0 where
+  pub fits : at + length s ≤ textLimit

@@ -7,6 +7,12 @@ ghost use Rattle.names.specs.Row.{nameIn};
 ghost use Rattle.output.specs.Decimal.{decimal};
 ghost use Rattle.output.specs.Writing.{Writes, Room};
 
+// What an operation that writes a text answers: 0 and the length of the text, or a refusal's number and 0.
+pub struct Answer {
+    pub refusal: u32,
+    pub length: usize,
+}
+
 // Writes one byte at a place, and answers the place behind it.
 pub fn put(out: &mut [u8], at: usize, b: u8) -> usize
     requires { ⌜ Room (b ∷ []) at ⌝ }

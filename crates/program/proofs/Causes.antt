@@ -35,6 +35,10 @@ pub causes-of : (c : Case) (cl : List ℕ) → causesOf c cl ≡ causesAmong (c 
 unfolding causesOf
 causes-of c cl = refl
 
+pub causes-of-lt : (c : Case) (cl : List ℕ) → c .atoms ≤ 64 → causesOf c cl < 2 ^ c .atoms
+unfolding causesOf
+causes-of-lt c cl h = causes-lt (c .atoms) (headsOf cl (c .clauses)) h
+
 -- the lowest n bits without the heads
 pub causes-masked : (n top heads : ℕ) → n ≤ 64 → top + 1 ≡ 2 ^ n → heads < 2 ^ 64
     → bitAnd top (2 ^ 64 - 1 - heads) ≡ causesAmong n heads

@@ -94,14 +94,6 @@ module _ (w a s : ℕ) (h : LowestOf w a) where
   unfolding additionsOf
   assumptions-lowest = word-here w a h 2 refl s
 
-  pub facts-passed : has (additionsOf (withoutBit w a) s .facts) a ≡ false
-  unfolding additionsOf
-  facts-passed = word-later w a h 1 refl s
-
-  pub assumptions-passed : has (additionsOf (withoutBit w a) s .assumptions) a ≡ false
-  unfolding additionsOf
-  assumptions-passed = word-later w a h 2 refl s
-
   -- without the lowest cause, whatever its digit
   facts-without : withoutBit (additionsOf w s .facts) a ≡ additionsOf (withoutBit w a) (s / 3) .facts
   unfolding additionsOf

@@ -14,7 +14,7 @@ use Rattle.words.specs.Choice.{pick, consIf}
 use Rattle.words.specs.Bits.{has, word}
 use Rattle.words.specs.OneBit.{withBit, withoutBit, LowestOf}
 use Rattle.words.proofs.Bits.{has-zero}
-use Rattle.words.proofs.Words.{has-word, is-word}
+use Rattle.words.proofs.Words.{is-word}
 use Rattle.words.proofs.BitWalks.{has-with, with-lt, without-here}
 use Rattle.program.specs.declared.cause.Additions.{Additions}
 use Rattle.program.specs.Cause.{atomsFrom, atomsIn}
@@ -174,17 +174,3 @@ walked-end w s x rest left z h =
     let p = gathered-end w s 1 (x .facts) rest refl (g .facts-are) in
     let q = gathered-end w s 2 (x .assumptions) rest refl (g .assumptions-are) in
     λ i. record { facts = p i; assumptions = q i }
-
--- ---- what a setting adds
-two-tests : (n : ℕ) → (eqb n 1 && eqb n 2) ≡ false
-two-tests n = go (eqb n 1) refl
-  where
-    go : (t : Bool) → eqb n 1 ≡ t → (eqb n 1 && eqb n 2) ≡ false
-    go true e = ap (λ (k : ℕ). eqb k 1 && eqb k 2) (eqb-true n 1 e)
-    go false e = ap (λ (t : Bool). t && eqb n 2) e
-
-pub additions-apart : (w s a : ℕ) → a < 64
-    → (has (additionsOf w s .facts) a && has (additionsOf w s .assumptions) a) ≡ false
-unfolding additionsOf
-additions-apart w s a l =
-    ap₂ _&&_ (has-word 64 (hasDigit w s 1) a l) (has-word 64 (hasDigit w s 2) a l) ∙ two-tests (digitFrom w 0 64 s a)

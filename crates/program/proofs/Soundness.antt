@@ -1,14 +1,14 @@
 -- Laws of soundness: the kinds of clauses, and what is known of a sound case, phrase by phrase. Assumes nothing.
-use mathlib.Core.Path.{_≡_, refl, sym, _∙_}
+use mathlib.Core.Path.{_≡_, refl, sym, ap, _∙_}
 use mathlib.Core.Bool.{Bool, true, false, _&&_, false≢true}
 use mathlib.Core.List.{List}
-use Prim.Native.Nat.{ℕ, zero, suc, _+_, _*_, _/_, _%_, _^_, _≤_, _<_}
+use Prim.Native.Nat.{ℕ, zero, suc, _+_, _*_, _/_, _%_, _≤_, _<_}
 use native.Mathlib.Omega.{arith}
 use lib.Count.{ones}
 use lib.Dec.{ltb, leb}
 use lib.ListN.{length, getD, take}
-use borrow.Author.Tests.{ltb-true, ltb-false, leb-true, le-leb, lt-leb}
-use Rattle.words.proofs.Tests.{and-true-l, and-true-r}
+use borrow.Author.Tests.{ltb-true, ltb-false, leb-true, le-leb, lt-leb, le-ltb, lt-ltb}
+use Rattle.words.proofs.Tests.{and-true-l}
 use Rattle.words.proofs.Below.{every-at}
 use Rattle.logic.specs.Nodes.{oneFormula}
 use Rattle.program.specs.declared.case.Case.{Case}
@@ -36,6 +36,51 @@ shaped-none zero b h e = absurd (omega arith)
 shaped-none (suc zero) b h e = absurd (omega arith)
 shaped-none (suc (suc zero)) b h e = absurd (e refl)
 shaped-none (suc (suc (suc k))) b h e = refl
+
+-- ---- limits: the first that fails, or the last
+module _ (c : Case) where
+  pub limits-atomless : c .atoms < 1 → false ≡ limitsHold c
+  unfolding limitsHold
+  limits-atomless l = rw (lt-leb 1 (c .atoms) l)
+
+  module _ (some : 1 ≤ c .atoms) where
+    pub limits-past-atoms : 64 < c .atoms → false ≡ limitsHold c
+    unfolding limitsHold
+    limits-past-atoms l = rw (le-leb 1 (c .atoms) some, lt-leb (c .atoms) 64 l)
+
+    module _ (atoms : c .atoms ≤ 64) where
+      pub limits-past-clauses : 256 < c .clauses → false ≡ limitsHold c
+      unfolding limitsHold
+      limits-past-clauses l =
+          rw (le-leb 1 (c .atoms) some, le-leb (c .atoms) 64 atoms, lt-leb (c .clauses) 256 l)
+
+      module _ (clauses : c .clauses ≤ 256) where
+        pub limits-past-constraints : 32 < c .constraints → false ≡ limitsHold c
+        unfolding limitsHold
+        limits-past-constraints l =
+            let few = lt-leb (c .constraints) 32 l in
+            rw (le-leb 1 (c .atoms) some, le-leb (c .atoms) 64 atoms, le-leb (c .clauses) 256 clauses, few)
+
+        pub limits-last : c .constraints ≤ 32 → leb (c .nodes) 128 ≡ limitsHold c
+        unfolding limitsHold
+        limits-last l =
+            let few = le-leb (c .constraints) 32 l in
+            rw (le-leb 1 (c .atoms) some, le-leb (c .atoms) 64 atoms, le-leb (c .clauses) 256 clauses, few)
+
+-- ---- a clause: the first test that fails, or the last
+module _ (n first p q : ℕ) where
+  pub clause-headless : n ≤ first % 64 → false ≡ soundClause n first p q
+  unfolding soundClause
+  clause-headless l = rw (le-ltb (first % 64) n l)
+
+  pub clause-outside : first % 64 < n → within n p q ≡ false → false ≡ soundClause n first p q
+  unfolding soundClause
+  clause-outside l e = rw (lt-ltb (first % 64) n l, e)
+
+  pub clause-shaped : first % 64 < n → within n p q ≡ true → {b r : Bool} → b ≡ bare p q → r ≡ shaped (first / 64) b
+      → r ≡ soundClause n first p q
+  unfolding soundClause
+  clause-shaped l e f g = rw (lt-ltb (first % 64) n l, e) (g ∙ ap (shaped (first / 64)) f)
 
 -- ---- the entries of a table
 abbrev pub clauseTest : ℕ → List ℕ → ℕ → Bool
@@ -181,14 +226,6 @@ module _ (c : Case) (cl co fo : List ℕ) (h : sound c cl co fo ≡ true) where
   sound-head k l =
       clause-head (c .atoms) (getD cl (3 * k) 0) (plainAt cl k) (negatedAt cl k)
       (every-at (c .clauses) (clauseTest (c .atoms) cl) sound-clause-table k l)
-
-  pub sound-observed : (c .plain < 2 ^ c .atoms) × (c .negated < 2 ^ c .atoms)
-  unfolding within
-  sound-observed =
-      let m = 2 ^ c .atoms in (
-        ltb-true (c .plain) m (and-true-l (ltb (c .plain) m) (ltb (c .negated) m) sound-within),
-        ltb-true (c .negated) m (and-true-r (ltb (c .plain) m) (ltb (c .negated) m) sound-within),
-      )
 
   pub sound-few : ones (causesOf c cl) ≤ 10
   unfolding fewCauses causesOf

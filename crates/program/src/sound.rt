@@ -151,5 +151,5 @@ pub fn is_sound(c: Case, clauses: &[u64], constraints: &[u64], formula: &[u8]) -
         return false;
     }
     let nodes = c.nodes;
-    logic::formula::one_formula(&formula[..nodes], c.atoms)
+    nodes::formula::one_formula(&formula[..nodes], c.atoms)
 }

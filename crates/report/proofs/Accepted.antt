@@ -26,8 +26,8 @@ use Rattle.question.specs.declared.operation.Answer.{Answer}
 use Rattle.question.specs.Operation.{settingsIn, choicesIn, questionRefusal, Asked}
 use Rattle.question.proofs.Answers.{refusal-none, asked-verdict, asked-minimal, asked-written}
 use Rattle.question.proofs.Answers.{asked-rounds, asked-list}
-use Rattle.question.proofs.Bounds.{causes-fit, settings-few}
-use Rattle.question.proofs.Listed.{minimals-le}
+use Rattle.walk.proofs.Bounds.{causes-fit, settings-few}
+use Rattle.verdict.proofs.Counting.{minimals-le}
 use Rattle.question.proofs.Theorems.{rounds-bounded}
 use Rattle.store.specs.Lent.{Lent, lent}
 use Rattle.store.specs.Saying.{Said}

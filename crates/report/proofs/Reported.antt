@@ -1,19 +1,23 @@
 -- Laws of the report of a file that was read into tables of exactly their sizes: its text where reading refuses, and
 -- what the tables hold where it does not. Assumes nothing.
 use mathlib.Core.Path.{_≡_, refl, sym, ap, _∙_}
-use mathlib.Core.Bool.{Bool, true}
-use mathlib.Core.List.{List}
+use mathlib.Core.Bool.{true}
+use mathlib.Core.List.{List, []}
 use mathlib.Core.Logic.{⊎-elim}
 use Prim.Native.Nat.{ℕ, _*_, _≤_, _<_}
 use native.Mathlib.Omega.{arith}
 use lib.ListN.{length, take}
-use borrow.Author.Tests.{lt-ltb, le-ltb}
+use borrow.Author.Tests.{lt-leb, le-leb}
+use Rattle.words.specs.Choice.{unlessRefused}
+use Rattle.words.proofs.Checks.{first-failed-here, first-failed-behind}
 use Rattle.words.proofs.Tests.{lt-or-le}
 use Rattle.table.specs.Filled.{padded}
 use Rattle.table.proofs.Filled.{filled-exact, padded-length}
 use Rattle.program.specs.Case.{tablesFull}
-use Rattle.program.specs.Cause.{causesOf}
+use Rattle.program.specs.Program.{headsOf}
+use Rattle.program.specs.Cause.{causesAmong}
 use Rattle.program.specs.Sound.{sound}
+use Rattle.program.proofs.Causes.{causes-of}
 use Rattle.program.proofs.Soundness.{clauses-held, sound-full, sound-limits}
 use Rattle.program.proofs.MakingSound.{tables-full}
 use Rattle.names.specs.Names.{rowsOf}
@@ -28,30 +32,30 @@ use Rattle.reader.specs.Reading.{Outcome, refusalOf, lineOfRefusal, readFile}
 use Rattle.reader.specs.Operation.{earlyRefusal, ReadAs}
 use Rattle.reader.proofs.EarlyRefusals.{early-none, early-file-long}
 use Rattle.reader.proofs.RefusalNumbers.{Numbered, file-numbered}
+use Rattle.output.specs.declared.Answer as output
 use Rattle.output.specs.Writing.{Room}
 use Rattle.wording.specs.Text.{answerText, refusalText}
 use Rattle.report.specs.Report.{clauseTable, constraintTable, formulaTable, causesIn, saidText, outcomeText}
-use Rattle.report.specs.Report.{unlessLong, reportText}
+use Rattle.report.specs.Report.{reportText}
+use Rattle.report.specs.Operation.{ReportShown, Reported}
+use Rattle.report.specs.Sizes.{FullSizes}
 use Rattle.report.proofs.Accepted.{said-sound, said-length, asked-fits, asked-text}
+
+-- the report of the file f, where the refusal of its length is n
+abbrev textWith : List ℕ → ℕ → List ℕ
+textWith f n = unlessRefused n (outcomeText (readFile f)) (refusalText n 0)
 
 pub report-long : (f : List ℕ) → 32768 < length f → reportText f ≡ refusalText 2 0
 unfolding reportText
-report-long f h = ap (λ (b : Bool). unlessLong b (outcomeText (readFile f))) (lt-ltb 32768 (length f) h)
+report-long f h = ap (textWith f) (first-failed-here 2 [] (lt-leb (length f) 32768 h))
 
 report-read : (f : List ℕ) → length f ≤ 32768 → reportText f ≡ outcomeText (readFile f)
 unfolding reportText
-report-read f h = ap (λ (b : Bool). unlessLong b (outcomeText (readFile f))) (le-ltb 32768 (length f) h)
+report-read f h = ap (textWith f) (first-failed-behind 2 [] (le-leb (length f) 32768 h))
 
 refused-text : (o : Outcome) → (refusalOf o ≡ 0 → ⊥) → refusalText (refusalOf o) (lineOfRefusal o) ≡ outcomeText o
 refused-text (Outcome.case st) h = absurd (h refl)
 refused-text (Outcome.refused n k) h = refl
-
--- the tables have exactly their sizes
-pub record Exact (t : Lent) : Type 0 where
-  pub clauses-exact : length (t .clauses) ≡ 768
-  pub constraints-exact : length (t .constraints) ≡ 64
-  pub formula-exact : length (t .formula) ≡ 128
-  pub names-exact : length (t .names) ≡ 1024
 
 -- what was read of an accepted file f: what it says, the answer's record, and the tables u
 pub record Accepted (f : List ℕ) (u : Lent) (r : Answer) : Type 0 where
@@ -64,19 +68,21 @@ pub record Accepted (f : List ℕ) (u : Lent) (r : Answer) : Type 0 where
   pub formula-is : u .formula ≡ formulaTable said
   pub names-are : u .names ≡ padded 1024 (rowsOf (said .names))
 
-module _ (f : List ℕ) (t u : Lent) (r : Answer) (x : Exact t) (h : ReadAs f t u r) where
+-- the file f was read into the tables t of their sizes, which became u, with the answer r
+module _ {f : List ℕ} {t u : Lent} {r : Answer} {list work : List ℕ}
+    (x : FullSizes (t .clauses) (t .constraints) (t .formula) (t .names) list work) (h : ReadAs f t u r) where
   is-full : true ≡ tablesFull (t .clauses) (t .constraints) (t .formula)
   is-full =
-      sym (tables-full (t .clauses) (t .constraints) (t .formula) (omega (arith, x .clauses-exact))
-      (omega (arith, x .constraints-exact)) (omega (arith, x .formula-exact)))
+      sym (tables-full (t .clauses) (t .constraints) (t .formula) (omega (arith, x .clauses-full))
+      (omega (arith, x .constraints-full)) (omega (arith, x .formula-full)))
 
   is-early : 32768 < length f → earlyRefusal f t ≡ 2
-  is-early l = sym (early-file-long f t is-full refl (omega (arith, x .names-exact)) l)
+  is-early l = sym (early-file-long f t is-full refl (omega (arith, x .names-full)) l)
 
   not-early : length f ≤ 32768 → earlyRefusal f t ≡ 0
-  not-early l = sym (early-none f t is-full refl (omega (arith, x .names-exact)) l)
+  not-early l = sym (early-none f t is-full refl (omega (arith, x .names-full)) l)
 
-  pub refused-report : (r .refusal ≡ 0 → ⊥) → refusalText (r .refusal) (r .line) ≡ reportText f
+  refused-report : (r .refusal ≡ 0 → ⊥) → refusalText (r .refusal) (r .line) ≡ reportText f
   refused-report k = ⊎-elim long short (lt-or-le 32768 (length f))
     where
       long : 32768 < length f → refusalText (r .refusal) (r .line) ≡ reportText f
@@ -88,6 +94,10 @@ module _ (f : List ℕ) (t u : Lent) (r : Answer) (x : Exact t) (h : ReadAs f t 
           let m : r .line ≡ lineOfRefusal (readFile f) = rw (not-early l) at (h .line-is) in
           rw (n, m, report-read f l) (refused-text (readFile f) (λ z. k (n ∙ z)))
 
+  pub refused-shown : {out outAfter : List ℕ} {q : output.Answer} → (r .refusal ≡ 0 → ⊥)
+      → ReportShown (refusalText (r .refusal) (r .line)) out q outAfter → Reported f out q outAfter
+  refused-shown k s = rw (refused-report k) at s
+
   accepted-case : (st : Said) → readFile f ≡ Outcome.case st → length f ≤ 32768 → Accepted f u r
   accepted-case st e l =
       let n = not-early l in
@@ -97,10 +107,10 @@ module _ (f : List ℕ) (t u : Lent) (r : Answer) (x : Exact t) (h : ReadAs f t 
         read-is = e;
         text-is = report-read f l ∙ ap outcomeText e;
         case-is = rw (z, e) at (h .case-is);
-        clauses-are = rw (n, e) at (h .clauses-are) ∙ filled-exact 768 _ (t .clauses) (x .clauses-exact);
-        constraints-are = rw (n, e) at (h .constraints-are) ∙ filled-exact 64 _ (t .constraints) (x .constraints-exact);
-        formula-is = rw (n, e) at (h .formula-is) ∙ filled-exact 128 _ (t .formula) (x .formula-exact);
-        names-are = rw (n, e) at (h .names-are) ∙ filled-exact 1024 _ (t .names) (x .names-exact);
+        clauses-are = rw (n, e) at (h .clauses-are) ∙ filled-exact 768 _ (t .clauses) (x .clauses-full);
+        constraints-are = rw (n, e) at (h .constraints-are) ∙ filled-exact 64 _ (t .constraints) (x .constraints-full);
+        formula-is = rw (n, e) at (h .formula-is) ∙ filled-exact 128 _ (t .formula) (x .formula-full);
+        names-are = rw (n, e) at (h .names-are) ∙ filled-exact 1024 _ (t .names) (x .names-full);
       }
 
   accepted-by : (o : Outcome) → readFile f ≡ o → Numbered o → refusalOf o ≡ 0 → length f ≤ 32768 → Accepted f u r
@@ -131,8 +141,8 @@ pub record Answered (f : List ℕ) (u : Lent) (causes : ℕ) (q : question.Answe
   pub text-fits : Room (textOf u causes q list) 0
   pub text-is : textOf u causes q list ≡ reportText f
 
-module _ (f : List ℕ) (u : Lent) (r : Answer) (a : Accepted f u r) where
-  pub accepted-sound : sound (r .found) (u .clauses) (u .constraints) (u .formula) ≡ true
+module _ {f : List ℕ} {u : Lent} {r : Answer} (a : Accepted f u r) where
+  accepted-sound : sound (r .found) (u .clauses) (u .constraints) (u .formula) ≡ true
   accepted-sound =
       rw (a .case-is, a .clauses-are, a .constraints-are, a .formula-is) (said-sound f (a .said) (a .read-is))
 
@@ -149,17 +159,19 @@ module _ (f : List ℕ) (u : Lent) (r : Answer) (a : Accepted f u r) where
   pub accepted-constraints : length (u .constraints) ≡ 64
   accepted-constraints = ap length (a .constraints-are) ∙ padded-length 64 (constraintWords (a .said .constraints))
 
-  module _ (list work : List ℕ) (full : length list ≡ 1024) (room : length work ≡ 59049) (q : question.Answer)
-      (listAfter workAfter : List ℕ)
+  module _ {list work listAfter workAfter : List ℕ} {q : question.Answer} (full : length list ≡ 1024)
+      (room : length work ≡ 59049)
       (h : Asked (r .found) (u .clauses) (u .constraints) (u .formula) list work q listAfter workAfter) where
     asked-said : let st = a .said in
         Asked (caseSaid st) (clauseTable st) (constraintTable st) (formulaTable st) list work q listAfter workAfter
     asked-said = rw (a .case-is, a .clauses-are, a .constraints-are, a .formula-is) at h
 
-    pub accepted-answered : (causes : ℕ) → causes ≡ causesOf (r .found) (u .clauses) → Answered f u causes q listAfter
-    accepted-answered causes c =
+    pub accepted-answered : {heads causes : ℕ} → heads ≡ headsOf (u .clauses) (r .found .clauses)
+        → causes ≡ causesAmong (r .found .atoms) heads → Answered f u causes q listAfter
+    accepted-answered {heads} {causes} d c =
         let st = a .said in
-        let e : causes ≡ causesIn st = rw (a .case-is, a .clauses-are) at c in
+        let e : causes ≡ causesIn st =
+        rw (a .case-is, a .clauses-are) at (c ∙ ap (causesAmong (r .found .atoms)) d ∙ sym (causes-of (r .found) _)) in
         let t = asked-text f st (a .read-is) list work full room q listAfter workAfter asked-said (u .names) causes
         (a .names-are) e in
         record {

@@ -3,16 +3,15 @@
 -- later").
 --
 --   reportRefusal      0, or 19 the lent output is shorter than the text
---   Shown              the answer and the output at exit, for a text
+--   ReportShown        the answer and the output at exit, for a text
 --   Reported           the same for the report of a file
-use mathlib.Core.Path.{_≡_}
 use mathlib.Core.List.{List, [], _∷_}
 use Prim.Native.Nat.{ℕ}
 use lib.Dec.{leb}
 use lib.ListN.{length}
-use Rattle.words.specs.Choice.{unlessRefused, check, firstFailed}
-use Rattle.words.specs.Lists.{over}
-use Rattle.report.specs.declared.operation.Answer.{Answer}
+use Rattle.words.specs.Choice.{check, firstFailed}
+use Rattle.output.specs.declared.Answer.{Answer}
+use Rattle.output.specs.Showing.{Shown}
 use Rattle.report.specs.Report.{reportText}
 
 -- t is the text, n the length of the output
@@ -20,11 +19,9 @@ unfoldable pub reportRefusal : List ℕ → ℕ → ℕ
 reportRefusal t n = firstFailed (check 19 (leb (length t) n) ∷ [])
 
 -- the text t, the output at entry and at exit
-pub record Shown (t out : List ℕ) (r : Answer) (outAfter : List ℕ) : Type 0 where
-  pub refusal-is : r .refusal ≡ reportRefusal t (length out)
-  pub length-is : r .length ≡ unlessRefused (reportRefusal t (length out)) (length t) 0
-  pub out-is : outAfter ≡ unlessRefused (reportRefusal t (length out)) (over t out) out
+abbrev pub ReportShown : List ℕ → List ℕ → Answer → List ℕ → Type 0
+ReportShown t out r outAfter = Shown (reportRefusal t (length out)) t out r outAfter
 
 -- the file f, the output at entry and at exit
 abbrev pub Reported : List ℕ → List ℕ → Answer → List ℕ → Type 0
-Reported f out r outAfter = Shown (reportText f) out r outAfter
+Reported f out r outAfter = ReportShown (reportText f) out r outAfter

@@ -6,18 +6,19 @@
 --   causesIn st            its causes; minimalsOf st its minimal settings; roundsOf st the rounds over all settings
 --   verdictIn st           its verdict
 --   outcomeText o          the report of an outcome of reading
+--   fileRefusal f          0, or 2 where the file is too long
 --   reportText f           the report of the file f
-use mathlib.Core.Bool.{Bool, true, false}
-use mathlib.Core.List.{List, []}
+use mathlib.Core.List.{List, [], _∷_}
 use Prim.Native.Nat.{ℕ}
-use lib.Dec.{ltb}
+use lib.Dec.{leb}
 use lib.ListN.{length, getD, take}
+use Rattle.words.specs.Choice.{unlessRefused, check, firstFailed}
 use Rattle.table.specs.Filled.{padded}
 use Rattle.program.specs.Case.{clauseSize, constraintSize, formulaSize}
 use Rattle.program.specs.Cause.{causesOf}
-use Rattle.question.specs.declared.verdict.Verdict.{Verdict}
+use Rattle.verdict.specs.declared.verdict.Verdict.{Verdict}
 use Rattle.explanation.specs.Judge.{Judge, judgeOf}
-use Rattle.question.specs.Walk.{roundsBelow, verdictOf}
+use Rattle.verdict.specs.Walk.{roundsBelow, verdictOf}
 use Rattle.question.specs.Operation.{settingsIn, minimalsIn}
 use Rattle.store.specs.Saying.{Said}
 use Rattle.store.specs.Tables.{clauseWords, constraintWords, formulaNodes, caseSaid}
@@ -66,10 +67,9 @@ abbrev pub outcomeText : Outcome → List ℕ
 outcomeText (Outcome.case st) = saidText st
 outcomeText (Outcome.refused n k) = refusalText n k
 
--- the file is over 32,768 bytes, where the test holds: refusal 2
-abbrev pub unlessLong : Bool → List ℕ → List ℕ
-unlessLong true t = refusalText 2 0
-unlessLong false t = t
+-- 0, or 2 the file is over 32,768 bytes
+abbrev pub fileRefusal : List ℕ → ℕ
+fileRefusal f = firstFailed (check 2 (leb (length f) 32768) ∷ [])
 
 unfoldable pub reportText : List ℕ → List ℕ
-reportText f = unlessLong (ltb 32768 (length f)) (outcomeText (readFile f))
+reportText f = unlessRefused (fileRefusal f) (outcomeText (readFile f)) (refusalText (fileRefusal f) 0)

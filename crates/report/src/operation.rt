@@ -1,23 +1,18 @@
 // The operation *report*.
 ghost use Prim.Native.Nat.{_≤_};
-ghost use lib.ListN.{length, take};
+ghost use lib.ListN.{length};
 ghost use Rattle.wording.specs.Text.{answerText, refusalText};
-ghost use Rattle.report.specs.Operation.{Shown, Reported};
+ghost use Rattle.report.specs.Operation.{ReportShown, Reported};
 ghost use Rattle.names.specs.Row.{nameIn};
 ghost use Rattle.output.specs.Writing.{Room};
 ghost use Rattle.report.specs.Sizes.{FullSizes};
+use output::Answer;
 use wording::answer_text;
 use wording::refusal_text;
 
-// What the report answers: 0 and the length of the text, or a refusal's number and 0.
-pub struct Answer {
-    pub refusal: u32,
-    pub length: usize,
-}
-
 // Writes the text of a refusal, unless the output is too short.
 fn show_refusal(number: u32, line: u32, out: &mut [u8]) -> Answer
-    ensures { λ r. ⌜ Shown (refusalText number line) (now (out .entry)) r (now (out .exit)) ⌝ }
+    ensures { λ r. ⌜ ReportShown (refusalText number line) (now (out .entry)) r (now (out .exit)) ⌝ }
 {
     let mut spare = [0u8; 1];
     let length = refusal_text(&mut spare, number, line);
@@ -31,7 +26,7 @@ fn show_refusal(number: u32, line: u32, out: &mut [u8]) -> Answer
     Answer { refusal: 0, length }
 }
 
-// Writes the text of an answer, unless the output is too short.
+// Writes the text of an answer that lists some settings, unless the output is too short.
 fn show_answer(
     a: question::operation::Answer,
     names: &[u8],
@@ -39,12 +34,10 @@ fn show_answer(
     list: &[u16],
     out: &mut [u8],
 ) -> Answer
-    requires { ⌜ (1024 ≤ length (now names)) × (a .written ≤ length (now list))
-        × Room (answerText (nameIn (now names)) causes (a .verdict) (a .rounds) (a .minimal) (take (a .written)
-        (now list))) 0 ⌝ }
-    ensures { λ r. ⌜ Shown
-        (answerText (nameIn (now (names .entry))) causes (a .verdict) (a .rounds) (a .minimal) (take (a .written)
-        (now (list .entry))))
+    requires { ⌜ (1024 ≤ length (now names))
+        × Room (answerText (nameIn (now names)) causes (a .verdict) (a .rounds) (a .minimal) (now list)) 0 ⌝ }
+    ensures { λ r. ⌜ ReportShown
+        (answerText (nameIn (now (names .entry))) causes (a .verdict) (a .rounds) (a .minimal) (now (list .entry)))
         (now (out .entry)) r (now (out .exit)) ⌝ }
 {
     let verdict = a.verdict;
@@ -54,7 +47,6 @@ fn show_answer(
         verdict,
         a.rounds,
         a.minimal,
-        a.written,
         names,
         causes,
         list,
@@ -65,16 +57,7 @@ fn show_answer(
             length: 0,
         };
     }
-    answer_text(
-        out,
-        verdict,
-        a.rounds,
-        a.minimal,
-        a.written,
-        names,
-        causes,
-        list,
-    );
+    answer_text(out, verdict, a.rounds, a.minimal, names, causes, list);
     Answer { refusal: 0, length }
 }
 
@@ -101,7 +84,8 @@ fn report_in(
     let a = question::operation::ask(c, clauses, constraints, formula, list, work);
     let heads = program::cause::heads(clauses, c.clauses);
     let causes = program::cause::causes(c.atoms, heads);
-    show_answer(a, names, causes, list, out)
+    let n = a.written;
+    show_answer(a, names, causes, &list[..n], out)
 }
 
 // Writes the report of a file's bytes to a lent output, and answers its length. Refuses with 19 an output shorter than

@@ -51,6 +51,10 @@ module _ (p : List Clause) where
   rounds-good zero = nothing-good
   rounds-good (suc k) = step-good (rounds p k)
 
+  pub settled-good : Good (settled p .interpretation)
+  unfolding settled
+  settled-good = rounds-good (roundCount p)
+
   pub reached-good : {i : Interpretation} {k : ℕ} → Reached p i k → Good i
   reached-good {i} {k} r = rw (r .is) (rounds-good k)
 

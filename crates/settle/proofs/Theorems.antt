@@ -8,11 +8,11 @@ use native.Mathlib.Omega.{arith}
 use Rattle.logic.proofs.Interpretations.{decided-le, same-in-refl}
 use Rattle.program.specs.declared.case.Case.{Case}
 use Rattle.program.specs.declared.cause.Additions.{Additions}
-use Rattle.program.specs.Program.{Clause, programWith, headsOf}
+use Rattle.program.specs.Program.{Clause, programWith}
 use Rattle.program.specs.Cause.{causesOf}
 use Rattle.program.specs.Set.{SetOf}
 use Rattle.program.specs.Sound.{sound}
-use Rattle.program.proofs.Causes.{causes-lt}
+use Rattle.program.proofs.Causes.{causes-of-lt}
 use Rattle.program.proofs.Sets.{additions-set, set-facts-lt, set-assumptions-lt}
 use Rattle.program.proofs.Soundness.{sound-atoms, sound-head}
 use Rattle.settle.specs.Rounds.{rounds, roundCount, settled}
@@ -57,8 +57,7 @@ module _ (c : Case) (cl co fo : List ℕ) (x : Additions)
   atoms-le = sound-atoms c cl co fo h .1
 
   causes-within : causesOf c cl < 2 ^ c .atoms
-  unfolding causesOf
-  causes-within = causes-lt (c .atoms) (headsOf cl (c .clauses)) atoms-le
+  causes-within = causes-of-lt c cl atoms-le
 
   set-steady : Steady (programWith cl (c .clauses) x)
   set-steady = program-steady cl (c .clauses) x

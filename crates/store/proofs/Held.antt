@@ -1,7 +1,6 @@
 -- Tables that hold what was read hold it with one clause, constraint, reading or query more, and with a line's names.
 -- Assumes nothing.
-use mathlib.Core.Path.{_≡_, refl, sym, ap, subst, _∙_}
-use mathlib.Core.Bool.{false}
+use mathlib.Core.Path.{_≡_, refl, ap, subst, _∙_}
 use mathlib.Core.List.{List, [], _∷_, _++_}
 use mathlib.Core.Option.{Option}
 use Prim.Native.Nat.{ℕ, zero, suc, _+_, _≤_, _<_}
@@ -43,7 +42,9 @@ use Rattle.store.proofs.Formulas.{over-some}
 use Rattle.store.proofs.Encoded.{Known, encoded-over}
 use Rattle.store.proofs.Lookups.{Agree, masks-same, encoded-same}
 use Rattle.store.proofs.NodeLaws.{query-nodes, nodes-stored}
-use Rattle.store.proofs.Rows.{clause-words-stored, constraint-words-stored, formula-nodes-push, node-each}
+use Rattle.store.proofs.Rows.{clause-words-stored, constraint-words-stored, formula-nodes-push}
+use Rattle.store.proofs.Rows.{nodes-push-length}
+use Rattle.store.proofs.Rows.{node-each}
 
 -- c with a number of atoms
 abbrev pub withAtomCount : Case → ℕ → Case
@@ -74,19 +75,14 @@ module _ (st : Said) (h : Limits st) where
 
   query-limits : (f : Formula) → length (formulaNodes (st .queries)) ≡ 0 → 1 ≤ length (st .names)
       → 1 ≤ length (nodes f) → length (nodes f) ≤ 128 → Limits (withQuery st f)
-  query-limits f z a k m =
-      let n = length-append (st .queries) (f ∷ []) in
-      let some = h .query-nodes in
-      let e : length (formulaNodes (st .queries ++ (f ∷ []))) ≡ length (nodes f) =
-      ap length (formula-nodes-push (st .queries) f) ∙ simp length-append (omega arith) in
-      record {
-        clauses-few = h .clauses-few;
-        constraints-few = h .constraints-few;
-        queries-few = omega arith;
-        nodes-few = omega arith;
-        query-nodes = omega arith;
-        query-atoms = omega arith;
-      }
+  query-limits f z a k m = record {
+    clauses-few = h .clauses-few;
+    constraints-few = h .constraints-few;
+    queries-few = omega (arith, length-append (st .queries) (f ∷ []));
+    nodes-few = omega (arith, nodes-push-length (st .queries) f);
+    query-nodes = omega (arith, length-append (st .queries) (f ∷ []), nodes-push-length (st .queries) f);
+    query-atoms = omega (arith, length-append (st .queries) (f ∷ []));
+  }
 
 -- The record c and the tables t hold st
 
@@ -119,11 +115,10 @@ module _ (st : Said) (c : Case) (t : Lent) (h : Held st c t) where
       → Held (renamed (withNames (st .names) ws) st) (withAtomCount c n)
       (lent (t .clauses) (t .constraints) (t .formula) u)
   named-held ws n u i k =
+      let l = h .limits in
       let m = i .held k in
       record {
-        limits =
-            limits-as st (h .limits) (h .limits .clauses-few) (h .limits .constraints-few)
-            (with-names-length (st .names) ws);
+        limits = limits-as st l (l .clauses-few) (l .constraints-few) (with-names-length (st .names) ws);
         case-is = rw (h .case-is, i .fits k);
         all-named = m .all-named;
         few-names = m .few;
@@ -150,7 +145,8 @@ module _ (st : Said) (c : Case) (t : Lent) (h : Held st c t) where
           → m ≡ masksBy (atomOf (st .names)) ls
       masks-are k = e ∙ masks-same _ (atomOf (st .names)) ls k
 
-      pub clause-held : (kind : ℕ) (w : List ℕ) {r : Case} {u : List ℕ} → withNames (st .names) (w ∷ bodyNames ls) ≡ st .names
+      pub clause-held : (kind : ℕ) (w : List ℕ) {r : Case} {u : List ℕ}
+          → withNames (st .names) (w ∷ bodyNames ls) ≡ st .names
           → c .clauses < 256 → ClauseStored w kind m c (t .names) (t .clauses) r u
           → Held (withClause st (clauseRow (st .names) kind w ls)) r (lent u (t .constraints) (t .formula) (t .names))
       unfolding clauseWords
@@ -218,7 +214,7 @@ module _ (st : Said) (c : Case) (t : Lent) (h : Held st c t) where
           let g = encoded (st .names) f in
           let empty : length (formulaNodes (st .queries)) ≡ 0 = rw (h .case-is) at none in
           let push = formula-nodes-push (st .queries) g in
-          let n = ap length push ∙ length-append (formulaNodes (st .queries)) (nodes g) in
+          let n = nodes-push-length (st .queries) g in
           let count : r .nodes ≡ length (formulaNodes (st .queries ++ (g ∷ []))) =
           ap (λ (x : NodeTable). x .count) query-put ∙ omega arith in
           let atoms = over-some _ g (encoded-over (atomOf (st .names)) _ f (each-known (sentenceNames f) known)) in

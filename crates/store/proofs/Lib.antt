@@ -1,5 +1,6 @@
 -- The laws of this crate, a file for each notion.
 -- Lent: the four tables filled in their sizes.
+-- Saying: what a line says.
 -- KeptTables: their lengths, and tables that hold nothing.
 -- Formulas: the atoms of a formula, and the nodes of a form.
 -- Encoded: formulas by a lookup of names.
@@ -11,6 +12,7 @@
 -- Held: tables that hold what was read with one row, reading, query or name more.
 -- Stored: what storing a form of a line leaves, for each kind of line.
 pub mod Lent
+pub mod Saying
 pub mod KeptTables
 pub mod Formulas
 pub mod Encoded

@@ -1,7 +1,7 @@
 -- Laws of the words that hold the atoms of literals: their bits are below a number, and one literal gives a bit.
 -- Assumes nothing.
 use mathlib.Core.Path.{_≡_, refl, sym, _∙_}
-use mathlib.Core.Bool.{Bool, true, false, not, _&&_, and-false, false≢true}
+use mathlib.Core.Bool.{Bool, true, false, not, and-false, false≢true}
 use mathlib.Core.List.{List, [], _∷_}
 use Prim.Native.Nat.{ℕ, _^_, _≤_, _<_}
 use native.Mathlib.Omega.{arith}
@@ -46,7 +46,7 @@ module _ (at : List ℕ → ℕ) (n : ℕ) where
   atoms-lt b l h k = word-below (someOn at b l) n h (λ a. some-on-none b l a k)
 
   -- no literal gives no bit
-  pub atoms-none : (b : Bool) → atomsBy at b [] ≡ 0
+  atoms-none : (b : Bool) → atomsBy at b [] ≡ 0
   unfolding atomsBy someOn
   atoms-none b = sym (is-word 64 0 (someOn at b []) (pow-pos 64) (λ i _. has-zero i))
 

@@ -9,7 +9,7 @@ use native.Mathlib.Nat.{add-zero}
 use native.Mathlib.Numerals.{add-one}
 use native.Mathlib.Omega.{arith}
 use lib.Dec.{ltb}
-use lib.ListN.{length, drop, set}
+use lib.ListN.{length, drop, getD, set}
 use lib.Seq.{slice, sets}
 use borrow.Author.Tests.{lt-ltb, le-ltb, ltb-true}
 use Rattle.words.specs.Choice.{pick}
@@ -24,7 +24,7 @@ use Rattle.text.specs.Scanning.{Found}
 use Rattle.text.proofs.TokenLaws.{found-tokens}
 use Rattle.table.specs.Filled.{filled}
 use Rattle.table.proofs.Kept.{kept-refl, kept-trans, sets-kept}
-use Rattle.formulas.specs.Sentence.{Sentence, tokensOf, isSentence}
+use Rattle.formulas.specs.Sentence.{Sentence, formWords, tokensOf, isSentence}
 use Rattle.formulas.specs.Items.{Item, itemsOf}
 use Rattle.formulas.specs.Keyword.{nodeOf}
 use Rattle.formulas.proofs.Keywords.{word-node}
@@ -44,7 +44,7 @@ joined-from (suc (suc zero)) f g h = refl
 joined-from (suc (suc (suc zero))) f g h = refl
 joined-from (suc (suc (suc (suc j)))) f g h = absurd (omega arith)
 
-pub joined-nodes : (k : ℕ) (f g : Formula) → 65 ≤ k → k ≤ 68 → nodes (joined (k - 65) f g) ≡ k ∷ (nodes f ++ nodes g)
+joined-nodes : (k : ℕ) (f g : Formula) → 65 ≤ k → k ≤ 68 → nodes (joined (k - 65) f g) ≡ k ∷ (nodes f ++ nodes g)
 joined-nodes k f g h l =
     let e : k - 65 + 65 ≡ k = omega arith in
     joined-from (k - 65) f g (omega arith) ∙ ap (λ n. n ∷ (nodes f ++ nodes g)) e
@@ -63,23 +63,25 @@ module _ (at : List ℕ → ℕ) where
   unfolding nodesFrom
   name-nodes w ts = refl
 
+  joined-tokens : (k : ℕ) (f g : Sentence) (ts : List Token)
+      → tokensOf (Sentence.joined k f g) ++ ts
+      ≡ Token.opening ∷ (Token.word (getD formWords (k - 64) []) ∷ (tokensOf f ++ (tokensOf g ++ (Token.closing ∷ ts))))
+  unfolding tokensOf
+  joined-tokens k f g ts = rw (append-assoc (tokensOf f ++ tokensOf g), append-assoc (tokensOf f))
+
   sentence-nodes : (f : Sentence) (ts : List Token) → isSentence f ≡ true
       → nodesFrom at false (tokensOf f ++ ts) ≡ nodes (encodedBy at f) ++ nodesFrom at false ts
   unfolding tokensOf isSentence encodedBy nodes
   sentence-nodes (Sentence.name w) ts h = name-nodes w ts
   sentence-nodes (Sentence.negation f) ts h =
       rw append-assoc
-      (nodes-form 64 _ _ (word-node 64 (omega arith) (omega arith))
-      (sentence-nodes f _ h ∙ rw (closing-nodes ts)))
+      (nodes-form 64 _ _ (word-node 64 (omega arith) (omega arith)) (sentence-nodes f _ h ∙ rw (closing-nodes ts)))
   sentence-nodes (Sentence.joined k f g) ts h =
       let j = joined-sentence k f g h in
-      let F = encodedBy at f in
-      let G = encodedBy at g in
-      let last : nodesFrom at false (tokensOf g ++ (Token.closing ∷ ts)) ≡ nodes G ++ nodesFrom at false ts =
-      sentence-nodes g _ (j .second) ∙ rw (closing-nodes ts) in
-      rw (joined-nodes k F G (j .low) (j .high), append-assoc, append-assoc)
-      (nodes-form k _ _ (word-node k (omega arith) (j .high))
-      (sentence-nodes f _ (j .first) ∙ ap (λ xs. nodes F ++ xs) last ∙ sym (append-assoc (nodes F) (nodes G) _)))
+      let G = sentence-nodes g (Token.closing ∷ ts) (j .second) in
+      let F = sentence-nodes f (tokensOf g ++ (Token.closing ∷ ts)) (j .first) in
+      rw (joined-tokens k f g ts, joined-nodes k _ _ (j .low) (j .high))
+      (nodes-form k _ _ (word-node k (omega arith) (j .high)) (F ∙ rw (G, closing-nodes ts, append-assoc)))
 
 -- of the tokens of a query behind its word
 pub query-nodes : (at : List ℕ → ℕ) (ts : List Token) (f : Sentence)
@@ -112,7 +114,8 @@ nodes-kept (x ∷ xs) n t =
 -- The loop of `store_nodes`
 
 -- the nodes of the tokens from place i of the line l on, behind a bracket where b holds, leave of s what is left in all
-pub record Storing (at : List ℕ → ℕ) (all : NodeTable) (l : List ℕ) (i : ℕ) (b : Bool) (n : ℕ) (t : List ℕ) : Type 0 where
+pub record Storing (at : List ℕ → ℕ) (all : NodeTable) (l : List ℕ) (i : ℕ) (b : Bool) (n : ℕ) (t : List ℕ)
+    : Type 0 where
   pub all-are : all ≡ withNodes (nodeTable n t) (nodesFrom at b (tokens (drop i l)))
 
 pub storing-none : (at : List ℕ → ℕ) (l : List ℕ) (i n : ℕ) (t : List ℕ)

@@ -1,12 +1,12 @@
 -- Laws of the words of clauses and constraints and of the nodes of queries, where one more is stored behind the others,
 -- and of the atoms of two words. Assumes nothing.
-use mathlib.Core.Path.{_≡_, refl, sym, ap₂, _∙_}
+use mathlib.Core.Path.{_≡_, refl, sym, ap, ap₂, _∙_}
 use mathlib.Core.List.{List, [], _∷_, _++_, append-nil, append-assoc}
 use Prim.Native.Nat.{ℕ, _+_, _*_, _^_, _≤_, _<_}
 use native.Mathlib.Omega.{arith}
 use lib.Bits.{bitOr, or-lt}
 use lib.Dec.{leb}
-use lib.ListN.{length}
+use lib.ListN.{length, length-append}
 use lib.Seq.{sets}
 use borrow.Author.Tests.{le-leb}
 use Rattle.words.proofs.Bits.{has-or}
@@ -30,7 +30,7 @@ unfolding clauseWords
 clause-words-append [] ds = refl
 clause-words-append (c ∷ cs) ds = rw (clause-words-append cs ds)
 
-pub clause-words-length : (cs : List ClauseRow) → length (clauseWords cs) ≡ 3 * length cs
+clause-words-length : (cs : List ClauseRow) → length (clauseWords cs) ≡ 3 * length cs
 unfolding clauseWords
 clause-words-length [] = refl
 clause-words-length (c ∷ cs) = omega (arith, clause-words-length cs)
@@ -58,7 +58,7 @@ unfolding constraintWords
 constraint-words-append [] ds = refl
 constraint-words-append (c ∷ cs) ds = rw (constraint-words-append cs ds)
 
-pub constraint-words-length : (cs : List ConstraintRow) → length (constraintWords cs) ≡ 2 * length cs
+constraint-words-length : (cs : List ConstraintRow) → length (constraintWords cs) ≡ 2 * length cs
 unfolding constraintWords
 constraint-words-length [] = refl
 constraint-words-length (c ∷ cs) = omega (arith, constraint-words-length cs)
@@ -79,6 +79,10 @@ pub formula-nodes-push : (fs : List Formula) (f : Formula) → formulaNodes (fs 
 unfolding formulaNodes
 formula-nodes-push [] f = append-nil (nodes f)
 formula-nodes-push (g ∷ fs) f = rw (formula-nodes-push fs f, append-assoc)
+
+pub nodes-push-length : (fs : List Formula) (f : Formula)
+    → length (formulaNodes (fs ++ (f ∷ []))) ≡ length (formulaNodes fs) + length (nodes f)
+nodes-push-length fs f = ap length (formula-nodes-push fs f) ∙ length-append (formulaNodes fs) (nodes f)
 
 -- formulas that have at least a node each have a node where there is one of them
 pub node-each : (fs : List Formula) → length fs ≤ length (formulaNodes fs)

@@ -24,7 +24,7 @@ use Rattle.grammar.specs.Parsing.{FormIs, bodyIn}
 use Rattle.names.specs.Names.{atomOf}
 use Rattle.names.specs.Row.{rowOf}
 use Rattle.store.specs.declared.masks.Masks.{Masks}
-use Rattle.store.specs.Lent.{Lent, lent}
+use Rattle.store.specs.Lent.{lent}
 use Rattle.store.specs.Saying.{saidBy}
 use Rattle.store.specs.Held.{Long}
 use Rattle.store.specs.Masks.{masksBy}
@@ -47,7 +47,7 @@ no-query zero h = refl
 no-query (suc n) h = absurd (omega (arith, rw (le-leb 1 (suc n) (omega arith)) at h))
 
 -- the masks m are those of the literals at place at of the line l, by the first n names in the table na
-abbrev pub MasksOf : List ℕ → ℕ → List ℕ → ℕ → Masks → Type 0
+abbrev MasksOf : List ℕ → ℕ → List ℕ → ℕ → Masks → Type 0
 MasksOf l at na n m = (ls : List Literal) → bodyIn (tokens (drop at l)) ≡ Option.some ls → m ≡ masksBy (rowOf na n) ls
 
 module _ {l : List ℕ} {x : Form} {c : Case} {y : Line} (s : Storable l x c y) where
@@ -94,7 +94,9 @@ module _ {l : List ℕ} {x : Form} {c : Case} {y : Line} (s : Storable l x c y) 
           let room = clause-room q in
           record {
             kept =
-                lent-same (rw (d .table-is) (sets-kept clauseSize (_ ∷ (_ ∷ (_ ∷ []))) cl (3 * c .clauses) (omega arith))) (kept-refl _ co)
+                lent-same
+                (rw (d .table-is) (sets-kept clauseSize (_ ∷ (_ ∷ (_ ∷ []))) cl (3 * c .clauses) (omega arith)))
+                (kept-refl _ co)
                 (kept-refl _ fo) (kept-refl _ na);
             held = λ st h known.
                 rw (f .line-is)
@@ -102,7 +104,8 @@ module _ {l : List ℕ} {x : Form} {c : Case} {y : Line} (s : Storable l x c y) 
                 (rw (f .line-is) at known) room d);
           }
 
-      pub never-stored : {m : Masks} {u : List ℕ} → x ≡ Never at → MasksOf l at na (c .atoms) m → ConstraintStored m c co r u
+      pub never-stored : {m : Masks} {u : List ℕ} → x ≡ Never at → MasksOf l at na (c .atoms) m
+          → ConstraintStored m c co r u
           → StoredAs y c (lent cl co fo na) r (lent cl u fo na)
       unfolding saidBy
       never-stored q i d =
@@ -110,7 +113,8 @@ module _ {l : List ℕ} {x : Form} {c : Case} {y : Line} (s : Storable l x c y) 
           let room = never-room q in
           record {
             kept =
-                lent-same (kept-refl _ cl) (rw (d .table-is) (sets-kept constraintSize (_ ∷ (_ ∷ [])) co (2 * c .constraints) (omega arith)))
+                lent-same (kept-refl _ cl)
+                (rw (d .table-is) (sets-kept constraintSize (_ ∷ (_ ∷ [])) co (2 * c .constraints) (omega arith)))
                 (kept-refl _ fo) (kept-refl _ na);
             held = λ st h known.
                 rw (f .line-is)

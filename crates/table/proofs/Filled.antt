@@ -77,14 +77,6 @@ filled-exact n l old e =
     let k : length (filled n l old) ≤ n = omega (arith, filled-length n l old) in
     sym (take-all n (filled n l old) k) ∙ filled-take n l old (omega arith)
 
--- the entries from n on are kept
-pub filled-drop : (n : ℕ) (l old : List ℕ) → drop n (filled n l old) ≡ drop n old
-unfolding filled
-filled-drop zero l old = refl
-filled-drop (suc n) l [] = refl
-filled-drop (suc n) [] (o ∷ old) = filled-drop n [] old
-filled-drop (suc n) (x ∷ l) (o ∷ old) = filled-drop n l old
-
 -- padded
 
 pub padded-at : (n : ℕ) (l : List ℕ) (i : ℕ) → i < n → getD (padded n l) i 0 ≡ getD l i 0

@@ -1,5 +1,5 @@
--- Laws of the list that stores one behind the other leave, for straight stores and for loops that store a list or a row.
--- Assumes nothing.
+-- Laws of the list that stores one behind the other leave, for straight stores and for loops that store a list or a
+-- row. Assumes nothing.
 use mathlib.Core.Path.{_≡_, refl, sym, _∙_}
 use mathlib.Core.List.{List, [], _∷_, _++_}
 use Prim.Native.Nat.{ℕ, suc, _+_, _≤_, _<_}

@@ -8,6 +8,7 @@
 -- TokenCounts: a line has at most as many tokens as bytes.
 -- NameLaws: the names of tokens, by the first of them.
 -- Words: what the words of a line are made of.
+-- NumberLaws: the number that digits stand for.
 -- Names: the names of a line.
 -- Each: what holds of each entry of a list.
 pub mod Slices
@@ -19,5 +20,6 @@ pub mod TokenLaws
 pub mod TokenCounts
 pub mod NameLaws
 pub mod Words
+pub mod NumberLaws
 pub mod Names
 pub mod Each

@@ -1,9 +1,13 @@
 -- The names of tokens, by the first of them. Assumes nothing.
 use mathlib.Core.Path.{_≡_, refl}
-use mathlib.Core.List.{List, _∷_}
+use mathlib.Core.List.{List, [], _∷_}
 use Prim.Native.Nat.{ℕ}
 use Rattle.text.specs.Tokens.{Token}
 use Rattle.text.specs.Words.{namesFrom, namesIn}
+
+pub names-end : namesIn [] ≡ []
+unfolding namesFrom
+names-end = refl
 
 module _ (ts : List Token) where
   pub names-closing : namesIn (Token.closing ∷ ts) ≡ namesIn ts

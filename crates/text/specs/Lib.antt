@@ -3,9 +3,11 @@
 -- Lines: the lines of a file.
 -- Tokens: the words and brackets of a line.
 -- Words: names among the words of a line, and the place of a word among others.
+-- Numbers: the number that digits stand for.
 -- Scanning: what scanning from a place finds.
 pub mod Bytes
 pub mod Lines
 pub mod Tokens
 pub mod Words
+pub mod Numbers
 pub mod Scanning

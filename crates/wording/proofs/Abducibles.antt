@@ -1,6 +1,6 @@
 -- How what a setting adds is written, atom by atom: what is written so far, and what is left of the setting from the
 -- next atom on, make up the whole. Assumes nothing.
-use mathlib.Core.Path.{_≡_, ap, _∙_}
+use mathlib.Core.Path.{_≡_, sym, ap, _∙_}
 use mathlib.Core.Bool.{Bool, true, false}
 use mathlib.Core.List.{List, [], _++_}
 use Prim.Native.Nat.{ℕ, suc, _+_, _-_, _/_, _%_, _≤_, _<_}
@@ -9,6 +9,7 @@ use Rattle.words.specs.Choice.{consIf}
 use Rattle.words.specs.Bits.{has}
 use Rattle.program.specs.Cause.{atomsFrom, atomsIn}
 use Rattle.program.specs.Setting.{choicesFor, digits}
+use Rattle.names.specs.Row.{nameIn}
 use Rattle.output.specs.Writing.{Writes, Room}
 use Rattle.output.proofs.FormTexts.{spaced-nil}
 use Rattle.output.specs.Forms.{spaced}
@@ -59,24 +60,30 @@ pub record AtAtom (name : ℕ → List ℕ) (w s : ℕ) (out : List ℕ) (at a r
 pub atom-start : (name : ℕ → List ℕ) (w s : ℕ) (out : List ℕ) (at : ℕ) → AtAtom name w s out at 0 s at out
 atom-start name w s out at = record { within = omega arith; underway = underway-start _ _ _ }
 
-module _ {name : ℕ → List ℕ} {w s at a rest m : ℕ} {out out₁ : List ℕ}
-    (h : AtAtom name w s out at a rest m out₁) (l : a < 64) where
-  pub atom-room : has w a ≡ true → Room (settingText name (atomsIn w) s) at
-      → Room (spaced (withAbducible (rest % 3) (name a) [])) m
-  atom-room e r =
-      underway-room (h .underway) (spaced (withAbducible (rest % 3) (name a) [])) (leftText name w (a + 1) (rest / 3))
-      (left-cause name w a rest l e) r
+-- the names of the table n
+module _ (n : List ℕ) {w s at a rest m : ℕ} {out out₁ : List ℕ}
+    (h : AtAtom (nameIn n) w s out at a rest m out₁) (l : a < 64) where
+  -- t is the test whether atom a is a cause
+  module _ {t : Bool} (test : t ≡ has w a) where
+    pub atom-room : t ≡ true → Room (settingText (nameIn n) (atomsIn w) s) at
+        → Room (spaced (withAbducible (rest % 3) (nameIn n a) [])) m
+    atom-room e r =
+        underway-room (h .underway) (spaced (withAbducible (rest % 3) (nameIn n a) []))
+        (leftText (nameIn n) w (a + 1) (rest / 3)) (left-cause (nameIn n) w a rest l (sym test ∙ e)) r
 
-  pub atom-cause : {r : ℕ} {out₂ : List ℕ} → has w a ≡ true
-      → Writes (spaced (withAbducible (rest % 3) (name a) [])) out₁ m r out₂
-      → AtAtom name w s out at (a + 1) (rest / 3) r out₂
-  atom-cause e k = record {
-    within = omega arith;
-    underway = underway-more (h .underway) (left-cause name w a rest l e) k;
-  }
+    pub atom-cause : {r : ℕ} {out₂ : List ℕ} → t ≡ true
+        → Writes (spaced (withAbducible (rest % 3) (nameIn n a) [])) out₁ m r out₂
+        → AtAtom (nameIn n) w s out at (a + 1) (rest / 3) r out₂
+    atom-cause e k = record {
+      within = omega arith;
+      underway = underway-more (h .underway) (left-cause (nameIn n) w a rest l (sym test ∙ e)) k;
+    }
 
-  pub atom-other : has w a ≡ false → AtAtom name w s out at (a + 1) rest m out₁
-  atom-other e = record { within = omega arith; underway = rw (left-other name w a rest l e) at (h .underway) }
+    pub atom-other : t ≡ false → AtAtom (nameIn n) w s out at (a + 1) rest m out₁
+    atom-other e = record {
+      within = omega arith;
+      underway = rw (left-other (nameIn n) w a rest l (sym test ∙ e)) at (h .underway);
+    }
 
 pub atom-end : {name : ℕ → List ℕ} {w s at a rest m : ℕ} {out out₁ : List ℕ} → AtAtom name w s out at a rest m out₁
     → 64 ≤ a → Writes (settingText name (atomsIn w) s) out at m out₁

@@ -5,8 +5,8 @@ use native.Mathlib.Omega.{arith}
 use lib.ListN.{length, length-append}
 use Rattle.program.specs.Cause.{atomsIn}
 use Rattle.program.specs.Setting.{digitsOf}
-use Rattle.question.specs.declared.verdict.Verdict.{Verdict}
-use Rattle.question.specs.declared.verdict.Verdict.the-variants.{Unexplained, Follows, Denied, Open}
+use Rattle.verdict.specs.declared.verdict.Verdict.{Verdict}
+use Rattle.verdict.specs.declared.verdict.Verdict.the-variants.{Unexplained, Follows, Denied, Open}
 use Rattle.output.proofs.Decimals.{decimal-length, decimal-short}
 use Rattle.output.proofs.FormTexts.{spaced-nil, spaced-more, spaced-one, spaced-two, form-length, line-length}
 use Rattle.output.specs.Forms.{spaced}

@@ -1,12 +1,10 @@
 -- The lines of a report, and what a digit adds, as the pieces that the code writes. Assumes nothing.
 use mathlib.Core.Path.{_≡_, refl, sym, ap}
 use mathlib.Core.List.{List, [], _∷_, _++_}
-use Prim.Native.Nat.{ℕ, zero, suc, _+_}
-use native.Mathlib.Omega.{arith}
-use lib.ListN.{length, length-append}
+use Prim.Native.Nat.{ℕ, zero, suc}
 use Rattle.program.specs.Cause.{atomsIn}
 use Rattle.program.specs.Setting.{digitsOf}
-use Rattle.question.specs.declared.verdict.Verdict.{Verdict}
+use Rattle.verdict.specs.declared.verdict.Verdict.{Verdict}
 use Rattle.text.specs.Bytes.{bytes}
 use Rattle.output.specs.Decimal.{decimal}
 use Rattle.output.specs.Forms.{spaced, form}
@@ -40,10 +38,6 @@ assumptionOpening = bytes " (false "
 abbrev pub pairText : List ℕ → ℕ → ℕ → List ℕ
 pairText opening x y = opening ++ (decimal x ++ (bytes " " ++ (decimal y ++ lineEnd)))
 
-pub pair-length : (opening : List ℕ) (x y : ℕ)
-    → length (pairText opening x y) ≡ length opening + length (decimal x) + length (decimal y) + 3
-pair-length opening x y = simp length-append (omega arith)
-
 pub verdict-text : (v : Verdict) → verdictLine v ≡ verdictOpening ++ (verdictWord v ++ lineEnd)
 unfolding verdictLine
 verdict-text v = line-one (bytes "verdict") (verdictWord v)
@@ -51,9 +45,6 @@ verdict-text v = line-one (bytes "verdict") (verdictWord v)
 pub rounds-text : (n : ℕ) → roundsLine n ≡ roundsOpening ++ (decimal n ++ lineEnd)
 unfolding roundsLine
 rounds-text n = line-one (bytes "rounds") (decimal n)
-
-pub rounds-length : (n : ℕ) → length (roundsLine n) ≡ length (decimal n) + 10
-rounds-length n = simp (rounds-text, length-append) (omega arith)
 
 pub minimal-text : (m w : ℕ) → minimalLine m w ≡ pairText minimalOpening m w
 unfolding minimalLine
@@ -68,14 +59,7 @@ pub cause-text : (name : ℕ → List ℕ) (w s : ℕ)
 unfolding causeLine
 cause-text name w s = line-parts (bytes "cause") (abducibles name (atomsIn w) (digitsOf w s))
 
-pub cause-length : (name : ℕ → List ℕ) (w s : ℕ)
-    → length (causeLine name w s) ≡ length (spaced (abducibles name (atomsIn w) (digitsOf w s))) + 8
-cause-length name w s = simp (cause-text, length-append) (omega arith)
-
 -- ---- what a digit adds for the cause named w
-pub form-length : (opening w : List ℕ) → length (opening ++ (w ++ bytes ")")) ≡ length opening + length w + 1
-form-length opening w = simp length-append (omega arith)
-
 pub fact-text : (w : List ℕ) → spaced (withAbducible 1 w []) ≡ factOpening ++ (w ++ bytes ")")
 fact-text w = spaced-form (bytes "true") w
 

@@ -8,7 +8,7 @@ use lib.ListN.{length, getD}
 use Rattle.program.specs.Cause.{atomsIn}
 use Rattle.program.specs.Setting.{digitsOf}
 use Rattle.program.proofs.Atoms.{atoms-below}
-use Rattle.question.specs.declared.verdict.Verdict.{Verdict}
+use Rattle.verdict.specs.declared.verdict.Verdict.{Verdict}
 use Rattle.wording.specs.Text.{withAbducible, abducibles, causeLine, causeLines, answerText}
 
 module _ (f g : ℕ → List ℕ) (agree : (a : ℕ) → a < 64 → f a ≡ g a) where

@@ -1,7 +1,7 @@
 // The wording of a report: the lines of an answer and of a refusal.
 ghost use mathlib.Core.List.{[], _++_};
 ghost use Prim.Native.Nat.{_+_, _*_, _≤_, _<_};
-ghost use lib.ListN.{length, take};
+ghost use lib.ListN.{length};
 ghost use Rattle.program.specs.Cause.{atomsIn};
 ghost use Rattle.program.specs.Setting.{digitsOf};
 ghost use Rattle.text.specs.Bytes.{bytes};
@@ -15,7 +15,7 @@ use output::put;
 use output::put_decimal;
 use output::put_name;
 use output::put_text;
-use question::verdict::Verdict;
+use verdict::verdict::Verdict;
 
 // Writes the line of a verdict.
 fn verdict_line(out: &mut [u8], at: usize, v: Verdict) -> usize
@@ -115,24 +115,15 @@ fn cause_line(out: &mut [u8], at: usize, names: &[u8], causes: u64, setting: u64
     put_text(out, end, b")\n")
 }
 
-// Writes the lines of the first n settings of a list.
-fn cause_lines(
-    out: &mut [u8],
-    at: usize,
-    names: &[u8],
-    causes: u64,
-    list: &[u16],
-    n: usize,
-) -> usize
-    requires { ⌜ (1024 ≤ length (now names)) × (n ≤ length (now list))
-        × Room (causeLines (nameIn (now names)) causes (take n (now list))) at ⌝ }
-    ensures { λ r. ⌜ Writes (causeLines (nameIn (now (names .entry))) causes (take n (now (list .entry))))
-        (now (out .entry)) at r
-        (now (out .exit)) ⌝ }
+// Writes the lines of the settings of a list.
+fn cause_lines(out: &mut [u8], at: usize, names: &[u8], causes: u64, list: &[u16]) -> usize
+    requires { ⌜ (1024 ≤ length (now names)) × Room (causeLines (nameIn (now names)) causes (now list)) at ⌝ }
+    ensures { λ r. ⌜ Writes (causeLines (nameIn (now (names .entry))) causes (now (list .entry)))
+        (now (out .entry)) at r (now (out .exit)) ⌝ }
 {
     let mut place = at;
     let mut k: usize = 0;
-    while k < n {
+    while k < list.len() {
         place = cause_line(out, place, names, causes, list[k] as u64);
         k += 1;
     }
@@ -140,27 +131,25 @@ fn cause_lines(
 }
 
 // Writes the text of an answer from the output's first byte on: verdict, rounds, how many minimal explanations there
-// are, and the first n settings of the list. Answers the text's length.
+// are, and the settings listed. Answers the text's length.
 pub fn answer_text(
     out: &mut [u8],
     verdict: Verdict,
     rounds: u64,
     minimal: u64,
-    n: usize,
     names: &[u8],
     causes: u64,
     list: &[u16],
 ) -> usize
-    requires { ⌜ (1024 ≤ length (now names)) × (n ≤ length (now list))
-        × Room (answerText (nameIn (now names)) causes verdict rounds minimal (take n (now list))) 0 ⌝ }
-    ensures { λ r. ⌜ Writes (answerText (nameIn (now (names .entry))) causes verdict rounds minimal (take n
-        (now (list .entry))))
+    requires { ⌜ (1024 ≤ length (now names))
+        × Room (answerText (nameIn (now names)) causes verdict rounds minimal (now list)) 0 ⌝ }
+    ensures { λ r. ⌜ Writes (answerText (nameIn (now (names .entry))) causes verdict rounds minimal (now (list .entry)))
         (now (out .entry)) 0 r (now (out .exit)) ⌝ }
 {
     let second = verdict_line(out, 0, verdict);
     let third = rounds_line(out, second, rounds);
-    let fourth = pair_line(out, third, b"(minimal ", minimal, n as u64);
-    cause_lines(out, fourth, names, causes, list, n)
+    let fourth = pair_line(out, third, b"(minimal ", minimal, list.len() as u64);
+    cause_lines(out, fourth, names, causes, list)
 }
 
 // Writes the text of a refusal from the output's first byte on. Answers the text's length.

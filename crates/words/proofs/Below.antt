@@ -10,7 +10,8 @@ use lib.Dec.{eqb}
 use borrow.Author.Tests.{eq-eqb, ne-eqb}
 use Rattle.words.specs.Choice.{pick}
 use Rattle.words.specs.Below.{any, every, firstFrom}
-use Rattle.words.proofs.Tests.{Gives, or-gives, or-false-l, or-false-r, and-true-l, and-true-r, eqb-comm, by-test}
+use Rattle.words.proofs.Tests.{Gives, or-gives, or-false-l, or-false-r, and-true-l, and-true-r, eqb-comm}
+use Rattle.words.proofs.Tests.{by-test}
 
 -- ---- any
 pub any-ext : (n : ℕ) (p q : ℕ → Bool) → ((i : ℕ) → i < n → p i ≡ q i) → any n p ≡ any n q

@@ -1,16 +1,15 @@
 -- The count of a word's bits, and how it grows with the word. Assumes nothing.
 use mathlib.Core.Path.{_≡_, refl, sym, ap, ap₂, _∙_}
-use mathlib.Core.Bool.{Bool, true, false, _&&_, false≢true}
+use mathlib.Core.Bool.{Bool, true, false, _&&_}
 use mathlib.Core.Logic.{_⊎_, inl, inr, ⊎-elim}
 use Prim.Native.Nat.{ℕ, zero, suc, _+_, _*_, _/_, _%_, _^_, _≤_, _<_}
 use native.Mathlib.Nat.{pow-suc, eq-or-lt-of-le}
 use native.Mathlib.Omega.{arith}
 use lib.Arith.{lt-one}
 use lib.Count.{ones, ones-step, ones-le}
-use lib.Pow.{pow-pos}
 use borrow.Author.Tests.{eqb-true, eq-eqb}
 use Rattle.words.specs.Bits.{odd, has}
-use Rattle.words.proofs.Bits.{has-low, has-half, has-zero}
+use Rattle.words.proofs.Bits.{has-low, has-half}
 
 -- each bit of a is one of b
 abbrev pub Within : ℕ → ℕ → ℕ → Type 0
@@ -43,12 +42,6 @@ ones-grow (suc k) a b h l s =
         (λ (q : a % 2 < b % 2). inr (omega (arith, ones-step a, ones-step b, ap ones e)))
         (eq-or-lt-of-le low)
     go (inr q) = inr (omega (arith, ones-step a, ones-step b, low))
-
--- a word without bits is 0
-pub ones-none : (w : ℕ) → w < 2 ^ 64 → ones w ≡ 0 → w ≡ 0
-ones-none w h e =
-    ⊎-elim (λ (q : 0 ≡ w). sym q) (λ (q : ones 0 < ones w). absurd (omega arith))
-    (ones-grow 64 0 w (pow-pos 64) h (λ i l z. absurd (false≢true (sym (has-zero i) ∙ z))))
 
 low-apart : (a b : ℕ) → (odd a && odd b) ≡ false → a % 2 + b % 2 ≤ 1
 low-apart a b e = go (a % 2) (b % 2) refl refl

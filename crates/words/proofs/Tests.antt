@@ -42,10 +42,6 @@ pub and-gives : {a b c d : Bool} → Gives a b → Gives c d → Gives (a && c) 
 and-gives {a = true} {b} {c} {d} f g e = ap₂ _&&_ (f refl) (g e)
 and-gives {a = false} f g e = absurd (false≢true e)
 
-pub not-gives : {a b : Bool} → Gives a b → Gives (not b) (not a)
-not-gives {a = true} {b} f e = absurd (false≢true (sym (ap not (f refl)) ∙ e))
-not-gives {a = false} {b} f e = refl
-
 -- tests that make each other pass
 pub gives-same : (a b : Bool) → Gives a b → Gives b a → a ≡ b
 gives-same true b f g = sym (f refl)

@@ -1,7 +1,7 @@
 //! Families of the question: stored, generated and drawn cases, with lists and work areas around what is needed.
 
 use crate::calls::{question, Room};
-use crate::corpus::{generated, stored, Input};
+use crate::corpus::{folders, generated, some_accepted, Input};
 use crate::drawn::{drawn, small, strewn};
 use crate::due::{unasked, Asking};
 use crate::held::Held;
@@ -59,10 +59,10 @@ fn files(tests: &mut Tests, name: &str, inputs: &[Input]) -> Met {
 }
 
 /// Asks the questions of the load files, with the program's list.
-fn load(tests: &mut Tests, folder: &Path) {
-    tests.family("question: stored files, load");
+fn load(tests: &mut Tests, name: &str, inputs: &[Input]) {
+    tests.family(name);
     let mut most = 0;
-    for input in stored(folder, "load") {
+    for input in inputs {
         let case = file::read(&input.bytes).unwrap_or_else(|r| panic!("refused with {}", r.number));
         let held = strewn(&mut Random::new(1), &Held::of(&case));
         let asking = Asking::of(case);
@@ -124,10 +124,14 @@ fn several(causes: usize) -> String {
 
 /// All families of the question.
 pub fn run(tests: &mut Tests, folder: &Path) {
-    for part in ["marked", "vectors", "sources", "edges"] {
-        files(tests, &format!("question: stored files, {part}"), &stored(folder, part));
+    for (name, inputs) in folders(folder).into_iter().filter(|(_, inputs)| some_accepted(inputs)) {
+        let family = format!("question: stored files, {name}");
+        if name == "load" {
+            load(tests, &family, &inputs);
+        } else {
+            files(tests, &family, &inputs);
+        }
     }
-    load(tests, folder);
     let met = files(tests, "question: generated files", &generated(SEEDS, |s| s % 2 == 0 && s % 20 != 0));
     tests.require("each verdict and m > 1", met.verdicts.iter().all(|n| *n > 0) && met.several > 0);
     let met = drawn_cases(tests);

@@ -33,7 +33,7 @@ impl Sizes {
 }
 
 /// What a reading should answer and leave in the tables, none where they are not touched.
-#[derive(Clone)]
+#[derive(Clone, PartialEq)]
 pub struct ReadDue {
     pub refusal: u32,
     pub answer: Vec<u64>,

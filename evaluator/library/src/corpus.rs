@@ -1,8 +1,9 @@
 //! The files that the calls read: stored ones, generated ones, and small ones made here.
 
 use evaluator::check::case_files;
+use evaluator::file;
 use evaluator::sample::sample;
-use std::path::Path;
+use std::path::{Path, PathBuf};
 
 /// A file with its name and, for a stored one, its report.
 pub struct Input {
@@ -11,15 +12,34 @@ pub struct Input {
     pub report: Option<Vec<u8>>,
 }
 
-/// The case files of the folder `folder` of `tests`.
-pub fn stored(tests: &Path, folder: &str) -> Vec<Input> {
-    let paths = case_files(&tests.join(folder)).unwrap_or_default();
-    let input = |path: &std::path::PathBuf| Input {
+/// The case files under `folder`.
+fn case_inputs(folder: &Path) -> Vec<Input> {
+    let paths = case_files(folder).unwrap_or_default();
+    let input = |path: &PathBuf| Input {
         name: path.display().to_string(),
         bytes: std::fs::read(path).expect("a readable case file"),
         report: Some(std::fs::read(path.with_extension("out")).expect("a stored report")),
     };
     paths.iter().map(input).collect()
+}
+
+/// The case files of the folder `folder` of `tests`.
+pub fn stored(tests: &Path, folder: &str) -> Vec<Input> {
+    case_inputs(&tests.join(folder))
+}
+
+/// Every folder of `tests` with case files, by name, and the folder `examples` beside `tests`.
+pub fn folders(tests: &Path) -> Vec<(String, Vec<Input>)> {
+    let entries = std::fs::read_dir(tests).into_iter().flatten().flatten();
+    let mut paths: Vec<PathBuf> = entries.map(|entry| entry.path()).chain([tests.with_file_name("examples")]).collect();
+    paths.sort();
+    let named = |path: &PathBuf| (path.file_name().expect("a name").to_string_lossy().into_owned(), case_inputs(path));
+    paths.iter().map(named).filter(|(_, inputs)| !inputs.is_empty()).collect()
+}
+
+/// Whether the evaluator accepts some of `inputs`.
+pub fn some_accepted(inputs: &[Input]) -> bool {
+    inputs.iter().any(|input| file::read(&input.bytes).is_ok())
 }
 
 /// The generated files of the seeds below `end` that `keep` keeps.

@@ -17,7 +17,7 @@ pub const FORMULA_BYTES: usize = 128;
 pub const NAMES_BYTES: usize = 1_024;
 
 /// A case record of six words, and the tables.
-#[derive(Clone)]
+#[derive(Clone, PartialEq)]
 pub struct Held {
     pub record: Vec<u64>,
     pub clauses: Vec<u64>,

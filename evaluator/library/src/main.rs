@@ -8,6 +8,7 @@
 //! | corpus, drawn | files, and cases that no file need give |
 //! | reading, read_sizes | reading |
 //! | settling, asking, case_sizes | settling and the question |
+//! | marked, chains | M1 to M10 with their tables, and chains of atoms, worked out by hand |
 //! | breaches, unsound | each phrase of soundness broken alone, and each limit met |
 //! | fences | calls with the fence in front |
 //! | reports, threads | the report, calls from several threads |
@@ -19,6 +20,7 @@ mod asking;
 mod breaches;
 mod calls;
 mod case_sizes;
+mod chains;
 mod constants;
 mod corpus;
 mod drawn;
@@ -27,6 +29,7 @@ mod fences;
 mod from_c;
 mod held;
 mod lent;
+mod marked;
 mod meanings;
 mod outside;
 mod owned;
@@ -58,6 +61,8 @@ fn main() -> ExitCode {
     reading::run(&mut tests, &folder);
     read_sizes::run(&mut tests);
     settling::run(&mut tests, &folder);
+    marked::run(&mut tests, &folder);
+    chains::run(&mut tests);
     asking::run(&mut tests, &folder);
     case_sizes::run(&mut tests);
     unsound::run(&mut tests);

@@ -1,7 +1,7 @@
 //! Families of reading: stored and generated files, files cut and changed byte by byte, each refusal.
 
 use crate::calls::{read, Sizes};
-use crate::corpus::{generated, refused_files, stored, Input, EACH, M4};
+use crate::corpus::{folders, generated, refused_files, Input, EACH, M4};
 use crate::due;
 use crate::tests::Tests;
 use std::path::Path;
@@ -9,18 +9,18 @@ use std::path::Path;
 /// The seeds of the generated files that are read.
 const SEEDS: u64 = 6_000;
 
-/// Reads each of `inputs`, in memory of its sizes and in longer memory.
+/// Reads each of `inputs`, in memory of its sizes, and with entries past each of them.
 fn files(tests: &mut Tests, name: &str, inputs: &[Input]) {
     tests.family(name);
     for (at, input) in inputs.iter().enumerate() {
         let due = due::read(&input.bytes);
         tests.call(|| input.name.clone(), read(&input.bytes, Sizes::FULL, true, &due));
         let longer = Sizes {
-            clauses: Sizes::FULL.clauses + at % 4,
-            constraints: Sizes::FULL.constraints + at % 3,
-            formula: Sizes::FULL.formula + at % 5,
-            names: Sizes::FULL.names + at % 17,
-            answer: Sizes::FULL.answer + at % 2,
+            clauses: Sizes::FULL.clauses + 1 + at % 4,
+            constraints: Sizes::FULL.constraints + 1 + at % 3,
+            formula: Sizes::FULL.formula + 1 + at % 5,
+            names: Sizes::FULL.names + 1 + at % 17,
+            answer: Sizes::FULL.answer + 1 + at % 2,
         };
         tests.call(|| format!("{} {longer:?}", input.name), read(&input.bytes, longer, false, &due));
     }
@@ -28,8 +28,8 @@ fn files(tests: &mut Tests, name: &str, inputs: &[Input]) {
 
 /// The stored files by folder, then the generated ones: at limits, damaged, whole.
 fn corpus(tests: &mut Tests, folder: &Path) {
-    for part in ["marked", "vectors", "sources", "edges", "load"] {
-        files(tests, &format!("read: stored files, {part}"), &stored(folder, part));
+    for (name, inputs) in folders(folder) {
+        files(tests, &format!("read: stored files, {name}"), &inputs);
     }
     files(tests, "read: generated files at limits", &generated(SEEDS, |s| s % 20 == 0));
     files(tests, "read: generated files, damaged", &generated(SEEDS, |s| s % 2 == 1));

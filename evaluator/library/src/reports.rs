@@ -1,7 +1,7 @@
 //! Families of the report: stored and generated files, with outputs around the length of the text.
 
 use crate::calls::other_number;
-use crate::corpus::{generated, refused_files, stored, Input, EACH};
+use crate::corpus::{folders, generated, refused_files, Input, EACH};
 use crate::lent::Lent;
 use crate::tests::{Complaints, Tests};
 use causes::raw;
@@ -53,16 +53,25 @@ fn files(tests: &mut Tests, name: &str, inputs: &[Input]) {
     }
 }
 
+/// Reports each of `inputs`, which are stored, to an output of one byte more than its text.
+fn once(tests: &mut Tests, name: &str, inputs: &[Input]) {
+    tests.family(name);
+    for Input { name, bytes, report: text } in inputs {
+        let text = text.as_ref().expect("a stored report");
+        let words = [text.len() as u64];
+        tests.call(|| name.clone(), report(bytes, text.len() + 1, 1, (0, &words, text)));
+    }
+}
+
 /// All families of the report.
 pub fn run(tests: &mut Tests, folder: &Path) {
-    for part in ["marked", "vectors", "sources", "edges"] {
-        files(tests, &format!("report: stored files, {part}"), &stored(folder, part));
-    }
-    tests.family("report: stored files, load");
-    for Input { name, bytes, report: text } in stored(folder, "load") {
-        let text = text.expect("a stored report");
-        let words = [text.len() as u64];
-        tests.call(|| name.clone(), report(&bytes, text.len() + 1, 1, (0, &words, &text)));
+    for (name, inputs) in folders(folder) {
+        let family = format!("report: stored files, {name}");
+        if name == "load" {
+            once(tests, &family, &inputs);
+        } else {
+            files(tests, &family, &inputs);
+        }
     }
     files(tests, "report: generated files", &generated(SEEDS, |s| s % 20 != 0));
     tests.family("report: refused files");

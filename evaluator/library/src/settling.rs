@@ -1,12 +1,15 @@
-//! Families of settling: every setting of stored, generated and drawn cases, and settings past the last.
+//! Families of settling: settings of stored, generated and drawn cases, the rounds that stored reports tell, and
+//! settings past the last.
 
 use crate::calls::settle;
-use crate::corpus::{generated, stored, Input};
+use crate::corpus::{folders, generated, some_accepted, Input};
 use crate::drawn::{drawn, small, strewn};
 use crate::due::Settling;
 use crate::held::Held;
-use crate::tests::Tests;
-use evaluator::case::Case;
+use crate::tests::{differing, Tests};
+use crate::wrappers::{record, tables};
+use causes::lent;
+use evaluator::case::{causes, Case};
 use evaluator::file;
 use evaluator::random::Random;
 use std::path::Path;
@@ -50,6 +53,26 @@ fn files(tests: &mut Tests, name: &str, inputs: &[Input]) {
     }
 }
 
+/// The rounds over all settings that the report `text` tells, none if it tells a refusal.
+fn told_rounds(text: &[u8]) -> Option<u64> {
+    let text = std::str::from_utf8(text).expect("a report in ASCII");
+    text.lines().find_map(|line| line.strip_prefix("(rounds ")?.strip_suffix(')')?.parse().ok())
+}
+
+/// The rounds that settling every setting of a stored file gives, held to its report.
+fn sums(tests: &mut Tests, folder: &Path) {
+    tests.family("settle: rounds over all settings, by the stored reports");
+    for input in folders(folder).into_iter().flat_map(|(_, inputs)| inputs) {
+        let Some(rounds) = input.report.as_deref().and_then(told_rounds) else { continue };
+        let case = file::read(&input.bytes).unwrap_or_else(|r| panic!("{}: refused with {}", input.name, r.number));
+        let held = Held::of(&case);
+        let (record, tables) = (record(&case, &held), tables(&held));
+        let end = 3u64.pow(causes(case.names.len(), &case.clauses).len() as u32);
+        let settled = (0..end).map(|s| lent::settle(&record, &tables, s).map(|a| a.rounds));
+        tests.call(|| input.name.clone(), differing(Ok(rounds), settled.sum()));
+    }
+}
+
 /// Every setting of drawn cases, with zeros and with garbage past the counts.
 fn drawn_cases(tests: &mut Tests) {
     for (name, garbage) in [("zeros", false), ("garbage", true)] {
@@ -90,10 +113,11 @@ fn past_the_last(tests: &mut Tests) {
 
 /// All families of settling.
 pub fn run(tests: &mut Tests, folder: &Path) {
-    for part in ["marked", "vectors", "sources", "edges", "load"] {
-        files(tests, &format!("settle: stored files, {part}"), &stored(folder, part));
+    for (name, inputs) in folders(folder).into_iter().filter(|(_, inputs)| some_accepted(inputs)) {
+        files(tests, &format!("settle: stored files, {name}"), &inputs);
     }
     files(tests, "settle: generated files", &generated(SEEDS, |s| s % 2 == 0));
+    sums(tests, folder);
     drawn_cases(tests);
     past_the_last(tests);
 }

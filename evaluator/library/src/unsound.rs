@@ -98,6 +98,15 @@ fn far_counts(tests: &mut Tests) {
     }
 }
 
+/// The record of zeros that a refused reading gives, with tables of zeros and with drawn ones.
+fn zeros(tests: &mut Tests) {
+    tests.family("unsound: a record of zeros");
+    refused(tests, "tables of zeros", &Held::zeros(), 13);
+    for seed in 1..ROUNDS {
+        refused(tests, &format!("seed {seed}"), &strewn(&mut Random::new(seed), &Held::zeros()), 13);
+    }
+}
+
 /// Settles and asks `case`, held by `held`, as the evaluator does.
 fn accepted(tests: &mut Tests, what: &str, case: Case, held: &Held) {
     let mut settling = Settling::of(case.clone());
@@ -197,6 +206,7 @@ pub fn run(tests: &mut Tests) {
         breach(tests, row);
     }
     far_counts(tests);
+    zeros(tests);
     limits(tests);
     changed(tests);
 }

@@ -12,7 +12,7 @@ use evaluator::formula::{FALSE, TRUE};
 use std::path::Path;
 
 /// The tables of `held` as the safe calls have them.
-fn tables(held: &Held) -> Tables {
+pub fn tables(held: &Held) -> Tables {
     let mut tables = Tables::new();
     tables.clauses.copy_from_slice(&held.clauses);
     tables.constraints.copy_from_slice(&held.constraints);

@@ -4,6 +4,7 @@ use borrow.Author.Needs.{needs}
 use mathlib.Core.Path.{refl}
 use native.Mathlib.Omega.{arith}
 use Rattle.embed.specs.Operation.{QuestionOut}
+use Rattle.embed.proofs.Exports.{question-done}
 use Rattle.embed.proofs.causes_question.Statement.{statement}
 use Rattle.embed.proofs.causes_question.Tie as tie
 
@@ -32,11 +33,7 @@ same-length-3 : tie.Need-same-length-3
 same-length-3 c = search needs
 
 returns-3 : tie.Need-returns-3
-returns-3 c =
-    let p = c .before .before in
-    let a = p .before .before .before .before .before .before in
-    let told = rw (a .before .before .before .case-in .ensures) at (a .ask .ensures) in
-    QuestionOut.done (omega arith) (omega arith) _ told refl (p .put-asked .ensures)
+returns-3 c = search question-done
 
 pub causes-question-spec : {M : Type 1} → statement M
 causes-question-spec =

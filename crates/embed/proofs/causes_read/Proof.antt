@@ -32,10 +32,7 @@ same-length-5 : tie.Need-same-length-5
 same-length-5 c = search needs
 
 returns-2 : tie.Need-returns-2
-returns-2 c =
-    let p = c .before .before in
-    let r = p .before .before .before .before .before .before .before .before .before .before in
-    ReadOut.done (omega arith) _ (r .read .ensures) refl (p .put-found .ensures)
+returns-2 c = search ReadOut.done
 
 pub causes-read-spec : {M : Type 1} → statement M
 causes-read-spec =

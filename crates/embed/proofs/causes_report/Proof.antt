@@ -26,9 +26,7 @@ same-length-2 : tie.Need-same-length-2
 same-length-2 c = search needs
 
 returns-2 : tie.Need-returns-2
-returns-2 c =
-    let told = c .before .before .before .before .before .before .before .report .ensures in
-    ReportOut.done (omega arith) _ told refl (c .before .before .put-words .ensures)
+returns-2 c = search ReportOut.done
 
 pub causes-report-spec : {M : Type 1} → statement M
 causes-report-spec =

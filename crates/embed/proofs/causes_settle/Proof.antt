@@ -4,6 +4,7 @@ use borrow.Author.Needs.{needs}
 use mathlib.Core.Path.{refl}
 use native.Mathlib.Omega.{arith}
 use Rattle.embed.specs.Operation.{SettleOut}
+use Rattle.embed.proofs.Exports.{settle-done}
 use Rattle.embed.proofs.causes_settle.Statement.{statement}
 use Rattle.embed.proofs.causes_settle.Tie as tie
 
@@ -26,11 +27,7 @@ same-length : tie.Need-same-length
 same-length c = search needs
 
 returns-3 : tie.Need-returns-3
-returns-3 c =
-    let p = c .before .before in
-    let s = p .before .before in
-    let told = rw (s .before .case-in .ensures) at (s .settle-one .ensures) in
-    SettleOut.done (omega arith) (omega arith) _ told refl (p .put-settled .ensures)
+returns-3 c = search settle-done
 
 pub causes-settle-spec : {M : Type 1} → statement M
 causes-settle-spec =

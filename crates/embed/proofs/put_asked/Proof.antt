@@ -1,5 +1,6 @@
 -- `embed::put_asked` meets its contract: the first word is the verdict's number. Assumes nothing.
 use borrow.Author.Needs.{needs}
+use Rattle.embed.proofs.Exports.{verdict-put}
 use Rattle.embed.proofs.put_asked.Statement.{statement}
 use Rattle.embed.proofs.put_asked.Tie as tie
 
@@ -16,8 +17,7 @@ same-length : tie.Need-same-length
 same-length c = search needs
 
 returns : tie.Need-returns
-returns c =
-    rw (c .before .before .before .before .before .verdict-number .ensures) at (c .before .before .put-words .ensures)
+returns c = search verdict-put
 
 pub put-asked-spec : {M : Type 1} → statement M
 put-asked-spec =

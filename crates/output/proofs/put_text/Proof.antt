@@ -3,9 +3,8 @@ use borrow.Author.Needs.{needs}
 use Prim.Native.Nat.{_≤_, _-_}
 use native.Mathlib.Omega.{arith}
 use lib.ListN.{length, take}
-use lib.Seq.{length-take-le, take-all}
 use Rattle.output.specs.Writing.{Writes}
-use Rattle.output.proofs.Laying.{writes-none, writes-more, writes-length}
+use Rattle.output.proofs.Laying.{writes-none, writes-more, writes-all, writes-ends, writes-length}
 use Rattle.output.proofs.put_text.Statement.{statement}
 use Rattle.output.proofs.put_text.Tie as tie
 
@@ -22,10 +21,7 @@ shared-slice-read-put : tie.Need-shared-slice-read-put Inv-loop μ-loop
 shared-slice-read-put c = search needs
 
 put-requires : tie.Need-put-requires Inv-loop μ-loop
-put-requires c κs =
-    let p = c .before .before .before .loop in
-    let e = length-take-le (p .i) (c .before .before .before .before .before .before .args .text .now) (p .inv .0) in
-    omega (arith, e, p .inv .1 .place-is)
+put-requires c κs = omega (arith, writes-ends)
 
 add-i : tie.Need-add-i Inv-loop μ-loop
 add-i c = search needs
@@ -34,17 +30,13 @@ loop-less : tie.Need-loop-less Inv-loop μ-loop
 loop-less c = search needs
 
 loop-again : tie.Need-loop-again Inv-loop μ-loop
-loop-again c =
-    let p = c .before .before .before .before .before .before .loop in
-    (omega arith, writes-more _ (p .i) (omega arith) (p .inv .1) (c .before .before .put .ensures))
+loop-again c = (omega arith, search writes-more)
 
 same-length : tie.Need-same-length Inv-loop μ-loop
-same-length c = writes-length (c .before .loop .inv .1)
+same-length c = search writes-length
 
 returns : tie.Need-returns Inv-loop μ-loop
-returns c =
-    let p = c .before .loop in
-    rw (take-all (p .i) (c .before .before .before .before .args .text .now) (omega arith)) at (p .inv .1)
+returns c = search writes-all
 
 pub put-text-spec : {M : Type 1} → statement M
 put-text-spec =

@@ -2,9 +2,7 @@
 -- Assumes nothing.
 use borrow.Author.Needs.{needs}
 use native.Mathlib.Omega.{arith}
-use Rattle.names.specs.Row.{nameIn}
-use Rattle.output.proofs.Laying.{writes-append}
-use Rattle.wording.proofs.LineTexts.{cause-text, cause-length}
+use Rattle.wording.proofs.Lines.{cause-room, cause-written}
 use Rattle.wording.proofs.cause_line.Statement.{statement}
 use Rattle.wording.proofs.cause_line.Tie as tie
 
@@ -12,35 +10,22 @@ slice-aggregate-put-text : tie.Need-slice-aggregate-put-text
 slice-aggregate-put-text c = search needs
 
 put-text-requires : tie.Need-put-text-requires
-put-text-requires c κs =
-    let a = c .before .before .before .before .args in
-    omega (arith, cause-length (nameIn (a .names .now)) (a .causes) (a .setting))
+put-text-requires c κs = omega (arith, cause-room)
 
 put-abducibles-requires : tie.Need-put-abducibles-requires
-put-abducibles-requires c κs =
-    let a = c .before .before .before .before .before .before .before .before .args in
-    (search needs, omega (arith, cause-length (nameIn (a .names .now)) (a .causes) (a .setting)))
+put-abducibles-requires c κs = omega (arith, cause-room)
 
 slice-aggregate-put-text-2 : tie.Need-slice-aggregate-put-text-2
 slice-aggregate-put-text-2 c = search needs
 
 put-text-requires-2 : tie.Need-put-text-requires-2
-put-text-requires-2 c κs =
-    let s = c .before .before .before .before .before in
-    let a = s .before .before .before .before .before .before .before .before .args in
-    omega (arith, cause-length (nameIn (a .names .now)) (a .causes) (a .setting))
+put-text-requires-2 c κs = omega (arith, cause-room)
 
 same-length : tie.Need-same-length
 same-length c = search needs
 
 returns : tie.Need-returns
-returns c =
-    let end = c .before .before in
-    let added = end .before .before .before .before .before in
-    let opening = added .before .before .before .before in
-    rw cause-text
-    (writes-append (opening .put-text .ensures)
-    (writes-append (added .put-abducibles .ensures) (end .put-text2 .ensures)))
+returns c = search cause-written
 
 pub cause-line-spec : {M : Type 1} → statement M
 cause-line-spec =

@@ -3,6 +3,7 @@
 use borrow.Author.Needs.{needs}
 use Prim.Native.Nat.{_-_}
 use native.Mathlib.Omega.{arith}
+use lib.ListN.{length}
 use Rattle.names.specs.Row.{nameIn}
 use Rattle.output.proofs.Laying.{writes-length}
 use Rattle.wording.proofs.Listings.{AtSetting, setting-start, setting-room, setting-more, setting-end}
@@ -10,13 +11,13 @@ use Rattle.wording.proofs.cause_lines.Statement.{statement}
 use Rattle.wording.proofs.cause_lines.Tie as tie
 
 abbrev Inv-loop : tie.InvT-loop
-Inv-loop out₀ at names causes list n place₀ k₀ out place k = AtSetting (nameIn names) causes list n out₀ at k place out
+Inv-loop out₀ at names causes list place₀ k₀ out place k = AtSetting (nameIn names) causes list out₀ at k place out
 
 abbrev μ-loop : tie.MeasureT-loop
-μ-loop out₀ at names causes list n place₀ k₀ out place k = n - k
+μ-loop out₀ at names causes list place₀ k₀ out place k = length list - k
 
 loop-holds : tie.Need-loop-holds Inv-loop μ-loop
-loop-holds c = setting-start _ _ _ _ _ _
+loop-holds c = setting-start _ _ _ _ _
 
 mul-cause-line : tie.Need-mul-cause-line Inv-loop μ-loop
 mul-cause-line c = search needs
@@ -28,10 +29,7 @@ cast-cause-line : tie.Need-cast-cause-line Inv-loop μ-loop
 cast-cause-line c = omega (arith, c .shared-slice-known3 .given (c .before .before .before .loop .k))
 
 cause-line-requires : tie.Need-cause-line-requires Inv-loop μ-loop
-cause-line-requires c κs =
-    let t = c .before .before in
-    let p = t .before .before .before .before .before .pre in
-    (p .0, setting-room (t .before .loop .inv) (p .1) (t .loop-test .taken) (p .2))
+cause-line-requires c κs = search setting-room
 
 add-k : tie.Need-add-k Inv-loop μ-loop
 add-k c = search needs
@@ -40,20 +38,13 @@ loop-less : tie.Need-loop-less Inv-loop μ-loop
 loop-less c = search needs
 
 loop-again : tie.Need-loop-again Inv-loop μ-loop
-loop-again c =
-    let t = c .before .before .before .before .before in
-    let p = t .before .before .before .before .before .pre in
-    setting-more (t .before .loop .inv) (p .1) (t .loop-test .taken) (c .before .before .cause-line .ensures)
+loop-again c = search setting-more
 
 same-length : tie.Need-same-length Inv-loop μ-loop
-same-length c =
-    let p = c .before .before .before .before .before .pre in
-    writes-length (setting-end (c .before .loop .inv) (p .1) (c .loop-test .left))
+same-length c = search writes-length
 
 returns : tie.Need-returns Inv-loop μ-loop
-returns c =
-    let p = c .before .before .before .before .before .pre in
-    setting-end (c .before .loop .inv) (p .1) (c .loop-test .left)
+returns c = search setting-end
 
 pub cause-lines-spec : {M : Type 1} → statement M
 cause-lines-spec =

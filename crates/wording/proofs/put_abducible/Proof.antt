@@ -2,7 +2,7 @@
 use borrow.Author.Needs.{needs}
 use Rattle.output.proofs.Laying.{writes-none}
 use Rattle.output.proofs.FormTexts.{spaced-nil}
-use Rattle.wording.proofs.LineTexts.{fact-text, assumption-text}
+use Rattle.wording.proofs.Lines.{fact-room, fact-written, assumption-room, assumption-written}
 use Rattle.wording.proofs.put_abducible.Statement.{statement}
 use Rattle.wording.proofs.put_abducible.Tie as tie
 
@@ -13,35 +13,25 @@ slice-aggregate-put-form : tie.Need-slice-aggregate-put-form
 slice-aggregate-put-form c = search needs
 
 put-form-requires : tie.Need-put-form-requires
-put-form-requires c κs =
-    let f = c .before .before in
-    let p = f .before .before .before .before .pre in
-    (p .0, rw (f .if2 .taken, fact-text) at (p .1))
+put-form-requires c κs = search fact-room
 
 same-length : tie.Need-same-length
 same-length c = search needs
 
 returns-2 : tie.Need-returns-2
-returns-2 c =
-    let f = c .before .before .before .before .before in
-    rw (f .if2 .taken, fact-text) (c .before .before .put-form .ensures)
+returns-2 c = search fact-written
 
 slice-aggregate-put-form-2 : tie.Need-slice-aggregate-put-form-2
 slice-aggregate-put-form-2 c = search needs
 
 put-form-requires-2 : tie.Need-put-form-requires-2
-put-form-requires-2 c κs =
-    let f = c .before .before in
-    let p = f .before .before .before .before .pre in
-    (p .0, rw (assumption-text _ _ (f .before .if1 .left) (f .if2 .left)) at (p .1))
+put-form-requires-2 c κs = search assumption-room
 
 same-length-2 : tie.Need-same-length-2
 same-length-2 c = search needs
 
 returns-3 : tie.Need-returns-3
-returns-3 c =
-    let f = c .before .before .before .before .before in
-    rw (assumption-text _ _ (f .before .if1 .left) (f .if2 .left)) (c .before .before .put-form2 .ensures)
+returns-3 c = search assumption-written
 
 pub put-abducible-spec : {M : Type 1} → statement M
 put-abducible-spec =

@@ -2,8 +2,7 @@
 -- Assumes nothing.
 use borrow.Author.Needs.{needs}
 use native.Mathlib.Omega.{arith}
-use Rattle.output.proofs.Laying.{writes-append}
-use Rattle.wording.proofs.LineTexts.{rounds-text, rounds-length}
+use Rattle.wording.proofs.Lines.{rounds-room, rounds-written}
 use Rattle.wording.proofs.rounds_line.Statement.{statement}
 use Rattle.wording.proofs.rounds_line.Tie as tie
 
@@ -11,32 +10,22 @@ slice-aggregate-put-text : tie.Need-slice-aggregate-put-text
 slice-aggregate-put-text c = search needs
 
 put-text-requires : tie.Need-put-text-requires
-put-text-requires c κs = omega (arith, rounds-length (c .before .before .before .args .n))
+put-text-requires c κs = omega (arith, rounds-room)
 
 put-decimal-requires : tie.Need-put-decimal-requires
-put-decimal-requires c κs =
-    let a = c .before .before .before .before .before .before .before .args in
-    omega (arith, rounds-length (a .n))
+put-decimal-requires c κs = omega (arith, rounds-room)
 
 slice-aggregate-put-text-2 : tie.Need-slice-aggregate-put-text-2
 slice-aggregate-put-text-2 c = search needs
 
 put-text-requires-2 : tie.Need-put-text-requires-2
-put-text-requires-2 c κs =
-    let a = c .before .before .before .before .before .before .before .before .before .before .before .before .args in
-    omega (arith, rounds-length (a .n))
+put-text-requires-2 c κs = omega (arith, rounds-room)
 
 same-length : tie.Need-same-length
 same-length c = search needs
 
 returns : tie.Need-returns
-returns c =
-    let end = c .before .before in
-    let number = end .before .before .before .before .before in
-    let opening = number .before .before .before .before in
-    rw rounds-text
-    (writes-append (opening .put-text .ensures)
-    (writes-append (number .put-decimal .ensures) (end .put-text2 .ensures)))
+returns c = search rounds-written
 
 pub rounds-line-spec : {M : Type 1} → statement M
 rounds-line-spec =

@@ -1,7 +1,7 @@
 -- `wording::verdict_line` meets its contract, verdict by verdict. Assumes nothing.
 use borrow.Author.Needs.{needs}
-use native.Mathlib.Omega.{arith}
-use Rattle.wording.proofs.LineTexts.{verdict-text}
+use Rattle.verdict.specs.declared.verdict.Verdict.the-variants.{Unexplained, Follows, Denied, Open}
+use Rattle.wording.proofs.Lines.{verdict-room, verdict-written}
 use Rattle.wording.proofs.verdict_line.Statement.{statement}
 use Rattle.wording.proofs.verdict_line.Tie as tie
 
@@ -12,9 +12,7 @@ slice-aggregate-put-text : tie.Need-slice-aggregate-put-text
 slice-aggregate-put-text c = search needs
 
 put-text-requires : tie.Need-put-text-requires
-put-text-requires c κs =
-    let v = c .before .before in
-    omega (arith, rw (v .enum-told .given .1, verdict-text) at (v .before .before .before .pre))
+put-text-requires c κs = search (verdict-room Unexplained)
 
 enum-told-2 : tie.Need-enum-told-2
 enum-told-2 c = search needs
@@ -23,9 +21,7 @@ slice-aggregate-put-text-2 : tie.Need-slice-aggregate-put-text-2
 slice-aggregate-put-text-2 c = search needs
 
 put-text-requires-2 : tie.Need-put-text-requires-2
-put-text-requires-2 c κs =
-    let v = c .before .before in
-    omega (arith, rw (v .enum-told2 .given .1, verdict-text) at (v .before .before .before .pre))
+put-text-requires-2 c κs = search (verdict-room Follows)
 
 enum-told-3 : tie.Need-enum-told-3
 enum-told-3 c = search needs
@@ -34,9 +30,7 @@ slice-aggregate-put-text-3 : tie.Need-slice-aggregate-put-text-3
 slice-aggregate-put-text-3 c = search needs
 
 put-text-requires-3 : tie.Need-put-text-requires-3
-put-text-requires-3 c κs =
-    let v = c .before .before in
-    omega (arith, rw (v .enum-told3 .given .1, verdict-text) at (v .before .before .before .pre))
+put-text-requires-3 c κs = search (verdict-room Denied)
 
 enum-told-4 : tie.Need-enum-told-4
 enum-told-4 c = search needs
@@ -45,41 +39,31 @@ slice-aggregate-put-text-4 : tie.Need-slice-aggregate-put-text-4
 slice-aggregate-put-text-4 c = search needs
 
 put-text-requires-4 : tie.Need-put-text-requires-4
-put-text-requires-4 c κs =
-    let v = c .before .before in
-    omega (arith, rw (v .enum-told4 .given .1, verdict-text) at (v .before .before .before .pre))
+put-text-requires-4 c κs = search (verdict-room Open)
 
 same-length : tie.Need-same-length
 same-length c = search needs
 
 returns : tie.Need-returns
-returns c =
-    let t = c .before .before in
-    rw (t .before .before .before .enum-told .given .1, verdict-text) (t .put-text .ensures)
+returns c = search (verdict-written Unexplained)
 
 same-length-2 : tie.Need-same-length-2
 same-length-2 c = search needs
 
 returns-2 : tie.Need-returns-2
-returns-2 c =
-    let t = c .before .before in
-    rw (t .before .before .before .enum-told2 .given .1, verdict-text) (t .put-text2 .ensures)
+returns-2 c = search (verdict-written Follows)
 
 same-length-3 : tie.Need-same-length-3
 same-length-3 c = search needs
 
 returns-3 : tie.Need-returns-3
-returns-3 c =
-    let t = c .before .before in
-    rw (t .before .before .before .enum-told3 .given .1, verdict-text) (t .put-text3 .ensures)
+returns-3 c = search (verdict-written Denied)
 
 same-length-4 : tie.Need-same-length-4
 same-length-4 c = search needs
 
 returns-4 : tie.Need-returns-4
-returns-4 c =
-    let t = c .before .before in
-    rw (t .before .before .before .enum-told4 .given .1, verdict-text) (t .put-text4 .ensures)
+returns-4 c = search (verdict-written Open)
 
 pub verdict-line-spec : {M : Type 1} → statement M
 verdict-line-spec =

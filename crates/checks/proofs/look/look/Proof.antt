@@ -8,23 +8,11 @@ use Rattle.checks.proofs.look.look.Tie as tie
 returns : tie.Need-returns
 returns c = search (needs, looked-long)
 
-is-comment-requires : tie.Need-is-comment-requires
-is-comment-requires c κs = search needs
-
 returns-2 : tie.Need-returns-2
 returns-2 c = search (needs, looked-comment)
 
-all-allowed-requires : tie.Need-all-allowed-requires
-all-allowed-requires c κs = search needs
-
 returns-3 : tie.Need-returns-3
 returns-3 c = search (needs, looked-bytes, failed)
-
-form-of-requires : tie.Need-form-of-requires
-form-of-requires c κs = search needs
-
-enum-told : tie.Need-enum-told
-enum-told c = search needs
 
 returns-4 : tie.Need-returns-4
 returns-4 c = search (needs, looked-form, passed)
@@ -37,11 +25,11 @@ look-spec =
     tie.close
     (tie.spec
     returns
-    is-comment-requires
+    (λ c κs. search needs)
     returns-2
-    all-allowed-requires
+    (λ c κs. search needs)
     returns-3
-    form-of-requires
-    enum-told
+    (λ c κs. search needs)
+    (λ c. search needs)
     returns-4
     returns-5)

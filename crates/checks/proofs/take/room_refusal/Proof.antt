@@ -8,20 +8,11 @@ use Rattle.checks.proofs.take.room_refusal.Tie as tie
 returns : tie.Need-returns
 returns c = search (needs, names-refused)
 
-sub-if2 : tie.Need-sub-if2
-sub-if2 c = search needs
-
 returns-2 : tie.Need-returns-2
 returns-2 c = search (needs, clauses-refused)
 
-sub-if3 : tie.Need-sub-if3
-sub-if3 c = search needs
-
 returns-3 : tie.Need-returns-3
 returns-3 c = search (needs, constraints-refused)
-
-queries-requires : tie.Need-queries-requires
-queries-requires c κs = search needs
 
 sub-if4 : tie.Need-sub-if4
 sub-if4 c = search (needs, queries-few)
@@ -37,11 +28,11 @@ room-refusal-spec =
     tie.close
     (tie.spec
     returns
-    sub-if2
+    (λ c. search needs)
     returns-2
-    sub-if3
+    (λ c. search needs)
     returns-3
-    queries-requires
+    (λ c κs. search needs)
     sub-if4
     returns-4
     returns-5)

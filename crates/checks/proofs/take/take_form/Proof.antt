@@ -21,25 +21,10 @@ stored c = c .before .before .before .before .before .before
 abbrev allowed : tie.After-store-form-arg4 → tie.Else2
 allowed c = c .before .before .before .before
 
-brings-requires : tie.Need-brings-requires
-brings-requires c κs = search needs
-
-text-refusal-requires : tie.Need-text-refusal-requires
-text-refusal-requires c κs = search needs
-
 returns : tie.Need-returns
 returns c =
     let t = c .before in
     text-refused (entry t .pre .2) (t .before .brings .ensures) (t .text-refusal .ensures) (c .if1 .taken)
-
-intern-line-requires : tie.Need-intern-line-requires
-intern-line-requires c κs = search needs
-
-room-refusal-requires : tie.Need-room-refusal-requires
-room-refusal-requires c κs = search needs
-
-same-length : tie.Need-same-length
-same-length c = search needs
 
 returns-2 : tie.Need-returns-2
 returns-2 c =
@@ -64,18 +49,6 @@ store-form-requires c κs =
           long (n .intern-line .ensures) (d .before .room-refusal .ensures) (d .if2 .left),
     )
 
-same-length-2 : tie.Need-same-length-2
-same-length-2 c = search needs
-
-same-length-3 : tie.Need-same-length-3
-same-length-3 c = search needs
-
-same-length-4 : tie.Need-same-length-4
-same-length-4 c = search needs
-
-same-length-5 : tie.Need-same-length-5
-same-length-5 c = search needs
-
 returns-3 : tie.Need-returns-3
 returns-3 c =
     let s = stored c in
@@ -83,22 +56,23 @@ returns-3 c =
     let n = named (d .before) in
     let t = passed n .before in
     form-taken (entry t .pre .2) (t .before .brings .ensures) (t .text-refusal .ensures) (passed n .if1 .left) _
-    (entry t .pre .0) (n .intern-line .ensures) (d .before .room-refusal .ensures) (d .if2 .left) (s .store-form .ensures)
+    (entry t .pre .0) (n .intern-line .ensures) (d .before .room-refusal .ensures) (d .if2 .left)
+    (s .store-form .ensures)
 
 pub take-form-spec : {M : Type 1} → statement M
 take-form-spec =
     tie.close
     (tie.spec
-    brings-requires
-    text-refusal-requires
+    (λ c κs. search needs)
+    (λ c κs. search needs)
     returns
-    intern-line-requires
-    room-refusal-requires
-    same-length
+    (λ c κs. search needs)
+    (λ c κs. search needs)
+    (λ c. search needs)
     returns-2
     store-form-requires
-    same-length-2
-    same-length-3
-    same-length-4
-    same-length-5
+    (λ c. search needs)
+    (λ c. search needs)
+    (λ c. search needs)
+    (λ c. search needs)
     returns-3)

@@ -1,6 +1,6 @@
 -- `line::brings` meets its contract: each return is what the law says of a line of this form. Assumes nothing.
 use borrow.Author.Needs.{needs}
-use Rattle.grammar.proofs.Lines.{brought-as}
+use Rattle.grammar.proofs.LineLaws.{brought-as, brought-nothing}
 use Rattle.grammar.proofs.line.brings.Statement.{statement}
 use Rattle.grammar.proofs.line.brings.Tie as tie
 
@@ -9,15 +9,6 @@ enum-told c = search needs
 
 enum-told-2 : tie.Need-enum-told-2
 enum-told-2 c = search needs
-
-enum-told-3 : tie.Need-enum-told-3
-enum-told-3 c = search needs
-
-enum-told-4 : tie.Need-enum-told-4
-enum-told-4 c = search needs
-
-enum-told-5 : tie.Need-enum-told-5
-enum-told-5 c = search needs
 
 enum-known-x : tie.Need-enum-known-x
 enum-known-x c = search needs
@@ -29,30 +20,11 @@ returns-2 : tie.Need-returns-2
 returns-2 c = brought-as _ (c .enum-told2 .given .1)
 
 returns-3 : tie.Need-returns-3
-returns-3 c = brought-as _ (c .enum-told3 .given .1)
+returns-3 c = brought-as _ (c .before .x .given .1)
 
 returns-4 : tie.Need-returns-4
-returns-4 c = brought-as _ (c .enum-told4 .given .1)
-
-returns-5 : tie.Need-returns-5
-returns-5 c = brought-as _ (c .enum-told5 .given .1)
-
-returns-6 : tie.Need-returns-6
-returns-6 c = brought-as _ (c .before .x .given .1)
+returns-4 c = brought-nothing (c .before .args .x) (c .match .keys4)
 
 pub brings-spec : {M : Type 1} → statement M
 brings-spec =
-    tie.close
-    (tie.spec
-    enum-told
-    enum-told-2
-    enum-told-3
-    enum-told-4
-    enum-told-5
-    enum-known-x
-    returns
-    returns-2
-    returns-3
-    returns-4
-    returns-5
-    returns-6)
+    tie.close (tie.spec enum-told enum-told-2 enum-known-x returns returns-2 returns-3 returns-4)

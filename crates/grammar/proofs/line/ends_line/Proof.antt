@@ -1,6 +1,6 @@
 -- `line::ends_line` meets its contract: each return is one law of the tokens that are left. Assumes nothing.
 use borrow.Author.Needs.{needs}
-use Rattle.grammar.proofs.Lines.{ends-unclosed, ends-more, ends-last}
+use Rattle.grammar.proofs.Forms.{ends-unclosed, ends-more, ends-last}
 use Rattle.grammar.proofs.line.ends_line.Statement.{statement}
 use Rattle.grammar.proofs.line.ends_line.Tie as tie
 

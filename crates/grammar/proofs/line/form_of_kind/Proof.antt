@@ -1,7 +1,7 @@
 -- `line::form_of_kind` meets its contract: each return is one law of the lines of a kind. Assumes nothing.
 use borrow.Author.Needs.{needs}
-use Rattle.grammar.proofs.FoundWords.{failed, passed}
-use Rattle.grammar.proofs.Lines.{form-as, form-unfit, form-never, form-seen, form-other}
+use Rattle.words.proofs.Tests.{failed, passed}
+use Rattle.grammar.proofs.Forms.{form-as, form-unfit, form-never, form-seen, form-other}
 use Rattle.grammar.proofs.line.form_of_kind.Statement.{statement}
 use Rattle.grammar.proofs.line.form_of_kind.Tie as tie
 

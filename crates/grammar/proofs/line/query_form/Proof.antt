@@ -1,7 +1,7 @@
 -- `line::query_form` meets its contract: each return is one law of the formula behind the line's word. Assumes nothing.
 use borrow.Author.Needs.{needs}
-use Rattle.grammar.proofs.FoundWords.{failed, passed}
-use Rattle.grammar.proofs.Lines.{query-none, query-unended, query-found}
+use Rattle.words.proofs.Tests.{failed, passed}
+use Rattle.grammar.proofs.Forms.{query-none, query-unended, query-found}
 use Rattle.grammar.proofs.line.query_form.Statement.{statement}
 use Rattle.grammar.proofs.line.query_form.Tie as tie
 

@@ -9,7 +9,7 @@ use borrow.Author.Needs.{needs}
 use Rattle.prepared.specs.Dependents.{touchedFrom}
 use Rattle.prepared.proofs.Filling.{dependents-words}
 use Rattle.prepared.proofs.Touching.{touched-from}
-use Rattle.lanes.specs.Planes.{Sizes}
+use Rattle.planes.specs.Planes.{Sizes}
 use Rattle.lanes.specs.Rounds.{addsAt}
 use Rattle.lanes.proofs.FirstRound.{settling-start}
 use Rattle.lanes.proofs.LaneRounds.{Settling, settling-planes, settling-few, settling-small, settling-total}

@@ -3,6 +3,7 @@
 use mathlib.Core.Path.{_≡_, refl, sym}
 use mathlib.Core.Bool.{true}
 use Prim.Native.Nat.{_+_, _^_, _≤_, _-_}
+use native.Mathlib.Omega.{arith}
 use borrow.Author.Needs.{needs}
 use Rattle.words.specs.Below.{every}
 use Rattle.words.proofs.Below.{every-more, every-end, every-false}
@@ -19,6 +20,13 @@ Inv-loop atoms constraints n top k₀ k =
 
 abbrev μ-loop : tie.MeasureT-loop
 μ-loop atoms constraints n top k₀ k = n - k
+
+-- the places before: the loop, and the entry
+abbrev looped : tie.After-constraint-sound Inv-loop μ-loop → tie.At-loop Inv-loop μ-loop
+looped c = c .before .before .before .before
+
+abbrev entry : tie.At-loop Inv-loop μ-loop → tie.Start Inv-loop μ-loop
+entry c = c .before .before .before
 
 cast-lowest : tie.Need-cast-lowest Inv-loop μ-loop
 cast-lowest c = search needs
@@ -54,11 +62,10 @@ constraint-sound-requires c κs = search needs
 returns : tie.Need-returns Inv-loop μ-loop
 unfolding soundConstraints
 returns c =
-    let i = c .before .before .before .before in
-    let l = i .before in
-    let a = l .before .before .before .args in
+    let l = looped (c .before) in
+    let a = entry l .args in
     let t = constraintTest (a .atoms) (a .constraints .now) in
-    sym (every-false (a .n) t (l .loop .k) (i .loop-test .taken)
+    sym (every-false (a .n) t (l .loop .k) (omega arith)
     (failed {t = t (l .loop .k)} (c .before .constraint-sound .ensures) (c .if1 .taken)))
 
 add-k : tie.Need-add-k Inv-loop μ-loop
@@ -69,9 +76,8 @@ loop-less c = search needs
 
 loop-again : tie.Need-loop-again Inv-loop μ-loop
 loop-again c =
-    let i = c .before .before .before .before in
-    let l = i .before in
-    let a = l .before .before .before .args in
+    let l = looped (c .before) in
+    let a = entry l .args in
     let t = constraintTest (a .atoms) (a .constraints .now) in (
       search needs,
       l .loop .inv .1,
@@ -83,7 +89,7 @@ returns-2 : tie.Need-returns-2 Inv-loop μ-loop
 unfolding soundConstraints
 returns-2 c =
     let l = c .before in
-    let a = l .before .before .before .args in
+    let a = entry l .args in
     let t = constraintTest (a .atoms) (a .constraints .now) in
     every-end (a .n) (l .loop .k) t (l .loop .inv .0) (c .loop-test .left) (l .loop .inv .2)
 

@@ -1,10 +1,12 @@
 -- `program::sound::is_sound` meets its contract: a phrase that fails makes the case unsound, and where the others hold
 -- the formula decides. Assumes nothing.
-use mathlib.Core.Path.{_∙_}
+use mathlib.Core.Path.{_≡_, _∙_}
+use mathlib.Core.Bool.{true}
 use native.Mathlib.Omega.{arith}
 use lib.ListN.{length-take}
 use borrow.Author.Needs.{needs}
 use Rattle.words.proofs.Tests.{gives-false, failed, passed}
+use Rattle.program.specs.Sound.{limitsHold}
 use Rattle.program.proofs.Soundness.{limits-atoms, clauses-held, constraints-held, nodes-held, sound-limits}
 use Rattle.program.proofs.Soundness.{sound-clause-table, sound-constraint-table, sound-within, sound-causes}
 use Rattle.program.proofs.Soundness.{sound-rest}
@@ -21,6 +23,10 @@ limited c = c .before .before .before .before
 abbrev tabled : tie.Else4 → tie.Else3
 tabled c = c .before .before .before .before
 
+-- where the limits hold
+limits-are : (c : tie.Else1) → limitsHold (entry c .args .c) ≡ true
+limits-are c = passed (c .before .limits-hold .ensures) (c .if1 .left)
+
 returns-6 : tie.Need-returns-6
 returns-6 c =
     let o = c .before .before in
@@ -30,7 +36,7 @@ returns-6 c =
     let s = limited k in
     c .one-formula .ensures
     ∙ sound-rest _ _ _ _ (entry s .pre)
-    (passed (s .before .limits-hold .ensures) (s .if1 .left))
+    (limits-are s)
     (passed (l .before .clauses-sound .ensures) (l .if2 .left))
     (passed (k .before .constraints-sound .ensures) (k .if3 .left))
     (passed (w .before .is-within .ensures) (w .if4 .left))
@@ -44,8 +50,7 @@ returns c = gives-false _ _ (sound-limits _ _ _ _) (failed (c .before .limits-ho
 
 clauses-sound-requires : tie.Need-clauses-sound-requires
 clauses-sound-requires c κs =
-    clauses-held _ _ _ _ (entry c .pre)
-    (passed (c .before .limits-hold .ensures) (c .if1 .left))
+    clauses-held _ _ _ _ (entry c .pre) (limits-are c)
 
 returns-2 : tie.Need-returns-2
 returns-2 c = gives-false _ _ (sound-clause-table _ _ _ _) (failed (c .before .clauses-sound .ensures) (c .if2 .taken))
@@ -53,8 +58,7 @@ returns-2 c = gives-false _ _ (sound-clause-table _ _ _ _) (failed (c .before .c
 constraints-sound-requires : tie.Need-constraints-sound-requires
 constraints-sound-requires c κs =
     let s = c .before .before in
-    constraints-held _ _ _ _ (entry s .pre)
-    (passed (s .before .limits-hold .ensures) (s .if1 .left))
+    constraints-held _ _ _ _ (entry s .pre) (limits-are s)
 
 returns-3 : tie.Need-returns-3
 returns-3 c =
@@ -62,14 +66,12 @@ returns-3 c =
 
 cast-lowest : tie.Need-cast-lowest
 cast-lowest c =
-    let s = c .before .before .before .before .before in
-    let h = limits-atoms _ (passed (s .before .limits-hold .ensures) (s .if1 .left)) in
+    let h = limits-atoms _ (limits-are (limited (c .before))) in
     omega arith
 
 lowest-requires : tie.Need-lowest-requires
 lowest-requires c κs =
-    let s = c .before .before .before .before .before in
-    limits-atoms _ (passed (s .before .limits-hold .ensures) (s .if1 .left))
+    limits-atoms _ (limits-are (limited (c .before)))
 
 is-within-requires : tie.Need-is-within-requires
 is-within-requires c κs = search needs
@@ -80,8 +82,7 @@ returns-4 c = gives-false _ _ (sound-within _ _ _ _) (failed (c .before .is-with
 causes-few-requires : tie.Need-causes-few-requires
 causes-few-requires c κs =
     let s = limited (tabled c) in
-    clauses-held _ _ _ _ (entry s .pre)
-    (passed (s .before .limits-hold .ensures) (s .if1 .left))
+    clauses-held _ _ _ _ (entry s .pre) (limits-are s)
 
 returns-5 : tie.Need-returns-5
 returns-5 c = gives-false _ _ (sound-causes _ _ _ _) (failed (c .before .causes-few .ensures) (c .if5 .taken))
@@ -89,8 +90,7 @@ returns-5 c = gives-false _ _ (sound-causes _ _ _ _) (failed (c .before .causes-
 slice-aggregate-one-formula : tie.Need-slice-aggregate-one-formula
 slice-aggregate-one-formula c =
     let s = limited (tabled (c .before .before .before)) in
-    let h = nodes-held _ _ _ _ (entry s .pre)
-    (passed (s .before .limits-hold .ensures) (s .if1 .left)) in
+    let h = nodes-held _ _ _ _ (entry s .pre) (limits-are s) in
     simp length-take (omega arith)
 
 one-formula-requires : tie.Need-one-formula-requires

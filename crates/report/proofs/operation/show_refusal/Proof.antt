@@ -1,7 +1,7 @@
 -- `show_refusal` meets its contract: the text's length is known from writing it to a spare output, and the test on it
 -- decides. Assumes nothing.
 use borrow.Author.Needs.{needs}
-use Rattle.report.proofs.Showing.{shown-short, shown-written}
+use Rattle.report.proofs.Showing.{report-short, report-written}
 use Rattle.report.proofs.operation.show_refusal.Statement.{statement}
 use Rattle.report.proofs.operation.show_refusal.Tie as tie
 
@@ -12,7 +12,7 @@ refusal-text-requires : tie.Need-refusal-text-requires
 refusal-text-requires c κs = tt
 
 returns : tie.Need-returns
-returns c = let q = c .before .before in shown-short _ _ (q .refusal-text .ensures) (c .if1 .taken)
+returns c = search report-short
 
 refusal-text-requires-2 : tie.Need-refusal-text-requires-2
 refusal-text-requires-2 c κs = tt
@@ -21,11 +21,7 @@ same-length : tie.Need-same-length
 same-length c = search needs
 
 returns-2 : tie.Need-returns-2
-returns-2 c =
-    let b = c .before .before in
-    let e = b .before .before in
-    let q = e .before .before in
-    shown-written _ _ (q .refusal-text .ensures) (e .if1 .left) (b .refusal-text2 .ensures)
+returns-2 c = search report-written
 
 pub show-refusal-spec : {M : Type 1} → statement M
 show-refusal-spec =

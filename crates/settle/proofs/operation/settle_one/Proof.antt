@@ -13,6 +13,7 @@ use Rattle.program.specs.Program.{programWith}
 use Rattle.program.specs.Cause.{causesAmong, causesOf}
 use Rattle.program.specs.Setting.{settingsOf, additionsOf}
 use Rattle.program.specs.Sound.{sound}
+use Rattle.program.proofs.Causes.{causes-of}
 use Rattle.program.proofs.Soundness.{full-clauses, sound-atoms, sound-clauses, sound-few}
 use Rattle.settle.specs.Rounds.{settled}
 use Rattle.settle.proofs.Answers.{refusal-short, refusal-unsound, refusal-past, refusal-none}
@@ -50,10 +51,9 @@ clauses-fit c =
 
 causes-are : (c : tie.After-causes) → let a = entry (filled (c .before .before)) .args in
     c .causes .result ≡ causesOf (a .c) (a .clauses .now)
-unfolding causesOf
 causes-are c =
     let a = entry (filled (c .before .before)) .args in
-    c .causes .ensures ∙ ap (causesAmong (a .c .atoms)) (c .before .heads .ensures)
+    c .causes .ensures ∙ ap (causesAmong (a .c .atoms)) (c .before .heads .ensures) ∙ sym (causes-of _ _)
 
 tables-full-requires : tie.Need-tables-full-requires
 tables-full-requires c κs = search needs

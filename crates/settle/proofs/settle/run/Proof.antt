@@ -18,11 +18,18 @@ Inv-loop clauses n heads added interpretation₀ rounds₀ interpretation rounds
 abbrev μ-loop : tie.MeasureT-loop
 μ-loop clauses n heads added interpretation₀ rounds₀ interpretation rounds = 64 - decidedIn interpretation
 
+-- the places before: the round, and the loop
+abbrev applied : tie.After-decided2 Inv-loop μ-loop → tie.After-apply Inv-loop μ-loop
+applied c = c .before .before
+
+abbrev looped : tie.After-decided2 Inv-loop μ-loop → tie.At-loop Inv-loop μ-loop
+looped c = applied c .before
+
 returns : tie.Need-returns Inv-loop μ-loop
 returns c =
-    ends _ (program-steady _ _ _) (c .before .before .before .before .loop .inv) _
-    (c .before .before .before .apply .ensures)
-    (sym (c .before .before .decided .ensures) ∙ c .if1 .taken ∙ c .before .decided2 .ensures)
+    let d = c .before in
+    ends _ (program-steady _ _ _) (looped d .loop .inv) _ (applied d .apply .ensures)
+    (sym (d .before .decided .ensures) ∙ c .if1 .taken ∙ d .decided2 .ensures)
 
 nothing-requires : tie.Need-nothing-requires Inv-loop μ-loop
 nothing-requires c κs = search needs
@@ -41,23 +48,24 @@ decided-requires-2 c κs = search needs
 
 add-rounds : tie.Need-add-rounds Inv-loop μ-loop
 add-rounds c =
-    let l = c .before .before .before .before in
+    let l = looped (c .before) in
     omega (arith, l .loop .inv .few, good-decided (l .loop .interpretation) (reached-good _ (l .loop .inv)))
 
 changed : (c : tie.Else1 Inv-loop μ-loop)
-    → decidedIn (c .before .before .before .apply .result)
-    ≡ decidedIn (c .before .before .before .before .loop .interpretation) → ⊥
-changed c e = c .if1 .left (c .before .before .decided .ensures ∙ e ∙ sym (c .before .decided2 .ensures))
+    → decidedIn (applied (c .before) .apply .result) ≡ decidedIn (looped (c .before) .loop .interpretation) → ⊥
+changed c e =
+    let d = c .before in
+    c .if1 .left (d .before .decided .ensures ∙ e ∙ sym (d .decided2 .ensures))
 
 loop-less : tie.Need-loop-less Inv-loop μ-loop
 loop-less c =
-    falls _ (program-steady _ _ _) (c .before .before .before .before .loop .inv) _
-    (c .before .before .before .apply .ensures) (changed c)
+    let d = c .before in
+    falls _ (program-steady _ _ _) (looped d .loop .inv) _ (applied d .apply .ensures) (changed c)
 
 loop-again : tie.Need-loop-again Inv-loop μ-loop
 loop-again c =
-    again _ (program-steady _ _ _) (c .before .before .before .before .loop .inv) _
-    (c .before .before .before .apply .ensures) (changed c)
+    let d = c .before in
+    again _ (program-steady _ _ _) (looped d .loop .inv) _ (applied d .apply .ensures) (changed c)
 
 pub run-spec : {M : Type 1} → statement M
 run-spec =

@@ -18,20 +18,11 @@ abbrev μ-loop : tie.MeasureT-loop
 loop-holds : tie.Need-loop-holds Inv-loop μ-loop
 loop-holds c = search (needs, passed-none)
 
-literal-requires : tie.Need-literal-requires Inv-loop μ-loop
-literal-requires c κs = search needs
-
-enum-known-negated : tie.Need-enum-known-negated Inv-loop μ-loop
-enum-known-negated c = search needs
-
 returns : tie.Need-returns Inv-loop μ-loop
 returns c = search (needs, passed-all)
 
 find-requires : tie.Need-find-requires Inv-loop μ-loop
 find-requires c κs = search (needs, literal-onward, literal-within)
-
-with-literal-requires : tie.Need-with-literal-requires Inv-loop μ-loop
-with-literal-requires c κs = search needs
 
 loop-less : tie.Need-loop-less Inv-loop μ-loop
 loop-less c = search (needs, literal-less)
@@ -46,10 +37,10 @@ masks-of-spec =
     Inv-loop
     μ-loop
     loop-holds
-    literal-requires
-    enum-known-negated
+    (λ c κs. search needs)
+    (λ c. search needs)
     returns
     find-requires
-    with-literal-requires
+    (λ c κs. search needs)
     loop-less
     loop-again)

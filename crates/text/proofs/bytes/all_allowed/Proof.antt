@@ -1,5 +1,5 @@
--- `text::bytes::all_allowed` meets its contract. The invariant is `AllFrom`: every byte is allowed if those from i on are.
--- Assumes nothing.
+-- `text::bytes::all_allowed` meets its contract. The invariant is `AllFrom`: every byte is allowed if those from i on
+-- are. Assumes nothing.
 use borrow.Author.Needs.{needs}
 use Prim.Native.Nat.{_-_}
 use lib.ListN.{length}

@@ -1,5 +1,5 @@
--- `text::bytes::is_same` meets its contract. The invariant is `SameFrom`: the part is w if what is left of it is what is
--- left of w. Assumes nothing.
+-- `text::bytes::is_same` meets its contract. The invariant is `SameFrom`: the part is w if what is left of it is what
+-- is left of w. Assumes nothing.
 use borrow.Author.Needs.{needs}
 use mathlib.Core.Path.{sym}
 use Prim.Native.Nat.{_-_}

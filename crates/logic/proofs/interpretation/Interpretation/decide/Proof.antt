@@ -23,32 +23,35 @@ enum-told-3 c = search needs
 
 returns : tie.Need-returns
 returns c =
-    let b = c .before .before .before .before .before in
+    let s = c .before .before .before .before in
+    let b = s .before in
     let i = b .args .self in
     let a = b .args .atom in
     let l = b .pre .0 in
     let g : Good i = record { trues-fit = omega arith; falses-fit = omega arith; disjoint = b .pre .1 } in
-    rw (c .before .before .enum-told .given .1, c .before .before .before .before .single .ensures)
+    rw (c .before .before .enum-told .given .1, s .single .ensures)
     (interpretation-eq (trues-more i a g l True refl) (falses-less i a g l True refl))
 
 returns-2 : tie.Need-returns-2
 returns-2 c =
-    let b = c .before .before .before .before .before in
+    let s = c .before .before .before .before in
+    let b = s .before in
     let i = b .args .self in
     let a = b .args .atom in
     let l = b .pre .0 in
     let g : Good i = record { trues-fit = omega arith; falses-fit = omega arith; disjoint = b .pre .1 } in
-    rw (c .before .before .enum-told2 .given .1, c .before .before .before .before .single .ensures)
+    rw (c .before .before .enum-told2 .given .1, s .single .ensures)
     (interpretation-eq (trues-less i a g l False refl) (falses-more i a g l False refl))
 
 returns-3 : tie.Need-returns-3
 returns-3 c =
-    let b = c .before .before .before .before .before in
+    let s = c .before .before .before .before in
+    let b = s .before in
     let i = b .args .self in
     let a = b .args .atom in
     let l = b .pre .0 in
     let g : Good i = record { trues-fit = omega arith; falses-fit = omega arith; disjoint = b .pre .1 } in
-    rw (c .before .before .enum-told3 .given .1, c .before .before .before .before .single .ensures)
+    rw (c .before .before .enum-told3 .given .1, s .single .ensures)
     (interpretation-eq (trues-less i a g l Unknown refl) (falses-less i a g l Unknown refl))
 
 pub decide-spec : {M : Type 1} → statement M

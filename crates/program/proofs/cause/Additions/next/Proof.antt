@@ -17,6 +17,13 @@ Inv-loop causes x₀ left₀ x left = (s : ℕ) → x₀ ≡ additionsOf causes 
 abbrev μ-loop : tie.MeasureT-loop
 μ-loop causes x₀ left₀ x left = left
 
+-- the places before: the first test, and the loop
+abbrev tested : tie.After-test2 Inv-loop μ-loop → tie.After-test Inv-loop μ-loop
+tested c = c .before .before
+
+abbrev looped : tie.After-test Inv-loop μ-loop → tie.At-loop Inv-loop μ-loop
+looped c = c .before .before .before
+
 loop-holds : tie.Need-loop-holds Inv-loop μ-loop
 loop-holds c = λ s e. carried-start _ s _ e
 
@@ -34,10 +41,11 @@ single-requires c κs = search needs
 
 returns : tie.Need-returns Inv-loop μ-loop
 returns c =
-    let t = c .before .before .before .before in
-    rw (c .before .before .without .ensures, c .before .single .ensures)
-    (λ s e. carried-fact _ s _ _ _ (t .before .before .before .loop .inv s e) (t .before .lowest-bit .ensures)
-    (sym (t .test .ensures) ∙ c .before .before .before .if1 .taken))
+    let w = c .before .before in
+    let t = w .before .before in
+    rw (w .without .ensures, c .before .single .ensures)
+    (λ s e. carried-fact _ s _ _ _ (looped t .loop .inv s e) (t .before .lowest-bit .ensures)
+    (sym (t .test .ensures) ∙ w .before .if1 .taken))
 
 test-requires-2 : tie.Need-test-requires-2 Inv-loop μ-loop
 test-requires-2 c κs = search needs
@@ -47,11 +55,12 @@ single-requires-2 c κs = search needs
 
 returns-2 : tie.Need-returns-2 Inv-loop μ-loop
 returns-2 c =
-    let t = c .before .before .before .before .before in
+    let d = c .before .before in
+    let u = d .before in
+    let t = tested u in
     rw (c .before .single2 .ensures)
-    (λ s e. carried-nothing _ s _ _ _ (t .before .before .before .loop .inv s e) (t .before .lowest-bit .ensures)
-    (sym (t .test .ensures) ∙ c .before .before .before .before .if1 .left)
-    (failed (c .before .before .before .test2 .ensures) (c .before .before .if2 .taken)))
+    (λ s e. carried-nothing _ s _ _ _ (looped t .loop .inv s e) (t .before .lowest-bit .ensures)
+    (sym (t .test .ensures) ∙ u .before .if1 .left) (failed (u .test2 .ensures) (d .if2 .taken)))
 
 without-requires-2 : tie.Need-without-requires-2 Inv-loop μ-loop
 without-requires-2 c κs = search needs
@@ -61,16 +70,17 @@ without-lowest-requires c κs = search needs
 
 loop-less : tie.Need-loop-less Inv-loop μ-loop
 loop-less c =
-    let l = c .before .before .before .before .before .before .lowest-bit .ensures in
+    let l = tested (c .before .before .before) .before .lowest-bit .ensures in
     rw (c .without-lowest .ensures _ l) (without-less _ _ (l .bit))
 
 loop-again : tie.Need-loop-again Inv-loop μ-loop
 loop-again c =
-    let t = c .before .before .before .before .before in
+    let d = c .before .before in
+    let t = tested (d .before) in
     let l = t .before .lowest-bit .ensures in
     rw (c .without-lowest .ensures _ l, c .before .without2 .ensures)
-    (λ s e. carried-next _ s _ _ _ (t .before .before .before .loop .inv s e) l
-    (passed (c .before .before .before .test2 .ensures) (c .before .before .if2 .left)))
+    (λ s e. carried-next _ s _ _ _ (looped t .loop .inv s e) l
+    (passed (d .before .test2 .ensures) (d .if2 .left)))
 
 returns-3 : tie.Need-returns-3 Inv-loop μ-loop
 returns-3 c = λ s e. carried-end _ s _ _ (c .loop-test .left) (c .before .loop .inv s e)

@@ -1,0 +1,2 @@
+-- Exports: what an operation answers, put to words.
+pub mod Exports

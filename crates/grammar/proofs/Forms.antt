@@ -1,0 +1,244 @@
+-- Laws of the forms that are found in a line: one for each way out of the functions that find them.
+--
+--   Body k x        the literals of x, as many as a line of kind k takes
+-- Assumes nothing.
+use mathlib.Core.Path.{_≡_, refl, sym, ap, _∙_, subst}
+use mathlib.Core.Bool.{true, false, true≢false}
+use mathlib.Core.List.{List, [], _∷_}
+use mathlib.Core.Option.{Option}
+use Prim.Native.Nat.{ℕ, _≤_}
+use native.Mathlib.Omega.{arith}
+use lib.ListN.{length, drop}
+use lib.Seq.{slice}
+use denote.Enum.Declared.{tagOf}
+use types.Run.{OneOf, miss}
+use borrow.Author.Tests.{eqb-true, ne-eqb}
+use Rattle.words.specs.Choice.{pick}
+use Rattle.text.specs.Tokens.{Token, tokens}
+use Rattle.text.specs.Words.{beginsWithLetter}
+use Rattle.text.specs.Scanning.{Found, firstToken}
+use Rattle.text.specs.declared.tokens.Next.{Next}
+use Rattle.text.specs.declared.tokens.Next.the-variants.{End, Open, Close, Word}
+use Rattle.text.proofs.tokens.Next.{the-type}
+use Rattle.formulas.specs.Sentence.{Sentence}
+use Rattle.formulas.specs.Items.{prepend, Item, itemsOf}
+use Rattle.formulas.specs.Parsing.{Items, beginsFormula, closedAmong, FormulaAt, Parsed}
+use Rattle.formulas.specs.declared.formula.Parse.{Parse}
+use Rattle.formulas.specs.declared.formula.Parse.the-variants.{NoFormula, Formula}
+use Rattle.formulas.proofs.Formulas.{found-as, parsed-as}
+use Rattle.formulas.proofs.Reading.{items-end, items-closing, items-name, items-word}
+use Rattle.formulas.proofs.FirstItem.{Filled, found-unclosed, found-unnamed, found-filled}
+use Rattle.grammar.specs.Line.{Line, Literal, takes}
+use Rattle.grammar.specs.LineOf.{withBody, seenOf, bodyLine, withItems, kindOf, lineOf}
+use Rattle.grammar.specs.Parsing.{endsItems, bodyIn, fitsBody, hasBody, BodyMakes}
+use Rattle.grammar.specs.Parsing.{endsLine, FormAfter, FormFound}
+use Rattle.grammar.specs.declared.line.Form.{Form}
+use Rattle.grammar.specs.declared.line.Form.the-variants.{Skipped, NoForm, Clause, Never, Seen, Query}
+use Rattle.grammar.proofs.KindLaws.{fit-body, unfit-body, kind-unnamed, kind-named, body-kind}
+
+-- The ways out of `ends_line`
+
+unclosed-ends : (x : Items) → closedAmong (Sentence.name []) x ≡ Option.none → endsItems x ≡ false
+unclosed-ends Option.none h = refl
+unclosed-ends (Option.some []) h = refl
+unclosed-ends (Option.some (Item.closing ∷ l)) h = absurd (let z : _≡_ {A = ℕ} 0 1 = cc in omega arith)
+unclosed-ends (Option.some (Item.formula f ∷ l)) h = refl
+
+closing-filled : (x : Items) → Filled x → endsItems (prepend Item.closing x) ≡ false
+closing-filled Option.none h = refl
+closing-filled (Option.some []) h = absurd h
+closing-filled (Option.some (i ∷ l)) h = refl
+
+module _ {l : List ℕ} {at : ℕ} {r : Next} (t : Found l at r) where
+  pub ends-unclosed : OneOf (0 ∷ (1 ∷ (3 ∷ []))) (tagOf the-type r) → false ≡ endsLine l at
+  unfolding endsLine
+  ends-unclosed h = sym (unclosed-ends (itemsOf (tokens (drop at l))) (found-unclosed t h .unclosed (Sentence.name [])))
+
+  module _ {i : ℕ} (e : r ≡ Close i) {s : Next} (u : Found l i s) where
+    pub ends-more : OneOf (1 ∷ (2 ∷ (3 ∷ []))) (tagOf the-type s) → false ≡ endsLine l at
+    unfolding endsLine
+    ends-more h =
+        let more = closing-filled (itemsOf (tokens (drop i l))) (found-filled u h) in
+        sym (rw (found-as t e .tokens-are, items-closing) more)
+
+    pub ends-last : s ≡ End → true ≡ endsLine l at
+    unfolding endsLine
+    ends-last f = sym (rw (found-as t e .tokens-are, items-closing, found-as u f .tokens-are, items-end))
+
+-- Literals, as many as a line of kind k takes
+
+record Body (k : ℕ) (x : Option (List Literal)) : Type 0 where
+  literals : List Literal
+  literals-are : x ≡ Option.some literals
+  fits : takes k (length literals) ≡ true
+
+body-of : (k : ℕ) (x : Option (List Literal)) → fitsBody k x ≡ true → Body k x
+body-of k Option.none h = absurd (true≢false (sym h))
+body-of k (Option.some ls) h = record { literals = ls; literals-are = refl; fits = h }
+
+module _ {l : List ℕ} {at : ℕ} {x : Line} where
+  body-makes : (k : ℕ) (make : List Literal → Line) → x ≡ withBody k make (bodyIn (tokens (drop at l)))
+      → hasBody l at k ≡ true → BodyMakes l at make x
+  unfolding hasBody
+  body-makes k make e h =
+      let b = body-of k (bodyIn (tokens (drop at l))) h in
+      record {
+        literals = b .literals;
+        literals-are = b .literals-are;
+        line-is = e ∙ ap (withBody k make) (b .literals-are) ∙ fit-body k make (b .literals) (b .fits);
+      }
+
+-- The ways out of `clause_form`
+
+pub clause-is : (k : ℕ) {ts us : List Token} {w : List ℕ} → k ≤ 2 → ts ≡ Token.word w ∷ us → beginsWithLetter w ≡ true
+    → withItems k (itemsOf ts) ≡ withBody k (Line.clause k w) (bodyIn us)
+clause-is k {us = us} {w = w} i e n = rw (e, items-name us w n) (kind-named k i w (itemsOf us))
+
+module _ {l : List ℕ} {at k : ℕ} {r : Next} where
+  pub clause-wordless : Found l at r → k ≤ 2 → OneOf (0 ∷ (1 ∷ (2 ∷ []))) (tagOf the-type r) → FormAfter l at k NoForm
+  clause-wordless t i h = record { form-is = kind-unnamed k i (itemsOf (tokens (drop at l))) (found-unnamed t h) }
+
+  module _ {a e : ℕ} (w : r ≡ Word a e) (t : Found l at r) (i : k ≤ 2) where
+    pub clause-word : beginsWithLetter (slice a e l) ≡ false → FormAfter l at k NoForm
+    clause-word h = record {
+      form-is = kind-unnamed k i (itemsOf (tokens (drop at l)))
+          (rw (found-as t w .tokens-are, items-word (tokens (drop e l)) (slice a e l) h));
+    }
+
+    module _ (n : beginsWithLetter (slice a e l) ≡ true) where
+      pub clause-unfit : hasBody l e k ≡ false → FormAfter l at k NoForm
+      unfolding hasBody
+      clause-unfit h = record {
+        form-is = clause-is k i (found-as t w .tokens-are) n ∙ unfit-body k _ (bodyIn (tokens (drop e l))) h;
+      }
+
+      pub clause-found : hasBody l e k ≡ true → FormAfter l at k (Clause k a e e)
+      clause-found h =
+          let g = found-as t w in
+          let makes = body-makes k (Line.clause k (slice a e l)) (clause-is k i (g .tokens-are) n) h in
+          record { form-is = (i, (g .inside .1, g .inside .2), makes) }
+
+-- The ways out of `query_form`
+
+query-line : (f : Sentence) (x : Items)
+    → withItems 5 (prepend (Item.formula f) x) ≡ pick (endsItems x) (Line.query f) Line.noForm
+query-line f Option.none = refl
+query-line f (Option.some l) = refl
+
+none-line : (x : Items) → beginsFormula x ≡ false → withItems 5 x ≡ Line.noForm
+none-line Option.none h = refl
+none-line (Option.some []) h = refl
+none-line (Option.some (Item.closing ∷ l)) h = refl
+none-line (Option.some (Item.formula f ∷ l)) h = absurd (true≢false h)
+
+ends-is : (x : Items) → endsItems x ≡ true → x ≡ Option.some (Item.closing ∷ [])
+ends-is Option.none h = absurd (true≢false (sym h))
+ends-is (Option.some []) h = absurd (true≢false (sym h))
+ends-is (Option.some (Item.formula f ∷ l)) h = absurd (true≢false (sym h))
+ends-is (Option.some (Item.closing ∷ [])) h = refl
+ends-is (Option.some (Item.closing ∷ (i ∷ l))) h = absurd (true≢false (sym h))
+
+module _ {l : List ℕ} {at : ℕ} {r : Parse} where
+  pub query-none : r ≡ NoFormula → Parsed l at r → FormAfter l at 5 NoForm
+  query-none e p = record { form-is = none-line (itemsOf (tokens (drop at l))) (parsed-as l at p e) }
+
+  module _ {next d : ℕ} (e : r ≡ Formula next d) (p : Parsed l at r) where
+    formula : FormulaAt l at next d
+    formula = parsed-as l at p e
+
+    pub query-unended : endsLine l next ≡ false → FormAfter l at 5 NoForm
+    unfolding endsLine
+    query-unended h = record {
+      form-is = rw (formula .items-are) (query-line (formula .sentence) (itemsOf (tokens (drop next l))) ∙ rw h);
+    }
+
+    pub query-found : endsLine l next ≡ true → FormAfter l at 5 (Query at d)
+    unfolding endsLine
+    query-found h =
+        let q = formula in
+        let f = q .items-are ∙ ap (prepend (Item.formula (q .sentence))) (ends-is (itemsOf (tokens (drop next l))) h) in
+        record {
+          form-is = record {
+            sentence = q .sentence;
+            items-are = f;
+            depth-is = q .depth-is;
+            line-is = ap (withItems 5) f;
+          };
+        }
+
+-- The ways out of `form_of_kind`
+
+one-literal : (x : Option (List Literal)) → fitsBody 4 x ≡ true → (a : Literal) × (x ≡ Option.some (a ∷ []))
+one-literal Option.none h = absurd (true≢false (sym h))
+one-literal (Option.some []) h = absurd (omega (arith, eqb-true 0 1 h))
+one-literal (Option.some (a ∷ [])) h = (a, refl)
+one-literal (Option.some (a ∷ (b ∷ ls))) h = absurd (omega (arith, eqb-true (length (a ∷ (b ∷ ls))) 1 h))
+
+other-kind : (k : ℕ) (ls : List Literal) → (k ≡ 3 → ⊥) → (k ≡ 4 → ⊥) → bodyLine k ls ≡ Line.noForm
+other-kind k ls a b = rw (ne-eqb k 3 a, ne-eqb k 4 b)
+
+-- a line of literals alone
+literals-line : (l : List ℕ) (at k : ℕ) → 3 ≤ k → (k ≡ 5 → ⊥)
+    → withItems k (itemsOf (tokens (drop at l))) ≡ withBody k (bodyLine k) (bodyIn (tokens (drop at l)))
+literals-line l at k i n = body-kind k (itemsOf (tokens (drop at l))) i n
+
+module _ {l : List ℕ} {at k : ℕ} where
+  pub form-as : {j : ℕ} {r : Form} → k ≡ j → FormAfter l at j r → FormAfter l at k r
+  form-as {r = r} e f = subst (λ j. FormAfter l at j r) (sym e) f
+
+  pub form-unfit : 3 ≤ k → (k ≡ 5 → ⊥) → hasBody l at k ≡ false → FormAfter l at k NoForm
+  unfolding hasBody
+  form-unfit i n h = record {
+    form-is = literals-line l at k i n ∙ unfit-body k (bodyLine k) (bodyIn (tokens (drop at l))) h;
+  }
+
+  pub form-never : k ≡ 3 → hasBody l at k ≡ true → FormAfter l at k (Never at)
+  form-never e h =
+      let makes = body-makes 3 Line.never (literals-line l at 3 (omega arith) (λ z. omega arith)) (rw e at h) in
+      form-as e (record { form-is = makes })
+
+  pub form-seen : k ≡ 4 → hasBody l at k ≡ true → FormAfter l at k (Seen at)
+  unfolding hasBody
+  form-seen e h =
+      let o = one-literal (bodyIn (tokens (drop at l))) (rw e at h) in
+      let f = literals-line l at 4 (omega arith) (λ z. omega arith) ∙ ap (withBody 4 seenOf) (o .1) in
+      form-as e (record { form-is = record { reading = o .0; literals-are = o .1; line-is = f } })
+
+  pub form-other : 3 ≤ k → (k ≡ 5 → ⊥) → hasBody l at k ≡ true → (k ≡ 3 → ⊥) → (k ≡ 4 → ⊥) → FormAfter l at k NoForm
+  form-other i n h a b =
+      let makes = body-makes k (bodyLine k) (literals-line l at k i n) h in
+      record { form-is = makes .line-is ∙ other-kind k (makes .literals) a b }
+
+-- The ways out of `form_of`
+
+opened-line : (l : List ℕ) (r : Next) → OneOf (0 ∷ (1 ∷ (2 ∷ []))) (tagOf the-type r)
+    → lineOf (Token.opening ∷ firstToken l r) ≡ Line.noForm
+unfolding lineOf
+opened-line l End h = refl
+opened-line l (Open n) h = refl
+opened-line l (Close n) h = refl
+opened-line l (Word a e) h = absurd (miss (0 ∷ (1 ∷ (2 ∷ []))) 3 tt h)
+
+module _ {l : List ℕ} {r : Next} (t : Found l 0 r) where
+  pub line-skipped : r ≡ End → FormFound l Skipped
+  unfolding lineOf
+  line-skipped e = record { form-is = rw (found-as t e .tokens-are) }
+
+  pub line-closing : {i : ℕ} → r ≡ Close i → FormFound l NoForm
+  unfolding lineOf
+  line-closing e = record { form-is = rw (found-as t e .tokens-are) }
+
+  pub line-word : {a e : ℕ} → r ≡ Word a e → FormFound l NoForm
+  unfolding lineOf
+  line-word e = record { form-is = rw (found-as t e .tokens-are) }
+
+  module _ {i : ℕ} (o : r ≡ Open i) {s : Next} (u : Found l i s) where
+    pub line-wordless : OneOf (0 ∷ (1 ∷ (2 ∷ []))) (tagOf the-type s) → FormFound l NoForm
+    line-wordless h = record { form-is = rw (found-as t o .tokens-are, u .tokens-are) (opened-line l s h) }
+
+    pub line-found : {a e k : ℕ} {x : Form} → s ≡ Word a e → k ≡ kindOf (slice a e l) → FormAfter l e k x
+        → FormFound l x
+    unfolding lineOf
+    line-found w q f = record {
+      form-is = rw (found-as t o .tokens-are, found-as u w .tokens-are, ← q) (f .form-is);
+    }

@@ -1,0 +1,2 @@
+-- Marking: the ten marked files, by computation.
+pub mod Marking

@@ -1,0 +1,43 @@
+-- The ten marked files, by computation. Assumes nothing.
+use mathlib.Core.Path.{refl}
+use lib.Count.{ones, onesIn}
+use Rattle.words.specs.Bits.{has, word}
+use Rattle.logic.specs.Formula.{valueOf, literalsBelow}
+use Rattle.logic.specs.Nodes.{nodes, withNode, spelled, formulaOf}
+use Rattle.program.specs.Program.{clauseAt, clausesOf, addedBelow, headsOf}
+use Rattle.program.specs.Cause.{causesAmong, causesOf, atomsFrom}
+use Rattle.program.specs.Setting.{choicesFor, product, digits, digitOf, settingsOf, additionsOf}
+use Rattle.program.specs.Sound.{fewCauses}
+use Rattle.settle.specs.Step.{bodiesOf, someTrue, allFalse, nextValue, step}
+use Rattle.settle.specs.Rounds.{rounds, roundCount, settled}
+use Rattle.explanation.specs.Explanation.{observedTrue, noneBroken, explainsUnder, setExplains}
+use Rattle.explanation.specs.Subset.{subsetOf, properOf, someProper, minimal}
+use Rattle.verdict.specs.Walk.{minimalsBelow, roundsBelow, trueInAll, falseInAll, verdictOf}
+use Rattle.text.specs.Bytes.{isWordByte, isAllowed, allOf, sameBytes}
+use Rattle.text.specs.Lines.{linesFrom, isComment}
+use Rattle.text.specs.Tokens.{tokensFrom}
+use Rattle.table.specs.Filled.{padded}
+use Rattle.names.specs.Names.{someLong, withName, withNames, rowsOf}
+use Rattle.formulas.specs.Sentence.{depthOf}
+use Rattle.formulas.specs.Keyword.{nodeOf}
+use Rattle.text.specs.Words.{beginsWithLetter, namesFrom, placeOf}
+use Rattle.formulas.specs.Sentence.{isSentence}
+use Rattle.formulas.specs.Items.{withForm, itemsOf}
+use Rattle.grammar.specs.Line.{areNamed, isLine}
+use Rattle.grammar.specs.LineOf.{literalsOf, lineOf}
+use Rattle.store.specs.Saying.{someOn, atomsBy, encodedBy, saidBy}
+use Rattle.store.specs.Tables.{clauseWords, constraintWords, formulaNodes}
+use Rattle.checks.specs.Checks.{lookRefusal, formRefusal, lineRefusal, saidAfter}
+use Rattle.reader.specs.Reading.{ending, readLines, readFile}
+use Rattle.marked.specs.Marked.{MarkedRows}
+
+pub marked-rows : MarkedRows
+unfolding ones onesIn has word valueOf literalsBelow nodes withNode spelled formulaOf clauseAt clausesOf addedBelow
+    headsOf causesAmong causesOf atomsFrom choicesFor product digits digitOf settingsOf additionsOf fewCauses bodiesOf
+    someTrue allFalse nextValue step rounds roundCount settled observedTrue noneBroken explainsUnder setExplains
+    subsetOf properOf someProper minimal minimalsBelow roundsBelow trueInAll falseInAll verdictOf isWordByte isAllowed
+    allOf sameBytes linesFrom isComment tokensFrom padded namesFrom someLong placeOf withName withNames rowsOf nodeOf
+    beginsWithLetter depthOf withForm itemsOf literalsOf lineOf someOn atomsBy encodedBy saidBy lookRefusal
+    formRefusal lineRefusal saidAfter clauseWords ending readLines readFile constraintWords formulaNodes isSentence
+    areNamed isLine
+marked-rows = refl

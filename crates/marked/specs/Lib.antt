@@ -1,0 +1,2 @@
+-- Marked: the ten marked files.
+pub mod Marked

@@ -1,0 +1,1 @@
+// The ten marked files of document 01: definitions and a theorem alone, no code.

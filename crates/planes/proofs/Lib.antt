@@ -1,0 +1,14 @@
+-- Choosing: tests in another order, and a bit that is kept or chosen anew.
+-- Columns: the interpretation in a lane.
+-- Joining: the literals of a body, in lanes.
+-- Ruling: the rules of a head, in lanes.
+-- Words: the words of one atom.
+-- Filling: the planes of additions, and those that are the same in each lane.
+-- Gathering: a word of a lane's interpretation, atom by atom.
+pub mod Choosing
+pub mod Columns
+pub mod Joining
+pub mod Ruling
+pub mod Words
+pub mod Filling
+pub mod Gathering

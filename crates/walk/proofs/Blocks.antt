@@ -1,0 +1,216 @@
+-- The walk, 64 settings at a time: its start, a block and its end. In a block each lane has what its setting settles
+-- to; so the lanes that explain are those of the judge, the row tells which have a proper subset that explains, and the
+-- block's rounds are summed. Assumes nothing.
+use mathlib.Core.Path.{_≡_, refl, sym, ap, ap₂, subst, _∙_}
+use mathlib.Core.List.{List}
+use Prim.Native.Nat.{ℕ, _+_, _-_, _*_, _≤_, _<_, min}
+use native.Mathlib.Omega.{arith}
+use lib.ListN.{length, getD, take}
+use Rattle.words.specs.Bits.{has}
+use Rattle.words.specs.OneBit.{BitOf}
+use Rattle.logic.specs.declared.interpretation.Interpretation.{Interpretation}
+use Rattle.logic.specs.Formula.{Formula, valueOf}
+use Rattle.logic.specs.Nodes.{formulaOf}
+use Rattle.logic.specs.Interpretation.{valueAt, Disjoint}
+use Rattle.program.specs.declared.case.Case.{Case}
+use Rattle.program.specs.declared.cause.Additions.{Additions}
+use Rattle.program.specs.Program.{Clause, programWith}
+use Rattle.program.specs.Cause.{causesOf, atomsIn}
+use Rattle.program.specs.Setting.{choicesFor, settingsOf, additionsOf}
+use Rattle.program.proofs.Soundness.{sound-formula}
+use Rattle.settle.specs.Rounds.{settled}
+use Rattle.settle.proofs.Reached.{settled-good}
+use Rattle.planes.specs.Planes.{column, Planes}
+use Rattle.planes.specs.Fill.{Filled}
+use Rattle.lanes.specs.Rounds.{addsAt, sum, Settles}
+use Rattle.lanes.proofs.Sums.{sum-none, sum-more, sum-ext, sum-le}
+use Rattle.explanation.specs.Explanation.{explainsUnder}
+use Rattle.explanation.specs.Judge.{Judge, judgeOf}
+use Rattle.explanation.specs.Covering.{Weights}
+use Rattle.explanation.specs.Row.{CoveredRow, Block, Covers}
+use Rattle.explanation.proofs.Dropping.{additions-start}
+use Rattle.explanation.proofs.Explaining.{set-explains}
+use Rattle.explanation.proofs.Weighing.{weights-low}
+use Rattle.verdict.specs.declared.visit.Found.{Found}
+use Rattle.walk.specs.declared.walk.Tally.{Tally}
+use Rattle.verdict.specs.Walk.{roundsBelow}
+use Rattle.verdict.specs.Counting.{noCounts}
+use Rattle.verdict.specs.Lane.{Room, Seen}
+use Rattle.verdict.specs.Visited.{Visited}
+use Rattle.walk.specs.Walking.{Bounded, Walked}
+use Rattle.walk.proofs.Bounds.{settings-few, rounds-few}
+use Rattle.verdict.proofs.Counting.{minimals-le, counted-none, counted-few}
+use Rattle.verdict.proofs.Leaving.{left-start, work-kept, written-free}
+use Rattle.verdict.proofs.Rounds.{rounds-none, rounds-more, rounds-le}
+
+abbrev pub noneFound : Found
+noneFound = record { counts = noCounts; written = 0 }
+
+-- the walk before setting s, whose bit is the first of word b of the row
+pub record Walking (c : Case) (cl co fo : List ℕ) (causes end : ℕ) (list₀ work₀ list work row : List ℕ) (f : Found)
+    (k : ℕ) (added : Additions) (b s : ℕ) : Type 0 where
+  pub place-is : 59072 + s ≡ 64 * b
+  pub added-is : added ≡ additionsOf causes s
+  pub size-is : length row ≡ 1848
+  pub covered : CoveredRow (judgeOf c cl co fo .explains) (choicesFor (atomsIn causes)) (min s end) row
+  pub visited : Visited (judgeOf c cl co fo) (choicesFor (atomsIn causes)) list₀ work₀ (min s end) f list work
+  pub rounds-are : k ≡ roundsBelow (judgeOf c cl co fo) (min s end)
+
+module _ {c : Case} {cl co fo : List ℕ} {causes end : ℕ} {work₀ : List ℕ}
+    (g : Bounded c cl co fo causes end work₀) where
+  abbrev J : Judge
+  J = judgeOf c cl co fo
+
+  abbrev cs : List ℕ
+  cs = choicesFor (atomsIn causes)
+
+  end-is : end ≡ settingsOf causes
+  end-is = g .end-is ∙ ap settingsOf (sym (g .causes-are))
+
+  pub end-few : end ≤ 59049
+  end-few = omega (arith, g .end-is, settings-few c cl co fo (g .is-sound))
+
+  pub weights-few : (weights : List ℕ) → Weights causes weights → (a : ℕ) → BitOf causes a
+      → 2 * getD weights a 0 ≤ 59072
+  weights-few weights w = weights-low causes weights w (omega (arith, end-is, end-few))
+
+  start : 0 ≡ min 0 end
+  start = omega arith
+
+  pub walking-start : {list₀ : List ℕ} (row : List ℕ) → length row ≡ 1848
+      → Walking c cl co fo causes end list₀ work₀ list₀ work₀ row noneFound 0
+      (record { facts = 0; assumptions = 0 }) 923 0
+  walking-start {list₀} row e = record {
+    place-is = refl;
+    added-is = additions-start causes;
+    size-is = e;
+    covered = λ s l. absurd (omega arith);
+    visited = subst (λ (n : ℕ). Visited J cs list₀ work₀ n noneFound list₀ work₀) start
+        (record { counted = counted-none J cs; left = left-start J cs list₀ work₀ });
+    rounds-are = sym (rounds-none J) ∙ ap (roundsBelow J) start;
+  }
+
+  module _ {list₀ list work row : List ℕ} {f : Found} {k : ℕ} {added : Additions} {b s : ℕ}
+      (w : Walking c cl co fo causes end list₀ work₀ list work row f k added b s) where
+    -- ---- the end
+    pub walking-end : end ≤ s → Walked J (choicesFor (atomsIn (causesOf c cl))) list₀ work₀ end
+        (record { found = f; rounds = k }) list work
+    walking-end l =
+        let there : min s end ≡ end = omega arith in
+        let t : Tally = record { found = f; rounds = k } in
+        subst (λ (i : ℕ). Walked J (choicesFor (atomsIn i)) list₀ work₀ end t list work) (g .causes-are) (record {
+          visited = subst (λ (n : ℕ). Visited J cs list₀ work₀ n f list work) there (w .visited);
+          rounds-are = w .rounds-are ∙ ap (roundsBelow J) there;
+        })
+
+    pub walking-work : length work ≡ length work₀
+    walking-work = work-kept (w .visited .left) (omega (arith, g .work-long))
+
+    -- ---- a block
+    module _ (l : s < end) where
+      here : min s end ≡ s
+      here = omega arith
+
+      pub word-inside : (923 ≤ b) × (b < 1846)
+      word-inside = (omega (arith, w .place-is), omega (arith, w .place-is, end-few))
+
+      standing : Visited J cs list₀ work₀ s f list work
+      standing = subst (λ (n : ℕ). Visited J cs list₀ work₀ n f list work) here (w .visited)
+
+      pub walking-room : Room s f list
+      walking-room = record {
+        free = written-free (standing .left);
+        few = counted-few (standing .counted);
+        listed-few = omega (arith, standing .left .written-is, minimals-le J cs s);
+      }
+
+      -- the first m lanes are those of settings, and total is the sum of their rounds
+      module _ {m total : ℕ} {t u : List ℕ} (em : m ≡ min 64 (end - s))
+          (v : Settles cl (c .clauses) (addsAt causes s) m t u total) where
+        -- the case with what setting s + j adds, were i the causes
+        abbrev program : ℕ → ℕ → List Clause
+        program i j = programWith cl (c .clauses) (additionsOf i (s + j))
+
+        lane-is : (j : ℕ) → j < 64 → column t u j ≡ settled (program (causesOf c cl) j) .interpretation
+        lane-is j q =
+            v .columns-are j q ∙ ap (λ (i : ℕ). settled (program i j) .interpretation) (g .causes-are)
+
+        pub lanes-planes : Planes t u
+        lanes-planes j q =
+            subst (λ (i : Interpretation). Disjoint i) (sym (v .columns-are j q))
+            (settled-good (programWith cl (c .clauses) (addsAt causes s j)) .disjoint)
+
+        total-is : total ≡ sum m (λ j. J .rounds (s + j))
+        total-is =
+            v .sum-is
+            ∙ sum-ext m (λ j. settled (program causes j) .rounds) (λ j. J .rounds (s + j))
+            (λ j q. ap (λ (i : ℕ). settled (program i j) .rounds) (g .causes-are))
+
+        summed : (n : ℕ) → roundsBelow J s + sum n (λ j. J .rounds (s + j)) ≡ roundsBelow J (s + n)
+        summed =
+            rounds-more J s (λ n. sum n (λ j. J .rounds (s + j))) (sum-none _)
+            (λ j. sum-more j (λ i. J .rounds (s + i)))
+
+        pub rounds-fit : k + total ≤ 8000000
+        rounds-fit =
+            let few = rounds-few c cl co fo (g .is-sound) in
+            omega (
+              arith,
+              end-few,
+              w .rounds-are,
+              rounds-le J 64 few (min s end),
+              total-is,
+              sum-le m 64 (λ j. J .rounds (s + j)) (λ j q. few (s + j)),
+            )
+
+        -- e has the lanes that explain, larger those of which a proper subset explains
+        module _ {e larger : ℕ} {weights x y row₁ : List ℕ} (ew : Weights causes weights) (ex : Filled causes s x y)
+            (ee : (j : ℕ) → j < 64 → has e j ≡ explainsUnder c co (valueAt (column t u j)))
+            (el : Covers row b e causes weights x y row₁ larger) where
+          explains-is : (j : ℕ) → j < 64 → has e j ≡ J .explains (s + j)
+          explains-is j q =
+              ee j q
+              ∙ ap (λ (i : Interpretation). explainsUnder c co (valueAt i)) (lane-is j q)
+              ∙ sym (set-explains c cl co (additionsOf (causesOf c cl) (s + j)))
+
+          block : Block (J .explains) s b e causes weights x y row
+          block = record {
+            place-is = w .place-is;
+            filled = ex;
+            weights-are = ew;
+            explains = λ j q z. explains-is j q;
+            covered = subst (λ (n : ℕ). CoveredRow (J .explains) cs n row) here (w .covered);
+          }
+
+          query : Formula
+          query = formulaOf (take (c .nodes) fo)
+
+          seen : Seen J cs c fo e larger t u m s
+          unfolding query
+          seen = record {
+            tells = λ j q. record {
+              explains-is = explains-is j (omega arith);
+              is-formula = sound-formula c cl co fo (g .is-sound);
+              value-is = ap (λ (i : Interpretation). valueOf (valueAt i) query) (lane-is j (omega arith));
+            };
+            larger-is = λ j q. el .larger-is (J .explains) s block j (omega arith) (omega (arith, end-is));
+          }
+
+          pub walking-next : {next : Additions} {f₁ : Found} {list₁ work₁ : List ℕ}
+              → next ≡ additionsOf causes (s + 64)
+              → ((J : Judge) (cs ls ws : List ℕ) → Seen J cs c fo e larger t u m s
+              → Visited J cs ls ws s f list work → Visited J cs ls ws (s + m) f₁ list₁ work₁)
+              → Walking c cl co fo causes end list₀ work₀ list₁ work₁ row₁ f₁ (k + total) next (b + 1) (s + 64)
+          walking-next {next} {f₁} {list₁} {work₁} n step =
+              let z : s + m ≡ min (s + 64) end = omega arith in
+              record {
+                place-is = omega (arith, w .place-is);
+                added-is = n;
+                size-is = el .size-is;
+                covered = subst (λ (i : ℕ). CoveredRow (J .explains) cs (min (s + 64) i) row₁) (sym end-is)
+                    (el .covered (J .explains) s block);
+                visited = subst (λ (i : ℕ). Visited J cs list₀ work₀ i f₁ list₁ work₁) z
+                    (step J cs list₀ work₀ seen standing);
+                rounds-are = ap₂ _+_ (w .rounds-are ∙ ap (roundsBelow J) here) total-is ∙ summed m
+                    ∙ ap (roundsBelow J) z;
+              }

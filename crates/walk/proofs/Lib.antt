@@ -1,0 +1,4 @@
+-- Bounds: how many settings a sound case has, how many rounds settling one takes, how long its tables are.
+-- Blocks: the walk, 64 settings at a time.
+pub mod Bounds
+pub mod Blocks

@@ -1,0 +1,48 @@
+-- What a walk over all settings is given, and where it stands before setting s.
+--
+--   AtHand ..     the case is sound, and its heads and causes are at hand
+--   Bounded ..    the case is sound, its causes and the number of its settings are at hand, and the work area is enough
+--   Tabled ..     the tables for settling, the weights of the causes and the opening's planes are at hand
+--   Walked ..     what it has found and left, and the rounds of the settings below s
+use mathlib.Core.Path.{_≡_}
+use mathlib.Core.Bool.{true}
+use mathlib.Core.List.{List}
+use Prim.Native.Nat.{ℕ, _≤_}
+use lib.ListN.{length}
+use Rattle.program.specs.declared.case.Case.{Case}
+use Rattle.program.specs.Program.{headsOf}
+use Rattle.program.specs.Cause.{causesOf}
+use Rattle.program.specs.Setting.{settingsOf}
+use Rattle.program.specs.Sound.{sound}
+use Rattle.prepared.specs.declared.opening.Opening.{Opening}
+use Rattle.prepared.specs.Prepared as prepared
+use Rattle.planes.specs.Fill.{Even}
+use Rattle.explanation.specs.Judge.{Judge}
+use Rattle.explanation.specs.Covering.{Weights}
+use Rattle.verdict.specs.Walk.{roundsBelow}
+use Rattle.verdict.specs.Visited.{Visited}
+use Rattle.walk.specs.declared.walk.Tally.{Tally}
+
+pub record AtHand (c : Case) (cl co fo : List ℕ) (heads causes : ℕ) : Type 0 where
+  pub is-sound : sound c cl co fo ≡ true
+  pub heads-are : heads ≡ headsOf cl (c .clauses)
+  pub causes-are : causes ≡ causesOf c cl
+
+pub record Bounded (c : Case) (cl co fo : List ℕ) (causes end : ℕ) (work : List ℕ) : Type 0 where
+  pub is-sound : sound c cl co fo ≡ true
+  pub causes-are : causes ≡ causesOf c cl
+  pub end-is : end ≡ settingsOf (causesOf c cl)
+  pub work-long : end ≤ length work
+
+-- ot, of and oh have the opening's words in each lane
+pub record Tabled (c : Case) (cl : List ℕ) (causes : ℕ) (o : Opening) (dependents last prev weights ot of oh : List ℕ)
+    : Type 0 where
+  pub tables : prepared.Prepared cl (c .clauses) o dependents last prev
+  pub weights-are : Weights causes weights
+  pub trues-even : Even (o .trues) ot
+  pub falses-even : Even (o .falses) of
+  pub heads-even : Even (o .heads) oh
+
+pub record Walked (J : Judge) (cs list₀ work₀ : List ℕ) (s : ℕ) (t : Tally) (list work : List ℕ) : Type 0 where
+  pub visited : Visited J cs list₀ work₀ s (t .found) list work
+  pub rounds-are : t .rounds ≡ roundsBelow J s

@@ -1,0 +1,2 @@
+// The walk over all settings, 64 at a time.
+pub mod walk;

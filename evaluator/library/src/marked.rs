@@ -1,0 +1,92 @@
+//! Families of M1 to M10, read into tables that are worked out by hand, and settled from these.
+//!
+//! From: document 01, Ten marked files; Case tables and sound cases.
+
+use crate::calls::{read, settle, ReadDue, Sizes};
+use crate::corpus::stored;
+use crate::due::{self, Settling};
+use crate::held::Held;
+use crate::tests::Tests;
+use std::path::Path;
+
+/// A marked file's name, its record, the used entries of clauses, constraints and formula, its names, and the rounds
+/// over all settings that document 01 gives.
+type Marked = (&'static str, [u64; 6], &'static [u64], &'static [u64], &'static [u8], &'static [&'static str], u64);
+
+/// M1 to M10.
+const MARKED: [Marked; 10] = [
+    ("m01", [3, 2, 0, 1, 1, 0], &[128, 2, 4, 66, 0, 0], &[], &[1], &["low", "dampershut", "ab"], 5),
+    ("m02", [1, 0, 0, 1, 0, 0], &[], &[], &[0], &["a"], 2),
+    ("m03", [2, 2, 0, 1, 1, 0], &[128, 2, 0, 129, 1, 0], &[], &[1], &["p", "q"], 0),
+    ("m04", [5, 4, 0, 1, 1, 0], &M4_CLAUSES, &[], &[1], &M4_NAMES, 15),
+    ("m05", [5, 4, 0, 2, 0, 1], &M4_CLAUSES, &[], &[64, 1], &M4_NAMES, 15),
+    ("m06", [5, 4, 1, 1, 1, 0], &M4_CLAUSES, &[8, 0], &[1], &M4_NAMES, 15),
+    ("m07", [1, 0, 0, 1, 1, 1], &[], &[], &[0], &["a"], 2),
+    ("m08", [1, 0, 0, 3, 0, 0], &[], &[], &[67, 0, 0], &["a"], 2),
+    ("m09", [2, 1, 0, 1, 0, 1], &[128, 2, 2], &[], &[0], &["b", "a"], 4),
+    ("m10", [1, 2, 0, 1, 0, 0], &[0, 0, 0, 64, 0, 0], &[], &[0], &["a"], 1),
+];
+
+const M4_CLAUSES: [u64; 12] = [128, 2, 4, 128, 8, 16, 66, 0, 0, 68, 0, 0];
+const M4_NAMES: [&str; 5] = ["low", "shut", "ab1", "stopped", "ab2"];
+
+/// The record and the tables of a marked file.
+fn held((_, record, clauses, constraints, formula, names, _): Marked) -> Held {
+    let mut held = Held::zeros();
+    held.record.copy_from_slice(&record);
+    held.clauses[..clauses.len()].copy_from_slice(clauses);
+    held.constraints[..constraints.len()].copy_from_slice(constraints);
+    held.formula[..formula.len()].copy_from_slice(formula);
+    for (atom, name) in names.iter().enumerate() {
+        held.names[16 * atom..][..name.len()].copy_from_slice(name.as_bytes());
+    }
+    held
+}
+
+/// Reads each file, in memory of its sizes and with two entries past each.
+fn reads(tests: &mut Tests, folder: &Path) {
+    tests.family("read: M1 to M10, tables by hand");
+    let Sizes { clauses, constraints, formula, names, answer } = Sizes::FULL;
+    let longer = Sizes {
+        clauses: clauses + 2,
+        constraints: constraints + 2,
+        formula: formula + 2,
+        names: names + 2,
+        answer: answer + 2,
+    };
+    for (row, input) in MARKED.into_iter().zip(stored(folder, "marked")) {
+        tests.require(&input.name, input.name.ends_with(&format!("{}.case", row.0)));
+        let held = held(row);
+        let answer = [&[0], held.record.as_slice()].concat();
+        let due = ReadDue { refusal: 0, answer, tables: Some(held) };
+        tests.require(&format!("{}: the evaluator's record and tables", row.0), due::read(&input.bytes) == due);
+        for sizes in [Sizes::FULL, longer] {
+            tests.call(|| format!("{}, {sizes:?}", row.0), read(&input.bytes, sizes, false, &due));
+        }
+    }
+}
+
+/// Settles every setting from the tables by hand, and the one past the last.
+fn settles(tests: &mut Tests) {
+    tests.family("settle: M1 to M10, tables by hand");
+    for row in MARKED {
+        let (name, .., rounds) = row;
+        let held = held(row);
+        let mut settling = Settling::of(held.case());
+        let mut sum = 0;
+        for s in 0..settling.settings() {
+            let due = settling.words(s);
+            sum += due[2];
+            tests.call(|| format!("{name}, setting {s}"), settle(&held, s, 3, (0, &due)));
+        }
+        tests.require(&format!("{name}: {rounds} rounds"), sum == rounds);
+        let past = settling.settings();
+        tests.call(|| format!("{name}, setting {past}"), settle(&held, past, 3, (14, &[0; 3])));
+    }
+}
+
+/// All families of the marked files.
+pub fn run(tests: &mut Tests, folder: &Path) {
+    reads(tests, folder);
+    settles(tests);
+}
