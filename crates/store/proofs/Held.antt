@@ -42,8 +42,8 @@ use Rattle.store.proofs.Formulas.{over-some}
 use Rattle.store.proofs.Encoded.{Known, encoded-over}
 use Rattle.store.proofs.Lookups.{Agree, masks-same, encoded-same}
 use Rattle.store.proofs.NodeLaws.{query-nodes, nodes-stored}
-use Rattle.store.proofs.Rows.{clause-words-stored, constraint-words-stored, formula-nodes-push, nodes-push-length}
-use Rattle.store.proofs.Rows.{node-each}
+use Rattle.store.proofs.Rows.{clause-words-stored, constraint-words-stored, formula-nodes-push}
+use Rattle.store.proofs.Rows.{nodes-push-length, node-each}
 
 -- c with a number of atoms
 abbrev pub withAtomCount : Case → ℕ → Case
@@ -144,8 +144,9 @@ module _ (st : Said) (c : Case) (t : Lent) (h : Held st c t) where
           → m ≡ masksBy (atomOf (st .names)) ls
       masks-are k = e ∙ masks-same _ (atomOf (st .names)) ls k
 
-      pub clause-held : (kind : ℕ) (w : List ℕ) {r : Case} {u : List ℕ} → withNames (st .names) (w ∷ bodyNames ls) ≡ st .names
-          → c .clauses < 256 → ClauseStored w kind m c (t .names) (t .clauses) r u
+      pub clause-held : (kind : ℕ) (w : List ℕ) {r : Case} {u : List ℕ}
+          → withNames (st .names) (w ∷ bodyNames ls) ≡ st .names → c .clauses < 256
+          → ClauseStored w kind m c (t .names) (t .clauses) r u
           → Held (withClause st (clauseRow (st .names) kind w ls)) r (lent u (t .constraints) (t .formula) (t .names))
       unfolding clauseWords
       clause-held kind w known room s =

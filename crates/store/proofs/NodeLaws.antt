@@ -114,7 +114,8 @@ nodes-kept (x ∷ xs) n t =
 -- The loop of `store_nodes`
 
 -- the nodes of the tokens from place i of the line l on, behind a bracket where b holds, leave of s what is left in all
-pub record Storing (at : List ℕ → ℕ) (all : NodeTable) (l : List ℕ) (i : ℕ) (b : Bool) (n : ℕ) (t : List ℕ) : Type 0 where
+pub record Storing (at : List ℕ → ℕ) (all : NodeTable) (l : List ℕ) (i : ℕ) (b : Bool) (n : ℕ) (t : List ℕ)
+    : Type 0 where
   pub all-are : all ≡ withNodes (nodeTable n t) (nodesFrom at b (tokens (drop i l)))
 
 pub storing-none : (at : List ℕ → ℕ) (l : List ℕ) (i n : ℕ) (t : List ℕ)

@@ -94,23 +94,25 @@ module _ {l : List ℕ} {x : Form} {c : Case} {y : Line} (s : Storable l x c y) 
           let room = clause-room q in
           record {
             kept =
-                lent-same (rw (d .table-is) (sets-kept clauseSize (_ ∷ (_ ∷ (_ ∷ []))) cl (3 * c .clauses) (omega arith))) (kept-refl _ co)
-                (kept-refl _ fo) (kept-refl _ na);
+                lent-same
+                (rw (d .table-is) (sets-kept clauseSize (_ ∷ (_ ∷ (_ ∷ []))) cl (3 * c .clauses) (omega arith)))
+                (kept-refl _ co) (kept-refl _ fo) (kept-refl _ na);
             held = λ st h known.
                 rw (f .line-is)
                 (clause-held st c _ h long (f .literals) (i (f .literals) (f .literals-are)) k (slice a e l)
                 (rw (f .line-is) at known) room d);
           }
 
-      pub never-stored : {m : Masks} {u : List ℕ} → x ≡ Never at → MasksOf l at na (c .atoms) m → ConstraintStored m c co r u
-          → StoredAs y c (lent cl co fo na) r (lent cl u fo na)
+      pub never-stored : {m : Masks} {u : List ℕ} → x ≡ Never at → MasksOf l at na (c .atoms) m
+          → ConstraintStored m c co r u → StoredAs y c (lent cl co fo na) r (lent cl u fo na)
       unfolding saidBy
       never-stored q i d =
           let f = form-told q in
           let room = never-room q in
           record {
             kept =
-                lent-same (kept-refl _ cl) (rw (d .table-is) (sets-kept constraintSize (_ ∷ (_ ∷ [])) co (2 * c .constraints) (omega arith)))
+                lent-same (kept-refl _ cl)
+                (rw (d .table-is) (sets-kept constraintSize (_ ∷ (_ ∷ [])) co (2 * c .constraints) (omega arith)))
                 (kept-refl _ fo) (kept-refl _ na);
             held = λ st h known.
                 rw (f .line-is)

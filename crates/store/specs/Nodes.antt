@@ -1,7 +1,7 @@
 -- The nodes of a formula by a lookup of names, as they stand in a line and in a table.
 --
---   nodesFrom at b ts    the nodes of the words of the tokens ts, by the lookup at: a word behind an opening bracket, as
---                        the first where b holds, is a form's, any other a name
+--   nodesFrom at b ts    the nodes of the words of the tokens ts, by the lookup at: a word behind an opening bracket,
+--                        as the first where b holds, is a form's, any other a name
 --   NodeTable            a table and how many nodes it has
 --   withNodes s xs       s with the nodes xs behind the others, as far as there is room
 use mathlib.Core.Bool.{Bool, true, false}

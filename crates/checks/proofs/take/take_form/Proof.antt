@@ -56,7 +56,8 @@ returns-3 c =
     let n = named (d .before) in
     let t = passed n .before in
     form-taken (entry t .pre .2) (t .before .brings .ensures) (t .text-refusal .ensures) (passed n .if1 .left) _
-    (entry t .pre .0) (n .intern-line .ensures) (d .before .room-refusal .ensures) (d .if2 .left) (s .store-form .ensures)
+    (entry t .pre .0) (n .intern-line .ensures) (d .before .room-refusal .ensures) (d .if2 .left)
+    (s .store-form .ensures)
 
 pub take-form-spec : {M : Type 1} → statement M
 take-form-spec =

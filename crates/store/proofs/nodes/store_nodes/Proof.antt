@@ -1,5 +1,5 @@
--- `nodes::store_nodes` meets its contract. The invariant is `Storing`: the nodes of the words from place i on are left to
--- store. The measure is what is left of the line. Assumes nothing.
+-- `nodes::store_nodes` meets its contract. The invariant is `Storing`: the nodes of the words from place i on are left
+-- to store. The measure is what is left of the line. Assumes nothing.
 use mathlib.Core.Path.{_≡_}
 use mathlib.Core.Bool.{false}
 use Prim.Native.Nat.{_-_}
