@@ -17,6 +17,7 @@ use Rattle.names.specs.Names.{atomOf, withNames}
 use Rattle.names.proofs.Adding.{with-names-append, with-names-atom}
 use Rattle.store.specs.Saying.{Said, nothingSaid, someOn, atomsBy, orAtoms, renamed, saidBy}
 use Rattle.store.proofs.Encoded.{Known}
+use Rattle.store.proofs.Saying.{said-names}
 use Rattle.store.proofs.Lookups.{Agree, on-same, atoms-same, encoded-same}
 use Rattle.checks.specs.Checks.{saidWith, lineRefusal, saidAfter}
 use Rattle.checks.proofs.Passing.{line-passes}
@@ -27,15 +28,6 @@ use Rattle.reader.proofs.FilledTables.{rowClause, rowBody}
 use Rattle.reader.proofs.WellFormedLines.{line-known}
 
 -- The names
-
-said-names : (st : Said) (x : Line) → saidBy st x .names ≡ st .names
-unfolding saidBy
-said-names st Line.skipped = refl
-said-names st Line.noForm = refl
-said-names st (Line.clause k w l) = refl
-said-names st (Line.never l) = refl
-said-names st (Line.seen x) = refl
-said-names st (Line.query f) = refl
 
 after-names : (st : Said) (l : List ℕ) → saidAfter st l .names ≡ withNames (st .names) (namesOf l)
 unfolding saidAfter namesOf withNames
