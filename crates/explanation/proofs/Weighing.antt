@@ -55,7 +55,7 @@ pub record Weighed (w left weight : ℕ) (t : List ℕ) : Type 0 where
   pub size : length t ≡ 64
   pub few : weight * settingsOf left ≤ 59049
   pub passed : (a : ℕ) → BitOf w a → has left a ≡ false → getD t a 0 ≡ weightIn (atomsIn w) a
-  pub to-come : (a : ℕ) → BitOf left a → weightIn (atomsIn w) a ≡ weight * weightIn (atomsIn left) a
+  to-come : (a : ℕ) → BitOf left a → weightIn (atomsIn w) a ≡ weight * weightIn (atomsIn left) a
 
 pub weighed-start : (w : ℕ) (t : List ℕ) → w < 2 ^ 64 → ones w ≤ 10 → length t ≡ 64 → Weighed w w 1 t
 weighed-start w t h k e = record {

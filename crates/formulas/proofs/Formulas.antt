@@ -37,7 +37,7 @@ depth-le-bytes r = omega (arith, depth-le-size (r .sentence), r .room, r .depth-
 pub found-as : {l : List ℕ} {at : ℕ} {r s : Next} → Found l at r → r ≡ s → Found l at s
 found-as t e = subst (Found _ _) e t
 
-pub head-as : (l : List ℕ) (at : ℕ) {r s : Head} → HeadAt l at r → r ≡ s → HeadAt l at s
+head-as : (l : List ℕ) (at : ℕ) {r s : Head} → HeadAt l at r → r ≡ s → HeadAt l at s
 head-as l at t e = subst (HeadAt l at) e t
 
 pub parsed-as : (l : List ℕ) (at : ℕ) {r s : Parse} → Parsed l at r → r ≡ s → Parsed l at s

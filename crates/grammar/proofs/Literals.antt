@@ -211,7 +211,7 @@ counted-none {l} {at} {k} h =
     record { within = h; few = omega arith; fits = fits-none k (bodyIn (tokens (drop at l))) }
 
 -- what a match tells of the literal that was found
-pub literal-as : {ts : List Token} {l : List ℕ} {at : ℕ} {r q : Lit} → LiteralIn ts l at r → r ≡ q
+literal-as : {ts : List Token} {l : List ℕ} {at : ℕ} {r q : Lit} → LiteralIn ts l at r → r ≡ q
     → LiteralIn ts l at q
 literal-as {ts} {l} {at} f e = subst (LiteralIn ts l at) e f
 

@@ -111,7 +111,7 @@ unfolding valueOf
 and-if-mono v w true f g h k = lesser-mono h k
 and-if-mono v w false f g h k = h
 
-pub literals-mono : (v w : ℕ → Value) (p n k : ℕ) → ((a : ℕ) → a < k → Leq (v a) (w a))
+literals-mono : (v w : ℕ → Value) (p n k : ℕ) → ((a : ℕ) → a < k → Leq (v a) (w a))
     → Leq (valueOf v (literalsBelow p n k)) (valueOf w (literalsBelow p n k))
 unfolding valueOf literalsBelow
 literals-mono v w p n zero h = leq-refl _

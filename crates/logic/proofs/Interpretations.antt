@@ -55,7 +55,7 @@ same-in-refl i j e =
 pub nothing-at : (a : ℕ) → valueAt nothing a ≡ Unknown
 nothing-at a = ap₂ among (has-zero a) (has-zero a)
 
-pub apart-at : (i : Interpretation) → Disjoint i → (a : ℕ) → (has (i .trues) a && has (i .falses) a) ≡ false
+apart-at : (i : Interpretation) → Disjoint i → (a : ℕ) → (has (i .trues) a && has (i .falses) a) ≡ false
 apart-at i d a = sym (has-and (i .trues) (i .falses) a) ∙ ap (λ (w : ℕ). has w a) d ∙ has-zero a
 
 pub true-at : (i : Interpretation) (a : ℕ) → isTrue (valueAt i a) ≡ has (i .trues) a
@@ -129,13 +129,13 @@ module _ (q : Value → Bool) (v : ℕ → Value) (w : ℕ) (a : ℕ) (x : Value
   without-pick e false y = and-true (q y)
 
   -- where x passes, it has one atom more
-  pub assigned-more : q x ≡ true → bitOr w (2 ^ a) ≡ word 64 (λ b. q (assigned v a x b))
+  assigned-more : q x ≡ true → bitOr w (2 ^ a) ≡ word 64 (λ b. q (assigned v a x b))
   assigned-more e =
       is-word 64 _ (λ b. q (assigned v a x b)) (or-one-lt 64 w a fits l)
       (λ b m. has-or-one w a b ∙ ap (λ (t : Bool). t || eqb b a) (bits b) ∙ or-pick e (eqb b a) (v b))
 
   -- where x fails, one less
-  pub assigned-less : q x ≡ false → bitAnd w (2 ^ 64 - 1 - 2 ^ a) ≡ word 64 (λ b. q (assigned v a x b))
+  assigned-less : q x ≡ false → bitAnd w (2 ^ 64 - 1 - 2 ^ a) ≡ word 64 (λ b. q (assigned v a x b))
   assigned-less e =
       is-word 64 _ (λ b. q (assigned v a x b)) (without-one-lt 64 w a fits)
       (λ b m. has-without-one 64 w a b l m ∙ ap (λ (t : Bool). t && not (eqb b a)) (bits b)
@@ -190,17 +190,17 @@ module _ (i j : Interpretation) where
       same-bits (has (i .trues) a) (has (j .trues) a) (has (i .falses) a) (has (j .falses) a) (sym (has-changed a) ∙ e)
 
   module _ (g : Good i) (h : Good j) where
-    pub changed-lt : changed i j < 2 ^ 64
+    changed-lt : changed i j < 2 ^ 64
     changed-lt =
         or-lt 64 _ _ (xor-lt 64 _ _ (g .trues-fit) (h .trues-fit)) (xor-lt 64 _ _ (g .falses-fit) (h .falses-fit))
 
-    pub changed-none : changed i j ≡ 0 → i ≡ j
+    changed-none : changed i j ≡ 0 → i ≡ j
     changed-none e =
         sym (of-values-at i g)
         ∙ values-ext (valueAt i) (valueAt j) (λ a l. unchanged-at a (ap (λ (w : ℕ). has w a) e ∙ has-zero a))
         ∙ of-values-at j h
 
-pub changed-self : (i : Interpretation) → Good i → changed i i ≡ 0
+changed-self : (i : Interpretation) → Good i → changed i i ≡ 0
 changed-self i g =
     has-ext 64 _ 0 (changed-lt i i g g) (lit< tt)
     (λ a l. has-changed i i a ∙ ap₂ _||_ (none (has (i .trues) a)) (none (has (i .falses) a)) ∙ sym (has-zero a))

@@ -27,7 +27,7 @@ of-rank False = refl
 of-rank Unknown = refl
 of-rank True = refl
 
-pub rank-inj : (v w : Value) → rank v ≡ rank w → v ≡ w
+rank-inj : (v w : Value) → rank v ≡ rank w → v ≡ w
 rank-inj v w e = sym (of-rank v) ∙ ap ofRank e ∙ of-rank w
 
 abbrev pub sameValue : Value → Value → Bool
@@ -135,7 +135,7 @@ equivalent-self False = refl
 equivalent-self Unknown = refl
 equivalent-self True = refl
 
-pub equivalent-test : (v w : Value) → isTrue (equivalent v w) ≡ sameValue v w
+equivalent-test : (v w : Value) → isTrue (equivalent v w) ≡ sameValue v w
 equivalent-test v w =
     beq-eq _ _ (every-at₂ (λ (x y : Value). Bool·beq (isTrue (equivalent x y)) (sameValue x y)) tt v w)
 

@@ -43,7 +43,7 @@ same-row {v} {w} g h =
 -- Holds
 
 module _ {ns : List (List ℕ)} {t : List ℕ} (h : Holds ns t) (k : nameSize ≤ length t) where
-  pub held-row : (i : ℕ) → i < 64 → rowAt t i ≡ padded 16 (getD ns i [])
+  held-row : (i : ℕ) → i < 64 → rowAt t i ≡ padded 16 (getD ns i [])
   held-row i l = ap (slice (i * 16) (i * 16 + 16)) (h .table-is) ∙ filled-row ns t i k l
 
   module _ {w : List ℕ} (g : Named w) where

@@ -29,7 +29,7 @@ module _ (w : List ℕ) (ws : List (List ℕ)) where
   unfolding someLong
   some-long-later h = rw (le-ltb 16 (length w) h)
 
-  pub some-long-none : someLong (w ∷ ws) ≡ false → (length w ≤ 16) × (someLong ws ≡ false)
+  some-long-none : someLong (w ∷ ws) ≡ false → (length w ≤ 16) × (someLong ws ≡ false)
   some-long-none h =
       by-test
       (ltb 16 (length w))

@@ -12,25 +12,25 @@ use borrow.Author.Tests.{lt-ltb, le-ltb}
 use Rattle.output.specs.Decimal.{digitByte, lead, decimalWithin, decimal}
 
 -- a number of one digit, or the digits in front of its last
-pub one-or-more : (n : ℕ) → (n < 10) ⊎ (10 ≤ n)
+one-or-more : (n : ℕ) → (n < 10) ⊎ (10 ≤ n)
 one-or-more n = ⊎-elim (λ e. inl (omega arith)) (λ h. inr (omega arith)) (eq-zero-or-pos (n / 10))
 
-pub front-below : (k n : ℕ) → n < 10 ^ suc k → n / 10 < 10 ^ k
+front-below : (k n : ℕ) → n < 10 ^ suc k → n / 10 < 10 ^ k
 front-below k n h = div-lt-iff-lt-mul {k = 10} (omega arith) .1 (rw pow-suc at h)
 
 -- decimalWithin
 
-pub within-one : (k n : ℕ) → n < 10 → decimalWithin k n ≡ digitByte (n % 10) ∷ []
+within-one : (k n : ℕ) → n < 10 → decimalWithin k n ≡ digitByte (n % 10) ∷ []
 unfolding decimalWithin
 within-one zero n h = refl
 within-one (suc k) n h = rw (lt-ltb n 10 h)
 
-pub within-more : (k n : ℕ) → 10 ≤ n → decimalWithin (suc k) n ≡ decimalWithin k (n / 10) ++ (digitByte (n % 10) ∷ [])
+within-more : (k n : ℕ) → 10 ≤ n → decimalWithin (suc k) n ≡ decimalWithin k (n / 10) ++ (digitByte (n % 10) ∷ [])
 unfolding decimalWithin
 within-more k n h = rw (le-ltb n 10 h)
 
 -- the limit does not change the digits of a number that has no more of them
-pub within-enough : (k n : ℕ) → n < 10 ^ suc k → decimalWithin (suc k) n ≡ decimalWithin k n
+within-enough : (k n : ℕ) → n < 10 ^ suc k → decimalWithin (suc k) n ≡ decimalWithin k n
 unfolding decimalWithin
 within-enough zero n h = rw (lt-ltb n 10 h)
 within-enough (suc k) n h = rw (within-enough k (n / 10) (front-below (suc k) n h))
@@ -39,12 +39,12 @@ lead-length : (t : Bool) (l : List ℕ) (d k : ℕ) → length l ≤ k → lengt
 lead-length true l d k h = omega arith
 lead-length false l d k h = rw length-append (omega arith)
 
-pub within-length : (k n : ℕ) → length (decimalWithin k n) ≤ suc k
+within-length : (k n : ℕ) → length (decimalWithin k n) ≤ suc k
 unfolding decimalWithin
 within-length zero n = omega arith
 within-length (suc k) n = lead-length (ltb n 10) _ (n % 10) (suc k) (within-length k (n / 10))
 
-pub within-short : (j k n : ℕ) → n < 10 ^ suc k → length (decimalWithin j n) ≤ suc k
+within-short : (j k n : ℕ) → n < 10 ^ suc k → length (decimalWithin j n) ≤ suc k
 unfolding decimalWithin
 within-short j zero n h = rw (within-one j n h) (omega arith)
 within-short zero (suc k) n h = omega (arith, within-length zero n)

@@ -12,12 +12,12 @@ use Rattle.output.specs.Writing.{laid, Writes, Room}
 
 -- laid
 
-pub laid-append : (out : List ℕ) (at : ℕ) (s u : List ℕ) → laid out at (s ++ u) ≡ laid (laid out at s) (at + length s) u
+laid-append : (out : List ℕ) (at : ℕ) (s u : List ℕ) → laid out at (s ++ u) ≡ laid (laid out at s) (at + length s) u
 unfolding laid
 laid-append out at [] u = rw (add-zero at)
 laid-append out at (b ∷ s) u = rw (add-suc, ← suc-add) (laid-append (set out at b) (suc at) s u)
 
-pub laid-length : (out : List ℕ) (at : ℕ) (s : List ℕ) → length (laid out at s) ≡ length out
+laid-length : (out : List ℕ) (at : ℕ) (s : List ℕ) → length (laid out at s) ≡ length out
 unfolding laid
 laid-length out at [] = refl
 laid-length out at (b ∷ s) = laid-length (set out at b) (suc at) s ∙ length-set out at b

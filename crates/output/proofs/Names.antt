@@ -20,15 +20,15 @@ module _ (t : List ℕ) (a : ℕ) where
   pub row-at : (i : ℕ) → i < 16 → getD (rowOf t a) i 0 ≡ getD t (16 * a + i) 0
   row-at i h = getD-take 16 (drop (16 * a) t) i 0 h ∙ getD-drop (16 * a) t i 0
 
-  pub row-length : 16 * a + 16 ≤ length t → length (rowOf t a) ≡ 16
+  row-length : 16 * a + 16 ≤ length t → length (rowOf t a) ≡ 16
   row-length h = length-take-le 16 (drop (16 * a) t) (rw length-drop (omega arith))
 
 -- the first i bytes of row a of t are written, and the name is these and what stands before the first zero behind them
 pub record Naming (t : List ℕ) (a : ℕ) (out : List ℕ) (at i place : ℕ) (out₁ : List ℕ) : Type 0 where
   pub within : i ≤ 16
-  pub whole-row : 16 * a + 16 ≤ length t
+  whole-row : 16 * a + 16 ≤ length t
   pub writes : Writes (take i (rowOf t a)) out at place out₁
-  pub name-is : nameIn t a ≡ take i (rowOf t a) ++ beforeZero (drop i (rowOf t a))
+  name-is : nameIn t a ≡ take i (rowOf t a) ++ beforeZero (drop i (rowOf t a))
 
 pub naming-none : {t : List ℕ} {a : ℕ} {out : List ℕ} {at : ℕ} → 16 * a + 16 ≤ length t → Naming t a out at 0 at out
 naming-none {t} {a} {out} {at} h = record {

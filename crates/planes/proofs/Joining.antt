@@ -25,8 +25,8 @@ use Rattle.planes.proofs.Choosing.{or-move, or-front, missed-move}
 module _ (t f : List ℕ) (w : ℕ) (b : Lanes) where
   -- the value joined so far and the atoms left are all
   pub record Joining (left up down : ℕ) : Type 0 where
-    pub trues-all : (j : ℕ) → (someMissing t left j || not (has up j)) ≡ (someMissing t w j || not (has (b .trues) j))
-    pub falses-all : (j : ℕ) → (somePresent f left j || has down j) ≡ (somePresent f w j || has (b .falses) j)
+    trues-all : (j : ℕ) → (someMissing t left j || not (has up j)) ≡ (someMissing t w j || not (has (b .trues) j))
+    falses-all : (j : ℕ) → (somePresent f left j || has down j) ≡ (somePresent f w j || has (b .falses) j)
 
   pub joining-start : Joining w (b .trues) (b .falses)
   joining-start = record { trues-all = λ j. refl; falses-all = λ j. refl }

@@ -74,7 +74,7 @@ module _ (t : List ℕ) (w h : ℕ) where
   }
 
 -- ---- the dependents of an atom
-pub dependents-lt : (cl : List ℕ) (n i : ℕ) → dependentsOf cl n i < 2 ^ 64
+dependents-lt : (cl : List ℕ) (n i : ℕ) → dependentsOf cl n i < 2 ^ 64
 unfolding dependentsOf
 dependents-lt cl n i = word-lt 64 _
 

@@ -19,7 +19,7 @@ use Rattle.prepared.specs.Chains.{ruleFor, lastOf, ruleValue, rulesValue
 -- ---- the last rule
 module _ (cl : List ℕ) (a : ℕ) where
   -- the number that it has is a rule's
-  pub last-rule : (m j : ℕ) → lastOf cl a m ≡ suc j → (ruleFor cl a j ≡ true) × (suc j ≤ m)
+  last-rule : (m j : ℕ) → lastOf cl a m ≡ suc j → (ruleFor cl a j ≡ true) × (suc j ≤ m)
   unfolding lastOf
   last-rule zero j e = absurd (omega arith)
   last-rule (suc m) j e = go (last-rule m j) (ruleFor cl a m) refl e

@@ -26,7 +26,7 @@ count-cons x a l e = go (odd x) refl
     go true p = rw p (omega (arith, ones-step x, eqb-true (x % 2) 1 p))
     go false p = rw p (omega (arith, ones-step x, eqb-false (x % 2) 1 p))
 
-pub atoms-count : (w a n : ℕ) → w / 2 ^ a < 2 ^ n → length (atomsFrom w a n) ≡ ones (w / 2 ^ a)
+atoms-count : (w a n : ℕ) → w / 2 ^ a < 2 ^ n → length (atomsFrom w a n) ≡ ones (w / 2 ^ a)
 unfolding atomsFrom has
 atoms-count w a zero h = omega (arith, ones-le 0 (w / 2 ^ a) h)
 atoms-count w a (suc n) h =

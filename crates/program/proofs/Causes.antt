@@ -20,11 +20,11 @@ use Rattle.program.specs.Cause.{causesAmong, causesOf}
 abbrev isCause : ℕ → ℕ → ℕ → Bool
 isCause n heads a = ltb a n && not (has heads a)
 
-pub causes-has : (n heads a : ℕ) → a < 64 → has (causesAmong n heads) a ≡ (ltb a n && not (has heads a))
+causes-has : (n heads a : ℕ) → a < 64 → has (causesAmong n heads) a ≡ (ltb a n && not (has heads a))
 unfolding causesAmong
 causes-has n heads a l = has-word 64 (isCause n heads) a l
 
-pub causes-lt : (n heads : ℕ) → n ≤ 64 → causesAmong n heads < 2 ^ n
+causes-lt : (n heads : ℕ) → n ≤ 64 → causesAmong n heads < 2 ^ n
 unfolding causesAmong
 causes-lt n heads h =
     lt-of-bits 64 n (causesAmong n heads) h (word-lt 64 (isCause n heads))

@@ -76,7 +76,7 @@ module _ (w a : ℕ) (h : LowestOf w a) (d : ℕ) (z : eqb 0 d ≡ false) where
   word-kept s e = word-lowest s ∙ ap (λ (t : Bool). withBit t (digitWord (withoutBit w a) (s / 3) d) a) e
 
 -- ---- what a setting adds, where a is the lowest cause
-pub additions-lowest : (w a s : ℕ) → LowestOf w a
+additions-lowest : (w a s : ℕ) → LowestOf w a
     → additionsOf w s ≡ withDigit (additionsOf (withoutBit w a) (s / 3)) a (s % 3)
 unfolding additionsOf
 additions-lowest w a s h =
@@ -86,11 +86,11 @@ additions-lowest w a s h =
     λ i. record { facts = p i; assumptions = q i }
 
 module _ (w a s : ℕ) (h : LowestOf w a) where
-  pub facts-lowest : has (additionsOf w s .facts) a ≡ eqb (s % 3) 1
+  facts-lowest : has (additionsOf w s .facts) a ≡ eqb (s % 3) 1
   unfolding additionsOf
   facts-lowest = word-here w a h 1 refl s
 
-  pub assumptions-lowest : has (additionsOf w s .assumptions) a ≡ eqb (s % 3) 2
+  assumptions-lowest : has (additionsOf w s .assumptions) a ≡ eqb (s % 3) 2
   unfolding additionsOf
   assumptions-lowest = word-here w a h 2 refl s
 

@@ -141,15 +141,15 @@ module _ (c : Case) (h : limitsHold c ≡ true) where
   unfolding Seven
   limits-atoms = (leb-true 1 (c .atoms) (limits .2), leb-true (c .atoms) 64 (limits .3))
 
-  pub limits-clauses : c .clauses ≤ 256
+  limits-clauses : c .clauses ≤ 256
   unfolding Seven
   limits-clauses = leb-true (c .clauses) 256 (limits .4)
 
-  pub limits-constraints : c .constraints ≤ 32
+  limits-constraints : c .constraints ≤ 32
   unfolding Seven
   limits-constraints = leb-true (c .constraints) 32 (limits .5)
 
-  pub limits-nodes : c .nodes ≤ 128
+  limits-nodes : c .nodes ≤ 128
   unfolding Seven
   limits-nodes = leb-true (c .nodes) 128 (limits .6)
 

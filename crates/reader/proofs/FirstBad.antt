@@ -118,7 +118,7 @@ case-refused : (st : Said) (n k : ℕ) → Outcome.case st ≡ Outcome.refused n
 case-refused st n k e = let z : _≡_ {A = ℕ} 0 1 = cc in omega arith
 
 -- an accepted end says what was read, and none of its checks fails
-pub ending-said : (st s : Said) → ending st ≡ Outcome.case s → (endRefusal st ≡ 0) × (st ≡ s)
+ending-said : (st s : Said) → ending st ≡ Outcome.case s → (endRefusal st ≡ 0) × (st ≡ s)
 unfolding ending
 ending-said st s e =
     or-else-cases (endRefusal st) 0 _ _ e (λ q d. (q, cc)) (λ n q d. absurd (case-refused s _ _ (sym d)))

@@ -129,7 +129,7 @@ module _ (m n : ℕ) (h : m ≤ n) where
   query-mono f r =
       record { over-atoms = over-mono m n h f (r .over-atoms); not-deep = r .not-deep; nodes-few = r .nodes-few }
 
-pub names-formed : (ns ws : List (List ℕ)) → NamesFormed ns → Each IsName ws → length (withNames ns ws) ≤ 64
+names-formed : (ns ws : List (List ℕ)) → NamesFormed ns → Each IsName ws → length (withNames ns ws) ≤ 64
     → NamesFormed (withNames ns ws)
 names-formed ns ws r k few = record {
   rows = record { few = few; each = with-names-each IsName ns ws (r .rows .each) k };

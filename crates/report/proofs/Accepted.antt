@@ -84,28 +84,28 @@ module _ (f : List ℕ) (st : Said) (e : readFile f ≡ Outcome.case st) where
       )
       at (accepted-sound f st zeros zeros-fit e)
 
-  pub said-named : (a : ℕ) → Named (nameOf st a)
+  said-named : (a : ℕ) → Named (nameOf st a)
   said-named = every-named (st .names) (λ a h.
       let n = accepted-names f st e .are-names a h in
       record { short = n .short; no-zero = no-zero (nameOf st a) (n .word-bytes) })
 
-  pub said-table : (a : ℕ) → a < 64 → nameIn (padded 1024 (rowsOf (st .names))) a ≡ nameOf st a
+  said-table : (a : ℕ) → a < 64 → nameIn (padded 1024 (rowsOf (st .names))) a ≡ nameOf st a
   said-table = table-name (st .names) (λ a h. said-named a)
 
-  pub said-settings : settingsIn (caseSaid st) (clauseTable st) ≤ 59049
+  said-settings : settingsIn (caseSaid st) (clauseTable st) ≤ 59049
   said-settings = settings-few (caseSaid st) (clauseTable st) (constraintTable st) (formulaTable st) said-sound
 
-  pub said-causes : length (atomsIn (causesIn st)) ≤ 10
+  said-causes : length (atomsIn (causesIn st)) ≤ 10
   said-causes =
       rw (causes-counted (causesIn st) (causes-fit (caseSaid st) _ _ _ said-sound))
       (sound-few (caseSaid st) _ _ _ said-sound)
 
-  pub said-rounds : roundsOf st ≤ 3779136
+  said-rounds : roundsOf st ≤ 3779136
   said-rounds =
       let a = sound-atoms (caseSaid st) _ _ _ said-sound .1 in
       omega (arith, rounds-bounded (caseSaid st) _ _ _ said-sound, mul-le-mul said-settings a)
 
-  pub said-minimals : length (minimalsOf st) ≤ 59049
+  said-minimals : length (minimalsOf st) ≤ 59049
   said-minimals =
       let n = settingsIn (caseSaid st) (clauseTable st) in
       let l = minimals-le (judgeIn st) (choicesIn (caseSaid st) (clauseTable st)) n in

@@ -40,7 +40,7 @@ module _ (cl : List ℕ) (n heads : ℕ) (t f : List ℕ) where
         → (has (c .atoms) a && at ut j a || fresh isTrue cl n left t f j a) ≡ fresh isTrue cl n heads t f j a
     pub downs : (j a : ℕ) → j < 64 → a < 64
         → (has (c .atoms) a && at uf j a || fresh isFalse cl n left t f j a) ≡ fresh isFalse cl n heads t f j a
-    pub lanes-all : (j : ℕ) → j < 64
+    lanes-all : (j : ℕ) → j < 64
         → (any 64 (fresh isDecided cl n left t f j) || has (c .lanes) j) ≡ any 64 (fresh isDecided cl n heads t f j)
 
   pub deciding-start : (ut uf : List ℕ) → Sizes ut uf → Deciding ut uf (record { lanes = 0; atoms = 0 }) heads
@@ -66,7 +66,7 @@ module _ (cl : List ℕ) (n heads : ℕ) (t f : List ℕ) where
         ap₂ (λ (y z : Bool). y || z && x) here (without-here left a b) ∙ or-false x
         ∙ sym (ap₂ (λ (y z : Bool). y && at u j a || z && x) e (b .there))
 
-    pub plane-next : (i : ℕ) → i < 64 → (has (r .atoms) i && at u₁ j i || fresh q cl n (withoutBit left a) t f j i)
+    plane-next : (i : ℕ) → i < 64 → (has (r .atoms) i && at u₁ j i || fresh q cl n (withoutBit left a) t f j i)
         ≡ (has (c .atoms) i && at u j i || fresh q cl n left t f j i)
     plane-next i m = go (eqb i a) refl
       where

@@ -37,7 +37,7 @@ module _ (p q : List Clause) (same : (v : ℕ → Value) (a : ℕ) → a < 64 �
   unfolding roundCount
   count-alike = λ i. first roundLimit (λ k. sameIn (rounds-alike k i) (rounds-alike (suc k) i))
 
-  pub settled-alike : settled p ≡ settled q
+  settled-alike : settled p ≡ settled q
   unfolding settled
   settled-alike = λ i. record { interpretation = rounds-alike (count-alike i) i; rounds = count-alike i }
 

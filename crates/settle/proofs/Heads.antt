@@ -39,7 +39,7 @@ module _ (n : ℕ) (p : List Clause) (b : HeadsBelow n p) where
   pub heads-below-lt : (a : ℕ) → hasSome (bodiesOf p a) ≡ true → a < n
   heads-below-lt = passes-lt (λ a. hasSome (bodiesOf p a)) n (λ a l. ap hasSome (b a l))
 
-  pub next-above : (v : ℕ → Value) (a : ℕ) → n ≤ a → nextValue p v a ≡ Unknown
+  next-above : (v : ℕ → Value) (a : ℕ) → n ≤ a → nextValue p v a ≡ Unknown
   unfolding nextValue
   next-above v a l = given-none v (bodiesOf p a) (ap hasSome (b a l))
 
@@ -58,14 +58,14 @@ module _ (n : ℕ) (p : List Clause) (b : HeadsBelow n p) where
       (next-within m isTrue refl v, next-within m isFalse refl v)
 
 -- ---- programs whose heads are below n
-pub heads-below-append : (n : ℕ) (p q : List Clause) → HeadsBelow n p → HeadsBelow n q → HeadsBelow n (p ++ q)
+heads-below-append : (n : ℕ) (p q : List Clause) → HeadsBelow n p → HeadsBelow n q → HeadsBelow n (p ++ q)
 heads-below-append n p q b c a l = bodies-append p q a ∙ ap₂ _++_ (b a l) (c a l)
 
-pub heads-below-none : (n : ℕ) → HeadsBelow n []
+heads-below-none : (n : ℕ) → HeadsBelow n []
 unfolding bodiesOf
 heads-below-none n a l = refl
 
-pub heads-below-one : (n : ℕ) (c : Clause) → c .head < n → HeadsBelow n (c ∷ [])
+heads-below-one : (n : ℕ) (c : Clause) → c .head < n → HeadsBelow n (c ∷ [])
 unfolding bodiesOf
 heads-below-one n c h a l = ap (λ (t : Bool). consIf t (c .body) []) (ne-eqb a (c .head) (λ e. omega arith))
 

@@ -58,7 +58,7 @@ abbrev pub Kept : ℕ → List Clause → (ℕ → Value) → Type 0
 Kept n p v = (a : ℕ) → a < n → hasSome (bodiesOf p a) ≡ true → v a ≡ nextValue p v a
 
 module _ (p : List Clause) (v : ℕ → Value) where
-  pub model-kept : (n : ℕ) → Model n p v → Kept n p v
+  model-kept : (n : ℕ) → Model n p v → Kept n p v
   unfolding weakCompletion nextValue
   model-kept zero m a l = absurd (not-suc-le-zero l)
   model-kept (suc n) m a l =
@@ -69,14 +69,14 @@ module _ (p : List Clause) (v : ℕ → Value) where
       (λ (q : a < n). model-kept n (and-true-l _ (allTrue v (equivalenceOf n (bodiesOf p n))) e) a q)
       (eq-or-lt-of-le (le-of-suc-le-suc l))
 
-  pub kept-model : (n : ℕ) → Kept n p v → Model n p v
+  kept-model : (n : ℕ) → Kept n p v → Model n p v
   unfolding weakCompletion allTrue nextValue
   kept-model zero k = refl
   kept-model (suc n) k =
       all-append v (weakCompletion n p) (equivalenceOf n (bodiesOf p n))
       ∙ ap₂ _&&_ (kept-model n (λ a l. k a (omega arith))) (given-equivalence v n (bodiesOf p n) (k n (omega arith)))
 
-pub fixed-model : (n : ℕ) (p : List Clause) (i : Interpretation) → n ≤ 64 → i ≡ step p i → Model n p (valueAt i)
+fixed-model : (n : ℕ) (p : List Clause) (i : Interpretation) → n ≤ 64 → i ≡ step p i → Model n p (valueAt i)
 unfolding step
 fixed-model n p i m e =
     kept-model p (valueAt i) n
@@ -94,7 +94,7 @@ module _ (n : ℕ) (p : List Clause) (s : Steady p) (b : HeadsBelow n p) where
       (λ (e : hasSome (bodiesOf p a) ≡ false). rw (given-none w (bodiesOf p a) e) (leq-unknown (w a)))
       (true-or-false (hasSome (bodiesOf p a)))
 
-  pub rounds-contained : (w : ℕ → Value) → Model n p w → (k : ℕ) → Contained (valueAt (rounds p k)) w
+  rounds-contained : (w : ℕ → Value) → Model n p w → (k : ℕ) → Contained (valueAt (rounds p k)) w
   unfolding rounds step
   rounds-contained w m zero = nothing-contained w
   rounds-contained w m (suc k) = λ a.

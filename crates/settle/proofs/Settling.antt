@@ -57,7 +57,7 @@ module _ (p : List Clause) (s : Steady p) where
       (grow (rounds p k) (rounds p (suc k)) (rounds-good p k) (rounds-good p (suc k)) (rounds-rise p s k))
 
   -- from the round count on the rounds stay what they are
-  pub rounds-stay : (d : ℕ) → rounds p (roundCount p + d) ≡ rounds p (roundCount p)
+  rounds-stay : (d : ℕ) → rounds p (roundCount p + d) ≡ rounds p (roundCount p)
   unfolding rounds
   rounds-stay zero = let e : roundCount p + 0 ≡ roundCount p = omega arith in ap (rounds p) e
   rounds-stay (suc d) =

@@ -53,11 +53,11 @@ module _ (p : List Clause) (s : Steady p) where
       (lt-or-le a 64)
 
 -- ---- programs that are steady
-pub steady-none : Steady []
+steady-none : Steady []
 unfolding bodiesOf anyOf valueOf
 steady-none a v w h = leq-refl _
 
-pub steady-append : (p q : List Clause) → Steady p → Steady q → Steady (p ++ q)
+steady-append : (p q : List Clause) → Steady p → Steady q → Steady (p ++ q)
 steady-append p q s t a v w h =
     rw (bodies-append p q a, any-append v (bodiesOf p a) (bodiesOf q a), any-append w (bodiesOf p a) (bodiesOf q a))
     (greater-mono (s a v w h) (t a v w h))
@@ -67,7 +67,7 @@ unfolding anyOf valueOf
 cons-rises true f r v w h = greater-mono (r v w h) (leq-refl _)
 cons-rises false f r v w h = leq-refl _
 
-pub steady-one : (c : Clause) → Rises (c .body) → Steady (c ∷ [])
+steady-one : (c : Clause) → Rises (c .body) → Steady (c ∷ [])
 unfolding bodiesOf
 steady-one c r a = cons-rises (eqb a (c .head)) (c .body) r
 

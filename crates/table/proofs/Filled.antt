@@ -35,7 +35,7 @@ filled-again (suc n) (x ∷ l) [] (o ∷ old) = rw (filled-again n l [] old)
 filled-again (suc n) (x ∷ l) (y ∷ m) (o ∷ old) = rw (filled-again n l m old)
 
 -- an entry is stored behind l
-pub filled-push : (n : ℕ) (l old : List ℕ) (x : ℕ) → length l < n → n ≤ length old
+filled-push : (n : ℕ) (l old : List ℕ) (x : ℕ) → length l < n → n ≤ length old
     → set (filled n l old) (length l) x ≡ filled n (l ++ (x ∷ [])) old
 unfolding filled
 filled-push zero l old x h k = absurd (not-suc-le-zero h)
@@ -61,7 +61,7 @@ filled-at (suc n) (x ∷ l) (o ∷ old) zero h k = refl
 filled-at (suc n) (x ∷ l) (o ∷ old) (suc i) h k = filled-at n l old i (le-of-suc-le-suc h) (le-of-suc-le-suc k)
 
 -- what is filled, and what is kept behind it
-pub filled-parts : (n : ℕ) (l old : List ℕ) → n ≤ length old → filled n l old ≡ padded n l ++ drop n old
+filled-parts : (n : ℕ) (l old : List ℕ) → n ≤ length old → filled n l old ≡ padded n l ++ drop n old
 unfolding filled padded
 filled-parts zero l old h = refl
 filled-parts (suc n) l [] h = absurd (not-suc-le-zero h)

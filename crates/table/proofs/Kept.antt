@@ -28,7 +28,7 @@ module _ (n : ℕ) (t : List ℕ) {u : List ℕ} (h : u ≡ filled n u t) where
   kept-length = ap length h ∙ filled-length n u t
 
   -- what fills u fills t
-  pub filled-kept : (l : List ℕ) → filled n l u ≡ filled n l t
+  filled-kept : (l : List ℕ) → filled n l u ≡ filled n l t
   filled-kept l = ap (filled n l) h ∙ filled-again n l u t
 
   pub kept-trans : {v : List ℕ} → v ≡ filled n v u → v ≡ filled n v t
@@ -49,7 +49,7 @@ sets-kept n (v ∷ vs) t i h =
     kept-trans n t (set-kept n t i v (omega arith)) (sets-kept n vs (set t i v) (suc i) (omega arith))
 
 -- a table that was filled with l has l
-pub filled-has : (n : ℕ) (l t : List ℕ) {u : List ℕ} → u ≡ filled n l t → u ≡ filled n l u
+filled-has : (n : ℕ) (l t : List ℕ) {u : List ℕ} → u ≡ filled n l t → u ≡ filled n l u
 filled-has n l t e = e ∙ sym (ap (filled n l) e ∙ filled-again n l l t)
 
 -- stores behind the entries l of a table

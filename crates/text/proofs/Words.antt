@@ -47,7 +47,7 @@ tokens-from-bytes w (b ∷ l) h =
     (λ t. tokens-from-bytes (w ++ (b ∷ [])) l (all-push isWordByte w b h t))
     (λ _. ended-bytes w _ h (bracket-bytes b _ (tokens-from-bytes [] l refl)))
 
-pub tokens-word-bytes : (l : List ℕ) → WordBytes (tokens l)
+tokens-word-bytes : (l : List ℕ) → WordBytes (tokens l)
 unfolding allOf
 tokens-word-bytes l = tokens-from-bytes [] l refl
 

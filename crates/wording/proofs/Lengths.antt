@@ -21,15 +21,15 @@ verdict-word-length Follows = omega arith
 verdict-word-length Denied = omega arith
 verdict-word-length Open = omega arith
 
-pub verdict-line-length : (v : Verdict) → length (verdictLine v) ≤ 22
+verdict-line-length : (v : Verdict) → length (verdictLine v) ≤ 22
 unfolding verdictLine
 verdict-line-length v = rw (line-length, spaced-one) (omega (arith, verdict-word-length v))
 
-pub rounds-line-length : (n : ℕ) → n < 10 ^ 7 → length (roundsLine n) ≤ 17
+rounds-line-length : (n : ℕ) → n < 10 ^ 7 → length (roundsLine n) ≤ 17
 unfolding roundsLine
 rounds-line-length n h = rw (line-length, spaced-one) (omega (arith, decimal-short 6 n h))
 
-pub minimal-line-length : (m w : ℕ) → m < 10 ^ 5 → w < 10 ^ 4 → length (minimalLine m w) ≤ 21
+minimal-line-length : (m w : ℕ) → m < 10 ^ 5 → w < 10 ^ 4 → length (minimalLine m w) ≤ 21
 unfolding minimalLine
 minimal-line-length m w h k =
     rw (line-length, spaced-two) (omega (arith, decimal-short 4 m h, decimal-short 3 w k))
@@ -59,7 +59,7 @@ module _ (name : ℕ → List ℕ) (short : (a : ℕ) → length (name a) ≤ 16
     unfolding causeLine
     cause-line-length s = rw line-length (omega (arith, abducibles-length (atomsIn w) (digitsOf w s)))
 
-    pub cause-lines-length : (l : List ℕ) → length (causeLines name w l) ≤ 258 * length l
+    cause-lines-length : (l : List ℕ) → length (causeLines name w l) ≤ 258 * length l
     unfolding causeLines
     cause-lines-length [] = omega arith
     cause-lines-length (s ∷ l) =

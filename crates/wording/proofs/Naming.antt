@@ -21,11 +21,11 @@ module _ (f g : ℕ → List ℕ) (agree : (a : ℕ) → a < 64 → f a ≡ g a)
       ap₂ (withAbducible d) (agree a (h 0 (zero-lt-suc (length l))))
       (abducibles-alike l ds (λ i k. h (suc i) (omega arith)))
 
-  pub cause-line-alike : (w s : ℕ) → causeLine f w s ≡ causeLine g w s
+  cause-line-alike : (w s : ℕ) → causeLine f w s ≡ causeLine g w s
   unfolding causeLine
   cause-line-alike w s = rw (abducibles-alike (atomsIn w) (digitsOf w s) (atoms-below w))
 
-  pub cause-lines-alike : (w : ℕ) (l : List ℕ) → causeLines f w l ≡ causeLines g w l
+  cause-lines-alike : (w : ℕ) (l : List ℕ) → causeLines f w l ≡ causeLines g w l
   unfolding causeLines
   cause-lines-alike w [] = refl
   cause-lines-alike w (s ∷ l) = ap₂ _++_ (cause-line-alike w s) (cause-lines-alike w l)

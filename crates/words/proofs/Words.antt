@@ -82,7 +82,7 @@ zero-any k w h = go (any k (has w)) refl
         rw e
         (ne-eqb w 0 (λ q. false≢true (sym (all-false k (has w) (λ i l. ap (λ (x : ℕ). has x i) q ∙ has-zero i)) ∙ e)))
 
-pub zero-and : (k a b : ℕ) → a < 2 ^ k → eqb (bitAnd a b) 0 ≡ not (any k (λ i. has a i && has b i))
+zero-and : (k a b : ℕ) → a < 2 ^ k → eqb (bitAnd a b) 0 ≡ not (any k (λ i. has a i && has b i))
 zero-and k a b h =
     zero-any k (bitAnd a b) (lt-of-le-of-lt (and-le-l a b) h)
     ∙ ap not (any-ext k (has (bitAnd a b)) (λ i. has a i && has b i) (λ i l. has-and a b i))
