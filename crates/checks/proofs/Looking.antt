@@ -20,7 +20,7 @@ use Rattle.grammar.proofs.line.Form.{the-type}
 use Rattle.grammar.proofs.Spelling.{no-form-is}
 use Rattle.checks.specs.declared.look.Looked.the-variants as looked
 use Rattle.checks.specs.Checks.{lookRefusal}
-use Rattle.checks.specs.Looked.{Formed, LookedAs}
+use Rattle.checks.specs.Looked.{LookedAs}
 
 -- the tags of the forms other than NoForm
 abbrev others : List ℕ
@@ -63,7 +63,9 @@ module _ {l : List ℕ} where
         looked-form o =
             let other = sym (no-form-is (tokens l)) ∙ other-form l x _ o (f .form-is) in
             let is = not-false (isLine (lineOf (tokens l))) other in
-            let formed : Formed l x =
-            record { no-comment = sym c ∙ a; short = h; form-is = f .form-is; is-line = is }
-            in
-            record { told = (rw (le-leb _ _ h, sym c ∙ a, b, is), formed) }
+            record {
+              told = (
+                rw (le-leb _ _ h, sym c ∙ a, b, is),
+                record { no-comment = sym c ∙ a; short = h; form-is = f .form-is; is-line = is },
+              );
+            }

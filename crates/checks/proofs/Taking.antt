@@ -34,9 +34,9 @@ use Rattle.store.proofs.Held.{withAtomCount, queries-in, names-held, named-held
 use Rattle.checks.specs.declared.look.Looked.{Looked}
 use Rattle.checks.specs.declared.look.Looked.the-variants as looked
 use Rattle.checks.specs.declared.take.Taken.{Taken}
-use Rattle.checks.specs.Checks.{textChecks, roomChecks, saidWith, formRefusal, lineRefusal, saidAfter}
+use Rattle.checks.specs.Checks.{textChecks, roomChecks, formRefusal, lineRefusal, saidAfter}
 use Rattle.checks.specs.Looked.{Formed, Told, LookedAs}
-use Rattle.checks.specs.Took.{Took, TakenAs}
+use Rattle.checks.specs.Took.{Took, FormTaken, LineTaken}
 use Rattle.checks.proofs.Passing.{RoomPasses, textNumber, roomNumber, form-refusal-is, room-passes}
 use Rattle.checks.proofs.Passing.{text-passes}
 
@@ -63,7 +63,7 @@ module _ {l : List ℕ} {x : Form} (f : Formed l x) {b : Brings} (g : Brought x 
     text-number = rw brought at e
 
     pub text-refused : {c : Case} {t : Lent} → (k ≡ 0 → ⊥)
-        → TakenAs (λ st. formRefusal st (tokens l)) (λ st. saidWith st (tokens l)) c t (taken k c) t
+        → FormTaken l c t (taken k c) t
     text-refused {c} {t} z = record {
       kept = kept-refl-all t;
       took = λ st h.
@@ -98,8 +98,7 @@ module _ {l : List ℕ} {x : Form} (f : Formed l x) {b : Brings} (g : Brought x 
 
       module _ {j : ℕ} (d : j ≡ firstFailed (roomChecks n (c .clauses) (c .constraints) (queriesIn c) b)) where
         pub room-refused : (j ≡ 0 → ⊥)
-            → TakenAs (λ st. formRefusal st (tokens l)) (λ st. saidWith st (tokens l)) c (lent cl co fo na) (taken j c)
-            (lent cl co fo u)
+            → FormTaken l c (lent cl co fo na) (taken j c) (lent cl co fo u)
         room-refused y = record { kept = names-kept; took = λ st h. refused-took (form-number st h ∙ sym d) y }
 
         module _ (y : j ≡ 0) where
@@ -120,8 +119,7 @@ module _ {l : List ℕ} {x : Form} (f : Formed l x) {b : Brings} (g : Brought x 
 
           pub form-taken : {r : Case} {v : Lent}
               → StoredAs (lineOf (tokens l)) (withAtomCount c n) (lent cl co fo u) r v
-              → TakenAs (λ st. formRefusal st (tokens l)) (λ st. saidWith st (tokens l)) c (lent cl co fo na)
-              (taken 0 r) v
+              → FormTaken l c (lent cl co fo na) (taken 0 r) v
           form-taken {r} {v} s = record {
             kept = kept-trans-all _ _ names-kept v (s .kept);
             took = λ st h.
@@ -143,7 +141,7 @@ module _ {l : List ℕ} {r : Looked} (a : LookedAs l r) where
   looked-as e = subst (Told l) e (a .told)
 
   pub line-refused : {n : ℕ} {c : Case} {t : Lent} → r ≡ looked.Refused n
-      → TakenAs (λ st. lineRefusal st l) (λ st. saidAfter st l) c t (taken n c) t
+      → LineTaken l c t (taken n c) t
   unfolding lineRefusal
   line-refused {n} {c} {t} e =
       let b = looked-as e in
@@ -151,7 +149,7 @@ module _ {l : List ℕ} {r : Looked} (a : LookedAs l r) where
       record { kept = kept-refl-all t; took = λ st h. refused-took (rw (b .0) (first-of-some n _ some)) some }
 
   pub comment-taken : {c : Case} {t : Lent} → r ≡ looked.Comment
-      → TakenAs (λ st. lineRefusal st l) (λ st. saidAfter st l) c t (taken 0 c) t
+      → LineTaken l c t (taken 0 c) t
   unfolding lineRefusal saidAfter
   comment-taken {c} {t} e =
       let b = looked-as e in
@@ -164,8 +162,7 @@ module _ {l : List ℕ} {r : Looked} (a : LookedAs l r) where
   line-formed e = looked-as e .1
 
   pub line-taken : {x : Form} {c : Case} {t : Lent} {k : Taken} {u : Lent} → r ≡ looked.Line x
-      → TakenAs (λ st. formRefusal st (tokens l)) (λ st. saidWith st (tokens l)) c t k u
-      → TakenAs (λ st. lineRefusal st l) (λ st. saidAfter st l) c t k u
+      → FormTaken l c t k u → LineTaken l c t k u
   unfolding lineRefusal saidAfter
   line-taken e h =
       let b = looked-as e in

@@ -25,7 +25,7 @@ use Rattle.text.specs.Words.{namesIn}
 use Rattle.names.specs.Names.{someLong, withNames}
 use Rattle.store.specs.Saying.{Said, renamed, saidBy}
 
--- 3, over 200 bytes, on every line; on a line that is no comment 4, a byte that may not stand in a line, and 5, no form
+-- 3 over 200 bytes, on every line; on one that is no comment 4, a byte that may not stand in a line, and 5, no form
 abbrev pub lookChecks : List ℕ → List Check
 lookChecks l =
     check 3 (leb (length l) 200)

@@ -6,9 +6,9 @@ ghost use Rattle.text.specs.Words.{namesIn};
 ghost use Rattle.store.specs.Lent.{lent};
 ghost use Rattle.store.specs.Held.{Long, InLimits};
 ghost use Rattle.store.specs.Stored.{queriesIn};
-ghost use Rattle.checks.specs.Checks.{textChecks, roomChecks, saidWith, formRefusal, lineRefusal, saidAfter};
+ghost use Rattle.checks.specs.Checks.{textChecks, roomChecks};
 ghost use Rattle.checks.specs.Looked.{Formed};
-ghost use Rattle.checks.specs.Took.{TakenAs};
+ghost use Rattle.checks.specs.Took.{FormTaken, LineTaken};
 use crate::look::Looked;
 use crate::look::look;
 use grammar::brings::Brings;
@@ -75,8 +75,7 @@ fn take_form(
 ) -> Taken
     requires { ⌜ Long (lent (now clauses) (now constraints) (now formula) (now names)) × InLimits c
         × Formed (now l) x ⌝ }
-    ensures { λ r. ⌜ TakenAs (λ st. formRefusal st (tokens (now (l .entry))))
-        (λ st. saidWith st (tokens (now (l .entry)))) c
+    ensures { λ r. ⌜ FormTaken (now (l .entry)) c
         (lent (now (clauses .entry)) (now (constraints .entry)) (now (formula .entry)) (now (names .entry))) r
         (lent (now (clauses .exit)) (now (constraints .exit)) (now (formula .exit)) (now (names .exit))) ⌝ }
 {
@@ -114,7 +113,7 @@ pub fn take_line(
     names: &mut [u8],
 ) -> Taken
     requires { ⌜ Long (lent (now clauses) (now constraints) (now formula) (now names)) × InLimits c ⌝ }
-    ensures { λ r. ⌜ TakenAs (λ st. lineRefusal st (now (l .entry))) (λ st. saidAfter st (now (l .entry))) c
+    ensures { λ r. ⌜ LineTaken (now (l .entry)) c
         (lent (now (clauses .entry)) (now (constraints .entry)) (now (formula .entry)) (now (names .entry))) r
         (lent (now (clauses .exit)) (now (constraints .exit)) (now (formula .exit)) (now (names .exit))) ⌝ }
 {

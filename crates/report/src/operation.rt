@@ -1,12 +1,14 @@
 // The operation *report*.
 ghost use Prim.Native.Nat.{_≤_};
 ghost use lib.ListN.{length};
+ghost use Rattle.program.specs.Case.{nameSize};
 ghost use Rattle.wording.specs.Text.{answerText, refusalText};
 ghost use Rattle.report.specs.Operation.{ReportShown, Reported};
 ghost use Rattle.names.specs.Row.{nameIn};
 ghost use Rattle.output.specs.Writing.{Room};
 ghost use Rattle.report.specs.Sizes.{FullSizes};
 use output::Answer;
+use program::case::Case;
 use wording::answer_text;
 use wording::refusal_text;
 
@@ -34,7 +36,7 @@ fn show_answer(
     list: &[u16],
     out: &mut [u8],
 ) -> Answer
-    requires { ⌜ (1024 ≤ length (now names))
+    requires { ⌜ (nameSize ≤ length (now names))
         × Room (answerText (nameIn (now names)) causes (a .verdict) (a .rounds) (a .minimal) (now list)) 0 ⌝ }
     ensures { λ r. ⌜ ReportShown
         (answerText (nameIn (now (names .entry))) causes (a .verdict) (a .rounds) (a .minimal) (now (list .entry)))
@@ -93,10 +95,10 @@ fn report_in(
 pub fn report(file: &[u8], out: &mut [u8]) -> Answer
     ensures { λ r. ⌜ Reported (now (file .entry)) (now (out .entry)) r (now (out .exit)) ⌝ }
 {
-    let mut clauses = [0u64; 768];
-    let mut constraints = [0u64; 64];
-    let mut formula = [0u8; 128];
-    let mut names = [0u8; 1024];
+    let mut clauses = [0u64; Case::CLAUSE_WORDS];
+    let mut constraints = [0u64; Case::CONSTRAINT_WORDS];
+    let mut formula = [0u8; Case::FORMULA_BYTES];
+    let mut names = [0u8; Case::NAME_BYTES];
     let mut list = [0u16; 1024];
     let mut work = [0u8; 59049];
     report_in(

@@ -43,8 +43,7 @@ use Rattle.store.proofs.Encoded.{Known, encoded-over}
 use Rattle.store.proofs.Lookups.{Agree, masks-same, encoded-same}
 use Rattle.store.proofs.NodeLaws.{query-nodes, nodes-stored}
 use Rattle.store.proofs.Rows.{clause-words-stored, constraint-words-stored, formula-nodes-push}
-use Rattle.store.proofs.Rows.{nodes-push-length}
-use Rattle.store.proofs.Rows.{node-each}
+use Rattle.store.proofs.Rows.{nodes-push-length, node-each}
 
 -- c with a number of atoms
 abbrev pub withAtomCount : Case → ℕ → Case
@@ -146,8 +145,8 @@ module _ (st : Said) (c : Case) (t : Lent) (h : Held st c t) where
       masks-are k = e ∙ masks-same _ (atomOf (st .names)) ls k
 
       pub clause-held : (kind : ℕ) (w : List ℕ) {r : Case} {u : List ℕ}
-          → withNames (st .names) (w ∷ bodyNames ls) ≡ st .names
-          → c .clauses < 256 → ClauseStored w kind m c (t .names) (t .clauses) r u
+          → withNames (st .names) (w ∷ bodyNames ls) ≡ st .names → c .clauses < 256
+          → ClauseStored w kind m c (t .names) (t .clauses) r u
           → Held (withClause st (clauseRow (st .names) kind w ls)) r (lent u (t .constraints) (t .formula) (t .names))
       unfolding clauseWords
       clause-held kind w known room s =

@@ -96,8 +96,7 @@ module _ {l : List ℕ} {x : Form} {c : Case} {y : Line} (s : Storable l x c y) 
             kept =
                 lent-same
                 (rw (d .table-is) (sets-kept clauseSize (_ ∷ (_ ∷ (_ ∷ []))) cl (3 * c .clauses) (omega arith)))
-                (kept-refl _ co)
-                (kept-refl _ fo) (kept-refl _ na);
+                (kept-refl _ co) (kept-refl _ fo) (kept-refl _ na);
             held = λ st h known.
                 rw (f .line-is)
                 (clause-held st c _ h long (f .literals) (i (f .literals) (f .literals-are)) k (slice a e l)
@@ -105,8 +104,7 @@ module _ {l : List ℕ} {x : Form} {c : Case} {y : Line} (s : Storable l x c y) 
           }
 
       pub never-stored : {m : Masks} {u : List ℕ} → x ≡ Never at → MasksOf l at na (c .atoms) m
-          → ConstraintStored m c co r u
-          → StoredAs y c (lent cl co fo na) r (lent cl u fo na)
+          → ConstraintStored m c co r u → StoredAs y c (lent cl co fo na) r (lent cl u fo na)
       unfolding saidBy
       never-stored q i d =
           let f = form-told q in

@@ -2,6 +2,7 @@
 ghost use mathlib.Core.List.{[], _++_};
 ghost use Prim.Native.Nat.{_+_, _*_, _≤_, _<_};
 ghost use lib.ListN.{length};
+ghost use Rattle.program.specs.Case.{nameSize};
 ghost use Rattle.program.specs.Cause.{atomsIn};
 ghost use Rattle.program.specs.Setting.{digitsOf};
 ghost use Rattle.text.specs.Bytes.{bytes};
@@ -85,7 +86,7 @@ fn put_abducible(out: &mut [u8], at: usize, names: &[u8], atom: usize, digit: u6
 
 // Writes what a setting adds, digit by digit, lowest first, a digit for each cause in atom order.
 fn put_abducibles(out: &mut [u8], at: usize, names: &[u8], causes: u64, setting: u64) -> usize
-    requires { ⌜ (1024 ≤ length (now names))
+    requires { ⌜ (nameSize ≤ length (now names))
         × Room (spaced (abducibles (nameIn (now names)) (atomsIn causes) (digitsOf causes setting))) at ⌝ }
     ensures { λ r. ⌜ Writes (spaced (abducibles (nameIn (now (names .entry))) (atomsIn causes) (digitsOf causes
         setting)))
@@ -106,7 +107,7 @@ fn put_abducibles(out: &mut [u8], at: usize, names: &[u8], causes: u64, setting:
 
 // Writes the line of a setting.
 fn cause_line(out: &mut [u8], at: usize, names: &[u8], causes: u64, setting: u64) -> usize
-    requires { ⌜ (1024 ≤ length (now names)) × Room (causeLine (nameIn (now names)) causes setting) at ⌝ }
+    requires { ⌜ (nameSize ≤ length (now names)) × Room (causeLine (nameIn (now names)) causes setting) at ⌝ }
     ensures { λ r. ⌜ Writes (causeLine (nameIn (now (names .entry))) causes setting) (now (out .entry)) at r
         (now (out .exit)) ⌝ }
 {
@@ -117,7 +118,7 @@ fn cause_line(out: &mut [u8], at: usize, names: &[u8], causes: u64, setting: u64
 
 // Writes the lines of the settings of a list.
 fn cause_lines(out: &mut [u8], at: usize, names: &[u8], causes: u64, list: &[u16]) -> usize
-    requires { ⌜ (1024 ≤ length (now names)) × Room (causeLines (nameIn (now names)) causes (now list)) at ⌝ }
+    requires { ⌜ (nameSize ≤ length (now names)) × Room (causeLines (nameIn (now names)) causes (now list)) at ⌝ }
     ensures { λ r. ⌜ Writes (causeLines (nameIn (now (names .entry))) causes (now (list .entry)))
         (now (out .entry)) at r (now (out .exit)) ⌝ }
 {
@@ -141,7 +142,7 @@ pub fn answer_text(
     causes: u64,
     list: &[u16],
 ) -> usize
-    requires { ⌜ (1024 ≤ length (now names))
+    requires { ⌜ (nameSize ≤ length (now names))
         × Room (answerText (nameIn (now names)) causes verdict rounds minimal (now list)) 0 ⌝ }
     ensures { λ r. ⌜ Writes (answerText (nameIn (now (names .entry))) causes verdict rounds minimal (now (list .entry)))
         (now (out .entry)) 0 r (now (out .exit)) ⌝ }

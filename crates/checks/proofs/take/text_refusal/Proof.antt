@@ -4,9 +4,6 @@ use Rattle.checks.proofs.Refusing.{long-refused, deep-refused, text-pas
 use Rattle.checks.proofs.take.text_refusal.Statement.{statement}
 use Rattle.checks.proofs.take.text_refusal.Tie as tie
 
-some-long-requires : tie.Need-some-long-requires
-some-long-requires c κs = search needs
-
 returns : tie.Need-returns
 returns c = search (needs, long-refused)
 
@@ -17,4 +14,4 @@ returns-3 : tie.Need-returns-3
 returns-3 c = search (needs, text-passed)
 
 pub text-refusal-spec : {M : Type 1} → statement M
-text-refusal-spec = tie.close (tie.spec some-long-requires returns returns-2 returns-3)
+text-refusal-spec = tie.close (tie.spec (λ c κs. search needs) returns returns-2 returns-3)

@@ -4,8 +4,7 @@ use borrow.Author.Needs.{needs}
 use Rattle.store.proofs.form.store_constraint.Statement.{statement}
 use Rattle.store.proofs.form.store_constraint.Tie as tie
 
-returns : tie.Need-returns
-returns c = search needs
-
 pub store-constraint-spec : {M : Type 1} → statement M
-store-constraint-spec = tie.close (tie.spec (λ c. search needs) (λ c κs. search needs) (λ c. search needs) (λ c. search needs) returns)
+store-constraint-spec =
+    tie.close
+    (tie.spec (λ c. search needs) (λ c κs. search needs) (λ c. search needs) (λ c. search needs) (λ c. search needs))
