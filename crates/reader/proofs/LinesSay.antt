@@ -18,7 +18,6 @@ use Rattle.names.proofs.Adding.{with-names-append, with-names-atom}
 use Rattle.store.specs.Saying.{Said, nothingSaid, someOn, atomsBy, orAtoms, renamed, saidBy}
 use Rattle.store.proofs.Saying.{said-names, on-none, on-append, atoms-has}
 use Rattle.store.proofs.Encoded.{Known}
-use Rattle.store.proofs.Saying.{said-names}
 use Rattle.store.proofs.Lookups.{Agree, on-same, atoms-same, encoded-same}
 use Rattle.checks.specs.Checks.{saidWith, lineRefusal, saidAfter}
 use Rattle.checks.proofs.Passing.{line-passes}
