@@ -3,9 +3,11 @@
 -- Refusing: the checks 6 to 10 of a line, by their numbers.
 -- Passing: lines that pass their checks.
 -- Naming: the names of a line that passes them are names.
+-- After: what was read after a line.
 -- Taking: what taking a line leaves.
 pub mod Looking
 pub mod Refusing
 pub mod Passing
 pub mod Naming
+pub mod After
 pub mod Taking

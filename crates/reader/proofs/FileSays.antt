@@ -1,5 +1,6 @@
 -- An accepted file's record and tables say what the file says. Assumes nothing.
 use mathlib.Core.Path.{_≡_, refl, sym, ap, _∙_}
+use mathlib.Core.Bool.{true, false}
 use mathlib.Core.List.{List, [], _∷_}
 use Prim.Native.Nat.{ℕ, _^_, _<_}
 use native.Mathlib.Nat.{lt-of-lt-of-le}
@@ -7,7 +8,6 @@ use native.Mathlib.Omega.{arith}
 use lib.ListN.{length, take}
 use lib.Pow.{pow-mono}
 use Rattle.words.proofs.Checks.{first-of-none}
-use Rattle.words.proofs.Words.{is-word}
 use Rattle.logic.specs.Formula.{Formula}
 use Rattle.logic.specs.Nodes.{formulaOf}
 use Rattle.logic.proofs.Spelled.{one-formula-unique}
@@ -20,9 +20,10 @@ use Rattle.names.specs.Names.{rowsOf}
 use Rattle.text.proofs.Each.{Each, each-gives}
 use Rattle.names.proofs.Rows.{filled-row}
 use Rattle.store.specs.Lent.{Lent}
-use Rattle.store.specs.Saying.{ClauseRow, Said, nothingSaid, atomsBy, plainAtoms, negatedAtoms}
+use Rattle.store.specs.Saying.{ClauseRow, Said, nothingSaid, plainAtoms, negatedAtoms}
 use Rattle.store.specs.Tables.{clauseWords, constraintWords, formulaNodes, caseSaid}
 use Rattle.store.specs.Held.{Long}
+use Rattle.store.proofs.Saying.{is-atoms}
 use Rattle.reader.specs.declared.read.Answer.{Answer}
 use Rattle.reader.specs.Reading.{Outcome, refusalOf, readFile}
 use Rattle.reader.specs.Operation.{earlyRefusal, ReadAs}
@@ -54,16 +55,12 @@ module _ (f : List ℕ) (st : Said) (e : readFile f ≡ Outcome.case st) where
   below-word w h = lt-of-lt-of-le h (pow-mono (ended .formed .names .rows .few))
 
   plain-read : st .plain ≡ plainAtoms (fileNames f) (fileContent f .observed)
-  unfolding atomsBy
   plain-read =
-      is-word 64 (st .plain) _ (below-word _ (ended .formed .observed .plain-lt))
-      (content-read .plain-are)
+      is-atoms _ false (st .plain) _ (below-word _ (ended .formed .observed .plain-lt)) (content-read .plain-are)
 
   negated-read : st .negated ≡ negatedAtoms (fileNames f) (fileContent f .observed)
-  unfolding atomsBy
   negated-read =
-      is-word 64 (st .negated) _ (below-word _ (ended .formed .observed .negated-lt))
-      (content-read .negated-are)
+      is-atoms _ true (st .negated) _ (below-word _ (ended .formed .observed .negated-lt)) (content-read .negated-are)
 
   small : Each (λ (x : ClauseRow). x .head < 64) (st .clauses)
   small =

@@ -1,18 +1,16 @@
--- What filled tables hold, row by row, and the clauses and the bodies of constraints that are taken back from them.
+-- The clauses and the bodies of constraints that are taken back from filled tables, and their causes.
 --
 --   rowClause r     the clause that a row is
 --   rowBody r       the body that a constraint's row is
---   ClauseIs ..     the three words of clause k of a table are a row's; ConstraintIs is alike
 -- Assumes nothing.
 use mathlib.Core.Path.{_≡_, refl, ap, _∙_}
 use mathlib.Core.List.{List, [], _∷_, _++_, map, map-append}
 use Prim.Native.Nat.{ℕ, zero, suc, _+_, _*_, _/_, _%_, _≤_, _<_}
-use native.Mathlib.Nat.{not-suc-le-zero, le-of-suc-le-suc, mul-suc}
 use native.Mathlib.Omega.{arith}
-use lib.ListN.{length, getD, take, List·getD-append}
-use lib.Seq.{take-suc, take-length, length-take-le, getD-take, getD-append-add, ext-getD}
+use lib.ListN.{length, getD, take}
+use lib.Seq.{take-suc, take-length, length-take-le, getD-take, ext-getD}
 use Rattle.logic.specs.Formula.{Formula, body}
-use Rattle.program.specs.Case.{clauseSize, constraintSize, plainAt, negatedAt, forbidden, forbiddenNot}
+use Rattle.program.specs.Case.{clauseSize, constraintSize, forbidden, forbiddenNot}
 use Rattle.program.specs.Program.{Clause, clause, byKind, clauseAt, clausesOf}
 use Rattle.program.specs.Sound.{fewCauses}
 use Rattle.program.proofs.MakingSound.{few-causes-ext}
@@ -21,6 +19,7 @@ use Rattle.table.proofs.Filled.{filled-length, filled-at}
 use Rattle.text.proofs.Each.{Each, each-at}
 use Rattle.store.specs.Saying.{ClauseRow, ConstraintRow}
 use Rattle.store.specs.Tables.{clauseWords, constraintWords}
+use Rattle.store.proofs.FilledRows.{noRow, noPair, clause-is, constraint-is}
 use Rattle.reader.specs.Contents.{constraintsOf}
 
 abbrev pub rowClause : ClauseRow → Clause
@@ -28,12 +27,6 @@ rowClause r = clause (r .head) (byKind (r .kind) (body (r .plain) (r .negated)))
 
 abbrev pub rowBody : ConstraintRow → Formula
 rowBody r = body (r .plain) (r .negated)
-
-abbrev pub noRow : ClauseRow
-noRow = record { head = 0; kind = 0; plain = 0; negated = 0 }
-
-abbrev pub noPair : ConstraintRow
-noPair = record { plain = 0; negated = 0 }
 
 -- Plain lists
 
@@ -57,50 +50,11 @@ module _ {A B : Type 0} (l : List A) (d : A) (h : A → B) (g : ℕ → List B) 
   grown-all : g (length l) ≡ map h l
   grown-all = grown-first (length l) (omega arith) ∙ ap (map h) (take-length l)
 
--- a table of rows of w words each: word j of row k
-module _ {A : Type 0} (w : ℕ) (words : A → List ℕ) (table : List A → List ℕ) (d : A)
-    (more : (x : A) (l : List A) → table (x ∷ l) ≡ words x ++ table l) (width : (x : A) → length (words x) ≡ w) where
-  row-at : (l : List A) (k j : ℕ) → k < length l → j < w → getD (table l) (w * k + j) 0 ≡ getD (words (getD l k d)) j 0
-  row-at [] k j h m = absurd (not-suc-le-zero h)
-  row-at (x ∷ l) zero j h m =
-      let e : w * 0 + j ≡ j = omega arith in
-      let n = width x in
-      rw (more x l, e) (List·getD-append (words x) (table l) 0 j (omega arith))
-  row-at (x ∷ l) (suc k) j h m =
-      let e : w * suc k + j ≡ length (words x) + (w * k + j) = omega (arith, width x, mul-suc w k) in
-      rw (more x l, e, getD-append-add) (row-at l k j (le-of-suc-le-suc h) m)
-
-  row-word : (n : ℕ) (l : List A) (old : List ℕ) (k j i : ℕ) → n ≤ length old → i < n → k < length l → j < w
-      → i ≡ w * k + j → getD (filled n (table l) old) i 0 ≡ getD (words (getD l k d)) j 0
-  row-word n l old k j i long fits h m e = filled-at n (table l) old i fits long ∙ rw e (row-at l k j h m)
-
 -- Clauses
-
-abbrev clauseRowWords : ClauseRow → List ℕ
-clauseRowWords r = (r .head + 64 * r .kind) ∷ (r .plain ∷ (r .negated ∷ []))
-
-pub record ClauseIs (cl : List ℕ) (k : ℕ) (r : ClauseRow) : Type 0 where
-  pub first-is : getD cl (3 * k) 0 ≡ r .head + 64 * r .kind
-  pub plain-is : plainAt cl k ≡ r .plain
-  pub negated-is : negatedAt cl k ≡ r .negated
 
 module _ (cs : List ClauseRow) (old : List ℕ) (long : clauseSize ≤ length old) (few : length cs ≤ 256) where
   abbrev cl : List ℕ
   cl = filled clauseSize (clauseWords cs) old
-
-  clause-word : (k j i : ℕ) → k < length cs → j < 3 → i ≡ 3 * k + j
-      → getD cl i 0 ≡ getD (clauseRowWords (getD cs k noRow)) j 0
-  unfolding clauseWords
-  clause-word k j i l m e =
-      row-word 3 clauseRowWords clauseWords noRow (λ x l. refl) (λ x. refl) clauseSize cs old k j i long (omega arith) l
-      m e
-
-  pub clause-is : (k : ℕ) → k < length cs → ClauseIs cl k (getD cs k noRow)
-  clause-is k l = record {
-    first-is = clause-word k 0 _ l (omega arith) (omega arith);
-    plain-is = clause-word k 1 _ l (omega arith) (omega arith);
-    negated-is = clause-word k 2 _ l (omega arith) (omega arith);
-  }
 
   -- the causes of the table are those of the words that it is filled with
   pub few-causes-filled : (n : ℕ) → fewCauses n cl (length cs) ≡ fewCauses n (clauseWords cs) (length cs)
@@ -113,39 +67,19 @@ module _ (cs : List ClauseRow) (old : List ℕ) (long : clauseSize ≤ length ol
   clauses-filled small = grown-all cs noRow rowClause (clausesOf cl) (clauseAt cl) refl (λ k. refl) (λ k l.
       let r = getD cs k noRow in
       let s = each-at (λ (x : ClauseRow). x .head < 64) cs k noRow small l in
-      let w = clause-is k l in
+      let w = clause-is cs old long few k l in
       let e : (r .head + 64 * r .kind) % 64 ≡ r .head = omega arith in
       let f : (r .head + 64 * r .kind) / 64 ≡ r .kind = omega arith in
       rw (w .first-is, w .plain-is, w .negated-is, e, f))
 
 -- Constraints
 
-pub record ConstraintIs (co : List ℕ) (k : ℕ) (r : ConstraintRow) : Type 0 where
-  pub plain-is : forbidden co k ≡ r .plain
-  pub negated-is : forbiddenNot co k ≡ r .negated
-
-abbrev constraintRowWords : ConstraintRow → List ℕ
-constraintRowWords r = r .plain ∷ (r .negated ∷ [])
-
 module _ (cs : List ConstraintRow) (old : List ℕ) (long : constraintSize ≤ length old) (few : length cs ≤ 32) where
   abbrev co : List ℕ
   co = filled constraintSize (constraintWords cs) old
-
-  constraint-word : (k j i : ℕ) → k < length cs → j < 2 → i ≡ 2 * k + j
-      → getD co i 0 ≡ getD (constraintRowWords (getD cs k noPair)) j 0
-  unfolding constraintWords
-  constraint-word k j i l m e =
-      row-word 2 constraintRowWords constraintWords noPair (λ x l. refl) (λ x. refl) constraintSize cs old k j i long
-      (omega arith) l m e
-
-  pub constraint-is : (k : ℕ) → k < length cs → ConstraintIs co k (getD cs k noPair)
-  constraint-is k l = record {
-    plain-is = constraint-word k 0 _ l (omega arith) (omega arith);
-    negated-is = constraint-word k 1 _ l (omega arith) (omega arith);
-  }
 
   pub constraints-filled : constraintsOf co (length cs) ≡ map rowBody cs
   unfolding constraintsOf
   constraints-filled =
       grown-all cs noPair rowBody (constraintsOf co) (λ k. body (forbidden co k) (forbiddenNot co k)) refl (λ k. refl)
-      (λ k l. let w = constraint-is k l in rw (w .plain-is, w .negated-is))
+      (λ k l. let w = constraint-is cs old long few k l in rw (w .plain-is, w .negated-is))

@@ -1,12 +1,12 @@
 -- What was read through lines is what the lines say, by the names of all of them. Assumes nothing.
 use mathlib.Core.Path.{_≡_, refl, sym, ap, _∙_}
-use mathlib.Core.Bool.{Bool, true, false, _||_, or-assoc}
+use mathlib.Core.Bool.{Bool, true, false}
 use mathlib.Core.List.{List, [], _∷_, _++_, map, map-append, append-nil, append-assoc}
 use Prim.Native.Nat.{ℕ, _<_}
-use Rattle.words.specs.Choice.{pick}
 use Rattle.words.specs.Bits.{has}
 use Rattle.words.proofs.Bits.{has-zero}
 use Rattle.words.proofs.Words.{has-word}
+use Rattle.words.proofs.Tests.{by-test}
 use Rattle.text.specs.Lines.{isComment}
 use Rattle.text.specs.Tokens.{tokens}
 use Rattle.text.proofs.Each.{Each, each-gives}
@@ -16,11 +16,12 @@ use Rattle.text.specs.Words.{namesIn}
 use Rattle.names.specs.Names.{atomOf, withNames}
 use Rattle.names.proofs.Adding.{with-names-append, with-names-atom}
 use Rattle.store.specs.Saying.{Said, nothingSaid, someOn, atomsBy, orAtoms, renamed, saidBy}
+use Rattle.store.proofs.Saying.{said-names, on-none, on-append, atoms-has}
 use Rattle.store.proofs.Encoded.{Known}
-use Rattle.store.proofs.Saying.{said-names}
 use Rattle.store.proofs.Lookups.{Agree, on-same, atoms-same, encoded-same}
 use Rattle.checks.specs.Checks.{saidWith, lineRefusal, saidAfter}
 use Rattle.checks.proofs.Passing.{line-passes}
+use Rattle.checks.proofs.After.{after-comment, after-line}
 use Rattle.reader.specs.Claims.{saidThrough, allPass}
 use Rattle.reader.specs.Contents.{formOf, namesOf, namesThrough, Content, noContent, andThen, contentOf, contents}
 use Rattle.reader.proofs.FirstBad.{first-passes}
@@ -30,12 +31,10 @@ use Rattle.reader.proofs.WellFormedLines.{line-known}
 -- The names
 
 after-names : (st : Said) (l : List ℕ) → saidAfter st l .names ≡ withNames (st .names) (namesOf l)
-unfolding saidAfter namesOf withNames
-after-names st l = go (isComment l)
-  where
-    go : (t : Bool) → pick t st (saidWith st (tokens l)) .names ≡ withNames (st .names) (pick t [] (namesIn (tokens l)))
-    go true = refl
-    go false = said-names _ (lineOf (tokens l))
+unfolding namesOf withNames
+after-names st l =
+    by-test (isComment l) (λ c. rw (after-comment st l c, c))
+    (λ c. rw (after-line st l c, c, said-names _ (lineOf (tokens l))))
 
 -- the names after a line, and those of the lines behind it, are those of all
 names-behind : (st : Said) (l : List ℕ) (ls : List (List ℕ))
@@ -60,11 +59,6 @@ module _ (ns : List (List ℕ)) where
   abbrev on : Bool → List Literal → ℕ → Bool
   on b l a = someOn (atomOf ns) b l a
 
-  on-append : (b : Bool) (l m : List Literal) (a : ℕ) → on b (l ++ m) a ≡ (on b l a || on b m a)
-  unfolding someOn
-  on-append b [] m a = refl
-  on-append b (Literal.literal n w ∷ l) m a = rw (on-append b l m a, or-assoc)
-
   -- the word w has the atoms of the literals l, the negated ones where b holds
   abbrev Has : Bool → ℕ → List Literal → Type 0
   Has b w l = (a : ℕ) → a < 64 → has w a ≡ on b l a
@@ -85,8 +79,9 @@ module _ (ns : List (List ℕ)) where
       record { clauses-are = c; constraints-are = d; plain-are = p; negated-are = q; queries-are = f }
 
   pub nothing-saying : Saying nothingSaid noContent
-  unfolding someOn
-  nothing-saying = saying nothingSaid noContent refl refl (λ a h. has-zero a) (λ a h. has-zero a) refl
+  nothing-saying =
+      saying nothingSaid noContent refl refl (λ a h. rw (has-zero, on-none (atomOf ns) false a))
+      (λ a h. rw (has-zero, on-none (atomOf ns) true a)) refl
 
   none-saying : (st : Said) (x : Content) → Saying st x → (ms : List (List ℕ))
       → Saying (renamed ms st) (andThen x noContent)
@@ -106,10 +101,9 @@ module _ (ns : List (List ℕ)) where
     -- the word of the atoms with literals' by ms has the atoms by ns
     seen-has : (b : Bool) (l : List Literal) (p : ℕ) → Same (bodyNames l) → Has b p (x .observed)
         → Has b (orAtoms p (atomsBy (atomOf ms) b l)) (x .observed ++ l)
-    unfolding atomsBy
     seen-has b l p k e a h =
         has-word 64 _ a h
-        ∙ rw (has-word 64 (someOn (atomOf ms) b l) a h, e a h, on-same _ _ b l a k, on-append b (x .observed) l a)
+        ∙ rw (atoms-has (atomOf ms) b l a h, e a h, on-same _ _ b l a k, on-append (atomOf ns) b (x .observed) l a)
 
     line-saying : (y : Line) → Same (lineNames y) → Saying (saidBy (renamed ms st) y) (andThen x (contentOf ns y))
     unfolding saidBy contentOf
@@ -144,15 +138,10 @@ module _ (ns : List (List ℕ)) where
 
     after-saying : lineRefusal st l ≡ 0 → ns ≡ withNames (withNames (st .names) (namesOf l)) (namesThrough ls)
         → Saying (saidAfter st l) (andThen x (contentOf ns (formOf l)))
-    unfolding saidAfter formOf namesOf contentOf
-    after-saying p e = go (isComment l) refl e
-      where
-        go : (t : Bool) → isComment l ≡ t
-            → ns ≡ withNames (withNames (st .names) (pick t [] (namesIn (tokens l)))) (namesThrough ls)
-            → Saying (pick t st (saidWith st (tokens l)))
-            (andThen x (contentOf ns (pick t Line.skipped (lineOf (tokens l)))))
-        go true c e = none-saying st x s (st .names)
-        go false c e = form-saying (line-passes st l p c .1 .is-line) e
+    unfolding formOf namesOf contentOf
+    after-saying p e =
+        by-test (isComment l) (λ c. rw (after-comment st l c, c) (none-saying st x s (st .names)))
+        (λ c. rw (after-line st l c, c) (form-saying (line-passes st l p c .1 .is-line) (rw c at e)))
 
   pub through-saying : (ls : List (List ℕ)) (st : Said) (x : Content) → Saying st x → allPass ls st ≡ true
       → ns ≡ withNames (st .names) (namesThrough ls) → Saying (saidThrough ls st) (andThen x (contents ns ls))

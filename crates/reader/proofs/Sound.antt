@@ -20,9 +20,10 @@ use Rattle.store.specs.Held.{Long}
 use Rattle.store.specs.Saying.{ClauseRow, ConstraintRow, Said}
 use Rattle.store.specs.Tables.{clauseWords, caseSaid, constraintWords, formulaNodes}
 use Rattle.store.proofs.Formulas.{over-some}
+use Rattle.store.proofs.FilledRows.{noRow, noPair, clause-is, constraint-is}
 use Rattle.reader.proofs.WellFormed.{Rows, ClauseFormed, ConstraintFormed}
 use Rattle.reader.proofs.WellFormedLines.{Ended}
-use Rattle.reader.proofs.FilledTables.{noRow, noPair, filled-own, clause-is, few-causes-filled, constraint-is}
+use Rattle.reader.proofs.FilledTables.{filled-own, few-causes-filled}
 
 module _ (n : ℕ) where
   -- Clauses and constraints

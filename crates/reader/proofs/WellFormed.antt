@@ -8,7 +8,7 @@
 --   WellFormed st        what was read is well formed
 use mathlib.Core.Path.{_≡_, refl, sym}
 use mathlib.Core.Bool.{true, false}
-use mathlib.Core.List.{List, [], _∷_, _++_, append-nil}
+use mathlib.Core.List.{List, [], _∷_, _++_}
 use Prim.Native.Nat.{ℕ, _^_, _≤_, _<_}
 use native.Mathlib.Nat.{lt-of-lt-of-le, not-suc-le-zero}
 use native.Mathlib.Omega.{arith}
@@ -25,6 +25,7 @@ use Rattle.names.proofs.Adding.{distinct-none, with-names-length, with-names-di
 use Rattle.store.specs.Saying.{ClauseRow, ConstraintRow, Said, nothingSaid, renamed}
 use Rattle.store.specs.Tables.{formulaNodes}
 use Rattle.store.proofs.Formulas.{over-mono}
+use Rattle.store.proofs.Rows.{formula-nodes-one}
 use Rattle.checks.specs.Naming.{IsName}
 
 -- Rows
@@ -77,15 +78,14 @@ pub record OneQuery (n : ℕ) (fs : List Formula) : Type 0 where
   pub nodes-few : length (formulaNodes fs) ≤ 128
 
 pub one-query : (n : ℕ) (fs : List Formula) → Rows (QueryFormed n) 1 fs → 0 < length fs → OneQuery n fs
-unfolding formulaNodes
 one-query n [] r l = absurd (not-suc-le-zero l)
 one-query n (f ∷ []) r l =
     let q = r .each .0 in
     record {
       formula = f;
       only = refl;
-      spells = record { nodes-are = sym (append-nil (nodes f)); over-atoms = q .over-atoms; not-deep = q .not-deep };
-      nodes-few = rw (append-nil (nodes f)) (q .nodes-few);
+      spells = record { nodes-are = sym (formula-nodes-one f); over-atoms = q .over-atoms; not-deep = q .not-deep };
+      nodes-few = rw (formula-nodes-one f) (q .nodes-few);
     }
 one-query n (f ∷ (g ∷ fs)) r l = absurd (omega (arith, r .few))
 

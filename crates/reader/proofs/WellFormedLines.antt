@@ -1,13 +1,13 @@
 -- What was read stays well formed with a line that passes its checks, and so is at the end of an accepted file.
 -- Assumes nothing.
 use mathlib.Core.Path.{_≡_, refl, ap, subst}
-use mathlib.Core.Bool.{Bool, true, false, not}
+use mathlib.Core.Bool.{true, false, not}
 use mathlib.Core.List.{List, [], _∷_}
 use Prim.Native.Nat.{ℕ, zero, suc, _*_, _≤_}
 use native.Mathlib.Omega.{arith}
 use lib.ListN.{length}
 use borrow.Author.Tests.{leb-true}
-use Rattle.words.specs.Choice.{pick}
+use Rattle.words.proofs.Tests.{by-test}
 use Rattle.words.proofs.Checks.{none-failed}
 use Rattle.program.specs.Sound.{bare, shaped, fewCauses}
 use Rattle.text.specs.Lines.{lines, isComment}
@@ -29,6 +29,7 @@ use Rattle.store.proofs.Encoded.{Known, encoded-length, encoded-depth, encoded-
 use Rattle.store.proofs.Literals.{or-atoms-lt, atoms-lt, none-bare, body-not-bare}
 use Rattle.checks.specs.Checks.{saidWith, lineRefusal, saidAfter}
 use Rattle.checks.proofs.Passing.{RoomPasses, FormPasses, line-passes}
+use Rattle.checks.proofs.After.{after-comment, after-line}
 use Rattle.checks.proofs.Naming.{names-named}
 use Rattle.reader.specs.Reading.{Outcome, endChecks, readFile}
 use Rattle.reader.specs.Claims.{saidThrough, allPass}
@@ -115,14 +116,10 @@ form-formed st l r h p =
     said-formed ns (p .room .names-few) st named (length (tokens l)) (omega (arith, tokens-le-bytes l))
     (lineOf (tokens l)) (line-known st l (p .is-line)) (line-shaped (tokens l)) (p .not-deep) (p .room)
 
-picked-formed : (t : Bool) (x y : Said) → WellFormed x → (t ≡ false → WellFormed y) → WellFormed (pick t x y)
-picked-formed true x y h k = h
-picked-formed false x y h k = k refl
-
 line-formed : (st : Said) (l : List ℕ) → WellFormed st → lineRefusal st l ≡ 0 → WellFormed (saidAfter st l)
-unfolding saidAfter
 line-formed st l r e =
-    picked-formed (isComment l) st _ r (λ c. let p = line-passes st l e c in form-formed st l r (p .0) (p .1))
+    by-test (isComment l) (λ c. rw (after-comment st l c) r)
+    (λ c. let p = line-passes st l e c in rw (after-line st l c) (form-formed st l r (p .0) (p .1)))
 
 -- A file
 

@@ -9,6 +9,7 @@
 -- MaskLaws: the atoms of literals, added one after the other.
 -- NodeLaws: the nodes of formulas, in a line and in a table.
 -- Rows: one clause, constraint or query more in the words of a table.
+-- FilledRows: the rows of filled tables.
 -- Held: tables that hold what was read with one row, reading, query or name more.
 -- Stored: what storing a form of a line leaves, for each kind of line.
 pub mod Lent
@@ -21,5 +22,6 @@ pub mod Lookups
 pub mod MaskLaws
 pub mod NodeLaws
 pub mod Rows
+pub mod FilledRows
 pub mod Held
 pub mod Stored

@@ -84,6 +84,10 @@ pub nodes-push-length : (fs : List Formula) (f : Formula)
     → length (formulaNodes (fs ++ (f ∷ []))) ≡ length (formulaNodes fs) + length (nodes f)
 nodes-push-length fs f = ap length (formula-nodes-push fs f) ∙ length-append (formulaNodes fs) (nodes f)
 
+pub formula-nodes-one : (f : Formula) → formulaNodes (f ∷ []) ≡ nodes f
+unfolding formulaNodes
+formula-nodes-one f = append-nil (nodes f)
+
 -- formulas that have at least a node each have a node where there is one of them
 pub node-each : (fs : List Formula) → length fs ≤ length (formulaNodes fs)
     → leb 1 (length (formulaNodes fs)) ≡ leb 1 (length fs)
