@@ -9,7 +9,7 @@ use libc::STDOUT_FILENO;
 // Room for a byte more than a file may have (refusal 2), and for every report (crates/report/specs/Claims.antt).
 const FILE_ROOM: usize = 32769;
 
-const REPORT_ROOM: usize = 264252;
+const REPORT_ROOM: usize = 264582;
 
 // What reading the input gave: how many bytes, how many of them by the last call of read, and whether that failed.
 struct Input {

@@ -1,5 +1,5 @@
 -- What a line that passes its checks is known to be. Assumes nothing.
-use mathlib.Core.Path.{_≡_, refl, sym, ap, _∙_}
+use mathlib.Core.Path.{_≡_, refl, sym, _∙_}
 use mathlib.Core.Bool.{true, false}
 use mathlib.Core.List.{List, [], _∷_}
 use Prim.Native.Nat.{ℕ, _+_, _≤_}
@@ -25,7 +25,7 @@ pub record RoomPasses (names clauses constraints queries : ℕ) (b : Brings) : T
   pub names-few : names ≤ 64
   pub clauses-few : clauses + b .clauses ≤ 256
   pub constraints-few : constraints + b .constraints ≤ 32
-  pub queries-few : queries + b .queries ≤ 1
+  pub queries-few : queries + b .queries ≤ 16
 
 -- checks 5 to 10
 pub record FormPasses (st : Said) (ts : List Token) : Type 0 where
@@ -46,7 +46,7 @@ room-has n cl co q b (eight, (nine, (ten, _))) =
       names-few = leb-true n 64 eight;
       clauses-few = leb-true _ 256 (and-true-l rows (leb (co + b .constraints) 32) nine);
       constraints-few = leb-true _ 32 (and-true-r rows (leb (co + b .constraints) 32) nine);
-      queries-few = leb-true _ 1 ten;
+      queries-few = leb-true _ 16 ten;
     }
 
 pub room-passes : {n cl co q : ℕ} {b : Brings} → firstFailed (roomChecks n cl co q b) ≡ 0 → RoomPasses n cl co q b

@@ -5,14 +5,10 @@ use mathlib.Core.Bool.{Bool, true, false}
 use mathlib.Core.List.{List}
 use Prim.Native.Nat.{ℕ, _+_, _-_, _≤_, _<_}
 use native.Mathlib.Omega.{arith}
-use lib.Dec.{leb}
 use borrow.Author.Tests.{le-leb, lt-leb}
 use Rattle.words.specs.Choice.{firstFailed}
-use Rattle.words.proofs.Tests.{by-test}
-use Rattle.program.specs.declared.case.Case.{Case}
 use Rattle.grammar.specs.declared.brings.Brings.{Brings}
 use Rattle.names.specs.Names.{someLong}
-use Rattle.store.specs.Stored.{queriesIn}
 use Rattle.checks.specs.Checks.{textChecks, roomChecks}
 
 -- 6 and 7, where t tells whether a name is long
@@ -26,11 +22,6 @@ module _ (ws : List (List ℕ)) (b : Brings) {t : Bool} (e : t ≡ someLong ws) 
 
     pub text-passed : b .depth ≤ 16 → 0 ≡ firstFailed (textChecks ws b)
     text-passed k = rw (sym e ∙ h, le-leb _ _ k)
-
--- a record has at most one query
-pub queries-few : (c : Case) {k : ℕ} → k ≡ queriesIn c → k ≤ 1
-queries-few c e =
-    rw e (by-test (leb 1 (c .nodes)) (λ t. rw t (omega arith)) (λ t. rw t (omega arith)))
 
 -- 8 to 10
 module _ (n cl co q : ℕ) (b : Brings) where
@@ -46,19 +37,19 @@ module _ (n cl co q : ℕ) (b : Brings) where
       constraints-refused j =
           rw (le-leb n 64 h, le-leb (cl + b .clauses) 256 (omega arith), lt-leb (co + b .constraints) 32 (omega arith))
 
-      module _ (o : co ≤ 32) (j : b .constraints ≤ 32 - co) {k : ℕ} (e : k ≡ q) (few : k ≤ 1) where
-        pub query-refused : 1 - k < b .queries → 10 ≡ firstFailed (roomChecks n cl co q b)
-        query-refused u = rw (
+      module _ (o : co ≤ 32) (j : b .constraints ≤ 32 - co) where
+        pub query-refused : q ≤ 16 → 16 - q < b .queries → 10 ≡ firstFailed (roomChecks n cl co q b)
+        query-refused few u = rw (
           le-leb n 64 h,
           le-leb (cl + b .clauses) 256 (omega arith),
           le-leb (co + b .constraints) 32 (omega arith),
-          lt-leb (q + b .queries) 1 (omega arith),
+          lt-leb (q + b .queries) 16 (omega arith),
         )
 
-        pub room-passed : b .queries ≤ 1 - k → 0 ≡ firstFailed (roomChecks n cl co q b)
-        room-passed u = rw (
+        pub room-passed : q ≤ 16 → b .queries ≤ 16 - q → 0 ≡ firstFailed (roomChecks n cl co q b)
+        room-passed few u = rw (
           le-leb n 64 h,
           le-leb (cl + b .clauses) 256 (omega arith),
           le-leb (co + b .constraints) 32 (omega arith),
-          le-leb (q + b .queries) 1 (omega arith),
+          le-leb (q + b .queries) 16 (omega arith),
         )

@@ -28,9 +28,9 @@ use Rattle.names.proofs.Short.{line-named}
 use Rattle.store.specs.Lent.{Lent, lent}
 use Rattle.store.specs.Saying.{Said, renamed}
 use Rattle.store.specs.Held.{Long, Held, Kept}
-use Rattle.store.specs.Stored.{queriesIn, Room, Storable, StoredAs}
+use Rattle.store.specs.Stored.{Storable, StoredAs}
 use Rattle.store.proofs.Lent.{lent-same, kept-refl-all, kept-trans-all}
-use Rattle.store.proofs.Held.{withAtomCount, queries-in, names-held, named-held}
+use Rattle.store.proofs.Held.{withAtomCount, names-held, named-held}
 use Rattle.checks.specs.declared.look.Looked.{Looked}
 use Rattle.checks.specs.declared.look.Looked.the-variants as looked
 use Rattle.checks.specs.declared.take.Taken.{Taken}
@@ -89,20 +89,20 @@ module _ {l : List ℕ} {x : Form} (f : Formed l x) {b : Brings} (g : Brought x 
             ⊎-elim (λ p. lt-leb n 64 p ∙ sym (lt-leb _ 64 (interned .full p))) (λ p. rw (interned .fits p))
             (lt-or-le 64 n)
 
-        room-same : firstFailed (roomChecks n (c .clauses) (c .constraints) (queriesIn c) b) ≡ roomNumber st (tokens l)
-        room-same = rw (brought, few-same, h .case-is, queries-in st (h .limits))
+        room-same : firstFailed (roomChecks n (c .clauses) (c .constraints) (c .formulas) b) ≡ roomNumber st (tokens l)
+        room-same = rw (brought, few-same, h .case-is)
 
         form-number : formRefusal st (tokens l)
-            ≡ firstFailed (roomChecks n (c .clauses) (c .constraints) (queriesIn c) b)
+            ≡ firstFailed (roomChecks n (c .clauses) (c .constraints) (c .formulas) b)
         form-number = form-refusal-is st (tokens l) ∙ rw (← text-number, z, room-same)
 
-      module _ {j : ℕ} (d : j ≡ firstFailed (roomChecks n (c .clauses) (c .constraints) (queriesIn c) b)) where
+      module _ {j : ℕ} (d : j ≡ firstFailed (roomChecks n (c .clauses) (c .constraints) (c .formulas) b)) where
         pub room-refused : (j ≡ 0 → ⊥)
             → FormTaken l c (lent cl co fo na) (taken j c) (lent cl co fo u)
         room-refused y = record { kept = names-kept; took = λ st h. refused-took (form-number st h ∙ sym d) y }
 
         module _ (y : j ≡ 0) where
-          fits : RoomPasses n (c .clauses) (c .constraints) (queriesIn c) b
+          fits : RoomPasses n (c .clauses) (c .constraints) (c .formulas) b
           fits = room-passes (sym d ∙ y)
 
           pub form-storable : Storable l x (withAtomCount c n) (lineOf (tokens l))
@@ -113,7 +113,7 @@ module _ {l : List ℕ} {x : Form} (f : Formed l x) {b : Brings} (g : Brought x 
             room = rw (← brought) (record {
               clauses-fit = fits .clauses-few;
               constraints-fit = fits .constraints-few;
-              query-fits = fits .queries-few;
+              queries-fit = fits .queries-few;
             });
           }
 

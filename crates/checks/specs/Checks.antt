@@ -41,12 +41,12 @@ saidWith st ts = saidBy (renamed (withNames (st .names) (namesIn ts)) st) (lineO
 abbrev pub textChecks : List (List ℕ) → Brings → List Check
 textChecks ws b = check 6 (not (someLong ws)) ∷ check 7 (leb (b .depth) 16) ∷ []
 
--- with the line, 8 a 65th name, 9 a 257th clause or 33rd constraint, 10 a second query
+-- with the line, 8 a 65th name, 9 a 257th clause or 33rd constraint, 10 a 17th query
 abbrev pub roomChecks : ℕ → ℕ → ℕ → ℕ → Brings → List Check
 roomChecks names clauses constraints queries b =
     check 8 (leb names 64)
     ∷ check 9 (leb (clauses + b .clauses) 256 && leb (constraints + b .constraints) 32)
-    ∷ check 10 (leb (queries + b .queries) 1)
+    ∷ check 10 (leb (queries + b .queries) 16)
     ∷ []
 
 abbrev pub formChecks : Said → List Token → List Check

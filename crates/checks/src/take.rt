@@ -5,7 +5,6 @@ ghost use Rattle.text.specs.Tokens.{tokens};
 ghost use Rattle.text.specs.Words.{namesIn};
 ghost use Rattle.store.specs.Lent.{lent};
 ghost use Rattle.store.specs.Held.{Long, InLimits};
-ghost use Rattle.store.specs.Stored.{queriesIn};
 ghost use Rattle.checks.specs.Checks.{textChecks, roomChecks};
 ghost use Rattle.checks.specs.Looked.{Formed};
 ghost use Rattle.checks.specs.Took.{FormTaken, LineTaken};
@@ -36,17 +35,10 @@ fn text_refusal(l: &[u8], b: Brings) -> u32
     0
 }
 
-// How many queries a record has: its nodes are those of one query.
-fn queries(c: Case) -> usize
-    ensures { λ r. ⌜ r ≡ queriesIn c ⌝ }
-{
-    if 1 <= c.nodes { 1 } else { 0 }
-}
-
 // The number of the first of the checks 8 to 10 that a line fails, with a number of names, or 0.
 fn room_refusal(b: Brings, c: Case, atoms: usize) -> u32
     requires { ⌜ InLimits c ⌝ }
-    ensures { λ r. ⌜ r ≡ firstFailed (roomChecks atoms (c .clauses) (c .constraints) (queriesIn c) b) ⌝ }
+    ensures { λ r. ⌜ r ≡ firstFailed (roomChecks atoms (c .clauses) (c .constraints) (c .formulas) b) ⌝ }
 {
     if Case::ATOMS < atoms {
         return 8;
@@ -57,7 +49,7 @@ fn room_refusal(b: Brings, c: Case, atoms: usize) -> u32
     if Case::CONSTRAINTS - c.constraints < b.constraints {
         return 9;
     }
-    if 1 - queries(c) < b.queries {
+    if Case::FORMULAS - c.formulas < b.queries {
         return 10;
     }
     0

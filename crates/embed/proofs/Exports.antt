@@ -1,33 +1,47 @@
 -- Laws of what an operation answers to a case record in words, and of its answer put to words. Assumes nothing.
 use mathlib.Core.Path.{_≡_, refl}
-use mathlib.Core.List.{List, [], _∷_}
-use Prim.Native.Nat.{ℕ, _≤_}
+use mathlib.Core.List.{List, [], _∷_, _++_}
+use Prim.Native.Nat.{ℕ, _-_, _≤_}
+use borrow.Rule.Slice.PartMut.{midOf, putMid}
 use lib.ListN.{length}
 use Rattle.words.specs.Lists.{over}
 use Rattle.program.specs.declared.case.Case.{Case}
+use Rattle.reader.specs.declared.read.Answer as found
 use Rattle.settle.specs.declared.operation.Answer as settled
 use Rattle.settle.specs.Operation.{SettledOne}
 use Rattle.question.specs.declared.operation.Answer as asked
-use Rattle.verdict.specs.declared.verdict.Verdict.{Verdict}
 use Rattle.question.specs.Operation.{Asked}
-use Rattle.verdict.specs.Walk.{verdictNumber}
-use Rattle.embed.specs.Words.{caseIn}
+use Rattle.embed.specs.Words.{caseWords, caseIn}
 use Rattle.embed.specs.Operation.{SettleOut, QuestionOut}
+use Rattle.embed.proofs.Putting.{over-behind}
 
--- v is the number of a verdict, in front of other words
-pub verdict-put : {n : ℕ} (v : Verdict) (l words : List ℕ) {wordsAfter : List ℕ} → n ≡ verdictNumber v
-    → wordsAfter ≡ over (n ∷ l) words → wordsAfter ≡ over (verdictNumber v ∷ l) words
-verdict-put v l words e h = rw e at h
+-- the words of an answer of reading in front of the node counts
+abbrev frontWords : found.Answer → List ℕ
+frontWords a =
+    let c = a .found in
+    a .line ∷ c .atoms ∷ c .clauses ∷ c .constraints ∷ c .formulas ∷ c .plain ∷ c .negated ∷ []
+
+-- the words of an answer, put in two parts
+pub found-put : (a : found.Answer) (old : List ℕ) {mid back : List ℕ} → mid ≡ over (frontWords a) old
+    → back ≡ over (a .found .nodes) (midOf 7 (length mid - 7) mid)
+    → putMid 7 (length mid - 7) mid back ≡ over (a .line ∷ caseWords (a .found)) old
+found-put a old = over-behind (frontWords a) (a .found .nodes) old refl
+
+pub asked-put : (a : asked.Answer) (old : List ℕ) {mid back : List ℕ} → 16 ≡ length (a .verdicts)
+    → mid ≡ over (a .verdicts) old
+    → back ≡ over (a .minimal ∷ a .written ∷ a .rounds ∷ []) (midOf 16 (length mid - 16) mid)
+    → putMid 16 (length mid - 16) mid back ≡ over (a .verdicts ++ (a .minimal ∷ a .written ∷ a .rounds ∷ [])) old
+asked-put a old = over-behind (a .verdicts) _ old
 
 -- k is the case record in the words c
-module _ {c cl co fo : List ℕ} {k : Case} (e : k ≡ caseIn c) (l : 6 ≤ length c) {words wordsAfter : List ℕ} where
+module _ {c cl co fo : List ℕ} {k : Case} (e : k ≡ caseIn c) (l : 22 ≤ length c) {words wordsAfter : List ℕ} where
   pub settle-done : {s : ℕ} {a : settled.Answer} → 3 ≤ length words → SettledOne k cl co fo s a
       → wordsAfter ≡ over (a .trues ∷ a .falses ∷ a .rounds ∷ []) words
       → SettleOut c cl co fo s words (a .refusal) wordsAfter
   settle-done m h o = SettleOut.done l m _ (rw e at h) refl o
 
-  pub question-done : {list work listAfter workAfter : List ℕ} {a : asked.Answer} → 4 ≤ length words
+  pub question-done : {list work listAfter workAfter : List ℕ} {a : asked.Answer} → 19 ≤ length words
       → Asked k cl co fo list work a listAfter workAfter
-      → wordsAfter ≡ over (verdictNumber (a .verdict) ∷ a .minimal ∷ a .written ∷ a .rounds ∷ []) words
+      → wordsAfter ≡ over (a .verdicts ++ (a .minimal ∷ a .written ∷ a .rounds ∷ [])) words
       → QuestionOut c cl co fo list work words (a .refusal) listAfter workAfter wordsAfter
   question-done m h o = QuestionOut.done l m _ (rw e at h) refl o

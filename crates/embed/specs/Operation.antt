@@ -5,12 +5,12 @@
 -- words, or those of a lent case record, are too few, the answer is 1 and nothing is touched. Otherwise a is what the
 -- operation of the crate below answers, determined by its own contract.
 --
---   ReadOut       line and the six words of the record, seven words, and the four tables
+--   ReadOut       line and the 22 words of the record, 23 words, and the four tables
 --   SettleOut     the true atoms, the false atoms and the rounds, three words
---   QuestionOut   verdict's number, m, w and rounds, four words, and the list and the work area
+--   QuestionOut   16 verdict numbers, m, w and rounds, 19 words, and the list and the work area
 --   ReportOut     the length of the text, one word, and the output
 use mathlib.Core.Path.{_≡_}
-use mathlib.Core.List.{List, [], _∷_}
+use mathlib.Core.List.{List, [], _∷_, _++_}
 use Prim.Native.Nat.{ℕ, _≤_, _<_}
 use lib.ListN.{length}
 use Rattle.words.specs.Lists.{over}
@@ -21,34 +21,33 @@ use Rattle.store.specs.Lent.{Lent}
 use Rattle.reader.specs.Operation.{ReadAs}
 use Rattle.question.specs.declared.operation.Answer as asked
 use Rattle.question.specs.Operation.{Asked}
-use Rattle.verdict.specs.Walk.{verdictNumber}
 use Rattle.output.specs.declared.Answer as reported
 use Rattle.report.specs.Operation.{Reported}
 use Rattle.embed.specs.Words.{caseWords, caseIn}
 
 -- the file f, the tables t at entry and u at exit, the answer's words at entry and at exit
 pub data ReadOut (f : List ℕ) (t u : Lent) (words : List ℕ) (r : ℕ) (wordsAfter : List ℕ) : Type 0 where
-  short : length words < 7 → r ≡ 1 → u ≡ t → wordsAfter ≡ words → ReadOut f t u words r wordsAfter
-  done : 7 ≤ length words → (a : found.Answer) → ReadAs f t u a → r ≡ a .refusal
+  short : length words < 23 → r ≡ 1 → u ≡ t → wordsAfter ≡ words → ReadOut f t u words r wordsAfter
+  done : 23 ≤ length words → (a : found.Answer) → ReadAs f t u a → r ≡ a .refusal
       → wordsAfter ≡ over (a .line ∷ caseWords (a .found)) words → ReadOut f t u words r wordsAfter
 
 -- the case record's words, the tables, the setting, the answer's words at entry and at exit
 pub data SettleOut (c cl co fo : List ℕ) (s : ℕ) (words : List ℕ) (r : ℕ) (wordsAfter : List ℕ) : Type 0 where
-  short-record : length c < 6 → r ≡ 1 → wordsAfter ≡ words → SettleOut c cl co fo s words r wordsAfter
+  short-record : length c < 22 → r ≡ 1 → wordsAfter ≡ words → SettleOut c cl co fo s words r wordsAfter
   short : length words < 3 → r ≡ 1 → wordsAfter ≡ words → SettleOut c cl co fo s words r wordsAfter
-  done : 6 ≤ length c → 3 ≤ length words → (a : settled.Answer) → SettledOne (caseIn c) cl co fo s a → r ≡ a .refusal
+  done : 22 ≤ length c → 3 ≤ length words → (a : settled.Answer) → SettledOne (caseIn c) cl co fo s a → r ≡ a .refusal
       → wordsAfter ≡ over (a .trues ∷ a .falses ∷ a .rounds ∷ []) words → SettleOut c cl co fo s words r wordsAfter
 
 -- the case record's words, the tables, and at entry and at exit the list, the work area and the answer's words
 pub data QuestionOut (c cl co fo list work words : List ℕ) (r : ℕ) (listAfter workAfter wordsAfter : List ℕ)
     : Type 0 where
-  short-record : length c < 6 → r ≡ 1 → listAfter ≡ list → workAfter ≡ work → wordsAfter ≡ words
+  short-record : length c < 22 → r ≡ 1 → listAfter ≡ list → workAfter ≡ work → wordsAfter ≡ words
       → QuestionOut c cl co fo list work words r listAfter workAfter wordsAfter
-  short : length words < 4 → r ≡ 1 → listAfter ≡ list → workAfter ≡ work → wordsAfter ≡ words
+  short : length words < 19 → r ≡ 1 → listAfter ≡ list → workAfter ≡ work → wordsAfter ≡ words
       → QuestionOut c cl co fo list work words r listAfter workAfter wordsAfter
-  done : 6 ≤ length c → 4 ≤ length words → (a : asked.Answer)
+  done : 22 ≤ length c → 19 ≤ length words → (a : asked.Answer)
       → Asked (caseIn c) cl co fo list work a listAfter workAfter → r ≡ a .refusal
-      → wordsAfter ≡ over (verdictNumber (a .verdict) ∷ a .minimal ∷ a .written ∷ a .rounds ∷ []) words
+      → wordsAfter ≡ over (a .verdicts ++ (a .minimal ∷ a .written ∷ a .rounds ∷ [])) words
       → QuestionOut c cl co fo list work words r listAfter workAfter wordsAfter
 
 -- the file f, and at entry and at exit the output and the answer's words

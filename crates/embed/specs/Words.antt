@@ -1,22 +1,23 @@
 -- Records and answers as words, for callers in C and Rust.
 -- From: document 01, "Case tables and sound cases" ("A case record, by value, holds the counts").
 --
---   caseWords c       the six words of a case record
---   caseIn w          the case record in the first six of the words w
-use mathlib.Core.List.{List, [], _∷_}
+--   caseWords c       the 22 words of a case record
+--   caseIn w          the case record in the first 22 of the words w
+use mathlib.Core.List.{List, _∷_}
 use Prim.Native.Nat.{ℕ}
-use lib.ListN.{getD}
+use lib.ListN.{getD, take, drop}
 use Rattle.program.specs.declared.case.Case.{Case}
 
 abbrev pub caseWords : Case → List ℕ
-caseWords c = c .atoms ∷ c .clauses ∷ c .constraints ∷ c .nodes ∷ c .plain ∷ c .negated ∷ []
+caseWords c = c .atoms ∷ c .clauses ∷ c .constraints ∷ c .formulas ∷ c .plain ∷ c .negated ∷ c .nodes
 
 abbrev pub caseIn : List ℕ → Case
 caseIn w = record {
   atoms = getD w 0 0;
   clauses = getD w 1 0;
   constraints = getD w 2 0;
-  nodes = getD w 3 0;
+  formulas = getD w 3 0;
   plain = getD w 4 0;
   negated = getD w 5 0;
+  nodes = take 16 (drop 6 w);
 }

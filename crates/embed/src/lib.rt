@@ -2,41 +2,43 @@
 // and writes the rest of its answer to lent words. A lent record or answer with too few words is refused with 1, and
 // nothing is touched.
 ghost use mathlib.Core.Path.{_≡_};
-ghost use mathlib.Core.List.{[], _∷_};
+ghost use mathlib.Core.List.{[], _∷_, _++_};
 ghost use Prim.Native.Nat.{_≤_};
 ghost use lib.ListN.{length};
 ghost use Rattle.words.specs.Lists.{over};
-ghost use Rattle.verdict.specs.Walk.{verdictNumber};
 ghost use Rattle.store.specs.Lent.{lent};
 ghost use Rattle.embed.specs.Words.{caseWords, caseIn};
 ghost use Rattle.embed.specs.Operation.{ReadOut, SettleOut, QuestionOut, ReportOut};
 use program::case::Case;
-use verdict::verdict::Verdict;
 
-// The case record in six words.
+// The counts in 16 words.
+fn counts_in(words: &[u64]) -> [usize; 16]
+    requires { ⌜ length (now words) ≡ 16 ⌝ }
+    ensures { λ r. ⌜ r ≡ now (words .entry) ⌝ }
+{
+    let mut counts = [0usize; 16];
+    let mut i: usize = 0;
+    while i < 16 {
+        counts[i] = words[i] as usize;
+        i += 1;
+    }
+    counts
+}
+
+// The case record in 22 words.
 fn case_in(fields: &[u64]) -> Case
-    requires { ⌜ 6 ≤ length (now fields) ⌝ }
+    requires { ⌜ 22 ≤ length (now fields) ⌝ }
     ensures { λ r. ⌜ r ≡ caseIn (now (fields .entry)) ⌝ }
 {
+    let nodes = counts_in(&fields[6..22]);
     Case {
         atoms: fields[0] as usize,
         clauses: fields[1] as usize,
         constraints: fields[2] as usize,
-        nodes: fields[3] as usize,
+        formulas: fields[3] as usize,
         plain: fields[4],
         negated: fields[5],
-    }
-}
-
-// The number of a verdict.
-fn verdict_number(v: Verdict) -> u64
-    ensures { λ r. ⌜ r ≡ verdictNumber v ⌝ }
-{
-    match v {
-        Verdict::Unexplained => 0,
-        Verdict::Follows => 1,
-        Verdict::Denied => 2,
-        Verdict::Open => 3,
+        nodes,
     }
 }
 
@@ -52,9 +54,21 @@ fn put_words(answer: &mut [u64], words: &[u64])
     }
 }
 
-// Puts what reading answers to words: the line of a refusal, then the six words of the case record.
+// Puts counts in front of lent words.
+fn put_counts(answer: &mut [u64], counts: &[usize])
+    requires { ⌜ length (now counts) ≤ length (now answer) ⌝ }
+    ensures { λ _. ⌜ now (answer .exit) ≡ over (now (counts .entry)) (now (answer .entry)) ⌝ }
+{
+    let mut i: usize = 0;
+    while i < counts.len() {
+        answer[i] = counts[i] as u64;
+        i += 1;
+    }
+}
+
+// Puts what reading answers to words: the line of a refusal, then the 22 words of the case record.
 fn put_found(answer: &mut [u64], a: reader::read::Answer)
-    requires { ⌜ 7 ≤ length (now answer) ⌝ }
+    requires { ⌜ 23 ≤ length (now answer) ⌝ }
     ensures { λ _. ⌜ now (answer .exit) ≡ over (a .line ∷ caseWords (a .found)) (now (answer .entry)) ⌝ }
 {
     let c = a.found;
@@ -63,11 +77,13 @@ fn put_found(answer: &mut [u64], a: reader::read::Answer)
         c.atoms as u64,
         c.clauses as u64,
         c.constraints as u64,
-        c.nodes as u64,
+        c.formulas as u64,
         c.plain,
         c.negated,
     ];
+    let nodes = c.nodes;
     put_words(answer, &words);
+    put_counts(&mut answer[7..], &nodes);
 }
 
 // Puts what settling answers to words: the true atoms, the false atoms, the rounds.
@@ -79,24 +95,20 @@ fn put_settled(answer: &mut [u64], a: settle::operation::Answer)
     put_words(answer, &words);
 }
 
-// Puts what the question answers to words: the verdict's number, the number of minimal explanations, how many are
+// Puts what the question answers to words: the 16 verdict numbers, the number of minimal explanations, how many are
 // listed, the rounds over all settings.
 fn put_asked(answer: &mut [u64], a: question::operation::Answer)
-    requires { ⌜ 4 ≤ length (now answer) ⌝ }
+    requires { ⌜ 19 ≤ length (now answer) ⌝ }
     ensures { λ _. ⌜ now (answer .exit)
-        ≡ over (verdictNumber (a .verdict) ∷ a .minimal ∷ a .written ∷ a .rounds ∷ []) (now (answer .entry)) ⌝ }
+        ≡ over (a .verdicts ++ (a .minimal ∷ a .written ∷ a .rounds ∷ [])) (now (answer .entry)) ⌝ }
 {
-    let verdict = a.verdict;
-    let words = [
-        verdict_number(verdict),
-        a.minimal,
-        a.written as u64,
-        a.rounds,
-    ];
-    put_words(answer, &words);
+    let verdicts = a.verdicts;
+    let counts = [a.minimal, a.written as u64, a.rounds];
+    put_words(answer, &verdicts);
+    put_words(&mut answer[16..], &counts);
 }
 
-// Reads a case file into four lent tables. Answer: the line of a refusal, then the six words of the case record.
+// Reads a case file into four lent tables. Answer: the line of a refusal, then the 22 words of the case record.
 #[no_mangle]
 pub extern "C" fn causes_read(
     file: &[u8],
@@ -111,7 +123,7 @@ pub extern "C" fn causes_read(
         (lent (now (clauses .exit)) (now (constraints .exit)) (now (formula .exit)) (now (names .exit)))
         (now (answer .entry)) r (now (answer .exit)) ⌝ }
 {
-    if answer.len() < 7 {
+    if answer.len() < 23 {
         return 1;
     }
     let a = reader::read::read(file, clauses, constraints, formula, names);
@@ -133,7 +145,7 @@ pub extern "C" fn causes_settle(
         (now (formula .entry))
         setting (now (answer .entry)) r (now (answer .exit)) ⌝ }
 {
-    if fields.len() < 6 {
+    if fields.len() < 22 {
         return 1;
     }
     if answer.len() < 3 {
@@ -145,7 +157,7 @@ pub extern "C" fn causes_settle(
     a.refusal
 }
 
-// Answers the question of a case, with a lent list and work area. Answer: the verdict's number, the number of minimal
+// Answers the question of a case, with a lent list and work area. Answer: the 16 verdict numbers, the number of minimal
 // explanations, how many are listed, the rounds over all settings.
 #[no_mangle]
 pub extern "C" fn causes_question(
@@ -162,10 +174,10 @@ pub extern "C" fn causes_question(
         (now (list .entry)) (now (work .entry)) (now (answer .entry)) r (now (list .exit)) (now (work .exit))
         (now (answer .exit)) ⌝ }
 {
-    if fields.len() < 6 {
+    if fields.len() < 22 {
         return 1;
     }
-    if answer.len() < 4 {
+    if answer.len() < 19 {
         return 1;
     }
     let c = case_in(fields);

@@ -2,8 +2,10 @@
 use mathlib.Core.Path.{refl}
 use lib.Count.{ones, onesIn}
 use Rattle.words.specs.Bits.{has, word}
+use Rattle.words.specs.Lists.{listOf}
 use Rattle.logic.specs.Formula.{valueOf, literalsBelow}
 use Rattle.logic.specs.Nodes.{nodes, withNode, spelled, formulaOf}
+use Rattle.program.specs.Case.{nodesOf}
 use Rattle.program.specs.Program.{clauseAt, clausesOf, addedBelow, headsOf}
 use Rattle.program.specs.Cause.{causesAmong, causesOf, atomsFrom}
 use Rattle.program.specs.Setting.{choicesFor, product, digits, digitOf, settingsOf, additionsOf}
@@ -12,7 +14,7 @@ use Rattle.settle.specs.Step.{bodiesOf, someTrue, allFalse, nextValue, step}
 use Rattle.settle.specs.Rounds.{rounds, roundCount, settled}
 use Rattle.explanation.specs.Explanation.{observedTrue, noneBroken, explainsUnder, setExplains}
 use Rattle.explanation.specs.Subset.{subsetOf, properOf, someProper, minimal}
-use Rattle.verdict.specs.Walk.{minimalsBelow, roundsBelow, trueInAll, falseInAll, verdictOf}
+use Rattle.verdict.specs.Walk.{minimalsBelow, roundsBelow, trueInAll, falseInAll, verdictOf, verdictsOf}
 use Rattle.text.specs.Bytes.{isWordByte, isAllowed, allOf, sameBytes}
 use Rattle.text.specs.Lines.{linesFrom, isComment}
 use Rattle.text.specs.Tokens.{tokensFrom}
@@ -26,7 +28,7 @@ use Rattle.formulas.specs.Items.{withForm, itemsOf}
 use Rattle.grammar.specs.Line.{areNamed, isLine}
 use Rattle.grammar.specs.LineOf.{literalsOf, lineOf}
 use Rattle.store.specs.Saying.{someOn, atomsBy, encodedBy, saidBy}
-use Rattle.store.specs.Tables.{clauseWords, constraintWords, formulaNodes}
+use Rattle.store.specs.Tables.{clauseWords, constraintWords, formulaParts}
 use Rattle.checks.specs.Checks.{lookRefusal, formRefusal, lineRefusal, saidAfter}
 use Rattle.reader.specs.Reading.{ending, readLines, readFile}
 use Rattle.marked.specs.Marked.{MarkedRows}
@@ -35,9 +37,9 @@ pub marked-rows : MarkedRows
 unfolding ones onesIn has word valueOf literalsBelow nodes withNode spelled formulaOf clauseAt clausesOf addedBelow
     headsOf causesAmong causesOf atomsFrom choicesFor product digits digitOf settingsOf additionsOf fewCauses bodiesOf
     someTrue allFalse nextValue step rounds roundCount settled observedTrue noneBroken explainsUnder setExplains
-    subsetOf properOf someProper minimal minimalsBelow roundsBelow trueInAll falseInAll verdictOf isWordByte isAllowed
-    allOf sameBytes linesFrom isComment tokensFrom padded namesFrom someLong placeOf withName withNames rowsOf nodeOf
-    beginsWithLetter depthOf withForm itemsOf literalsOf lineOf someOn atomsBy encodedBy saidBy lookRefusal
-    formRefusal lineRefusal saidAfter clauseWords ending readLines readFile constraintWords formulaNodes isSentence
-    areNamed isLine
+    subsetOf properOf someProper minimal minimalsBelow roundsBelow trueInAll falseInAll verdictOf verdictsOf listOf
+    nodesOf isWordByte isAllowed allOf sameBytes linesFrom isComment tokensFrom padded namesFrom someLong placeOf
+    withName withNames rowsOf nodeOf beginsWithLetter depthOf withForm itemsOf literalsOf lineOf someOn atomsBy
+    encodedBy saidBy lookRefusal formRefusal lineRefusal saidAfter clauseWords ending readLines readFile constraintWords
+    formulaParts isSentence areNamed isLine
 marked-rows = refl

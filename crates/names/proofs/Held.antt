@@ -1,5 +1,5 @@
 -- Laws of a table that holds names: a name compared with a row, its row, and one name more. Assumes nothing.
-use mathlib.Core.Path.{_≡_, refl, sym, ap, _∙_}
+use mathlib.Core.Path.{_≡_, sym, ap, _∙_}
 use mathlib.Core.Bool.{true}
 use mathlib.Core.List.{List, [], _∷_, _++_}
 use Prim.Native.Nat.{ℕ, zero, suc, _+_, _*_, _≤_, _<_}
@@ -15,10 +15,11 @@ use Rattle.text.proofs.Same.{same-refl, same-eq}
 use Rattle.table.specs.Filled.{padded}
 use Rattle.table.proofs.Filled.{padded-length}
 use Rattle.table.proofs.Kept.{sets-filled}
+use Rattle.table.proofs.Rows.{rows-length, rows-push}
 use Rattle.names.specs.Names.{atomOf, rowsOf}
 use Rattle.names.specs.Row.{rowAt, beforeZero, rowOf}
 use Rattle.names.specs.Held.{Named, AllNamed, Holds}
-use Rattle.names.proofs.Rows.{rows-length, rows-push, filled-row}
+use Rattle.names.proofs.Rows.{name-rows, filled-row}
 use Rattle.names.proofs.RowNames.{row-name}
 
 -- Named
@@ -60,10 +61,11 @@ module _ {ns : List (List ℕ)} {t : List ℕ} (h : Holds ns t) (k : nameSize �
     -- a name is stored in the row behind those that are there
     pub held-push : length ns < 64 → Holds (ns ++ (w ∷ [])) (sets t (length ns * 16) (padded 16 w))
     held-push l =
-        let n : length ns * 16 ≡ length (rowsOf ns) = rw rows-length (omega arith) in
+        let n : length ns * 16 ≡ length (rowsOf ns) = omega (arith, rows-length name-rows ns) in
         let m = padded-length 16 w in
         record {
           all-named = all-named-push (h .all-named) g;
           few = rw (length-append ns (w ∷ [])) (omega arith);
-          table-is = rw (n, rows-push) (sets-filled nameSize (rowsOf ns) (padded 16 w) t (omega arith) k (h .table-is));
+          table-is = rw (n, rows-push name-rows ns w)
+              (sets-filled nameSize (rowsOf ns) (padded 16 w) t (omega arith) k (h .table-is));
         }

@@ -2,8 +2,9 @@
 use mathlib.Core.Path.{_≡_, refl, sym, ap, _∙_}
 use mathlib.Core.Bool.{true, false}
 use mathlib.Core.List.{List}
-use Prim.Native.Nat.{ℕ, _-_, _≤_, _<_}
-use lib.ListN.{length, drop}
+use Prim.Native.Nat.{ℕ, _+_, _-_, _≤_, _<_}
+use native.Mathlib.Omega.{arith}
+use lib.ListN.{length, drop, length-drop}
 use lib.Seq.{slice, length-slice}
 use Rattle.text.specs.Tokens.{tokens}
 use Rattle.text.specs.Words.{namesIn}
@@ -13,15 +14,20 @@ use Rattle.text.specs.declared.name.NextName.the-variants.{NoName, Name}
 use Rattle.text.proofs.Names.{names-found, name-inside}
 use Rattle.names.specs.Names.{someLong}
 use Rattle.names.specs.Row.{Rows, rowsWith, rowsThrough}
-use Rattle.names.proofs.Short.{some-long-here, some-long-later, some-long-nil}
+use Rattle.names.proofs.Short.{some-long-here, some-long-later, some-long-nil, short-line}
 use Rattle.names.proofs.Interning.{through-none, through-more, through-full}
 
 -- a name of the line l is long if one from place at on is
 pub record LongFrom (l : List ℕ) (at : ℕ) : Type 0 where
+  pub inside : at ≤ length l
   pub some-is : someLong (namesIn (tokens l)) ≡ someLong (namesIn (tokens (drop at l)))
 
 pub long-from-none : (l : List ℕ) → LongFrom l 0
-long-from-none l = record { some-is = refl }
+long-from-none l = record { inside = omega arith; some-is = refl }
+
+-- at most 16 bytes are left
+pub long-short : {l : List ℕ} {at : ℕ} → LongFrom l at → length l ≤ at + 16 → false ≡ someLong (namesIn (tokens l))
+long-short {l} {at} h k = sym (h .some-is ∙ short-line (drop at l) (simp length-drop (omega arith)))
 
 module _ {l : List ℕ} {at : ℕ} {r : NextName} (h : LongFrom l at) (f : NameFound l at r) where
   left-long : {q : NextName} → r ≡ q → someLong (namesIn (tokens l)) ≡ someLong (firstName l q)
@@ -38,7 +44,10 @@ module _ {l : List ℕ} {at : ℕ} {r : NextName} (h : LongFrom l at) (f : NameF
     long-here k = sym (left-long q ∙ some-long-here (slice a e l) _ (rw name-length k))
 
     pub long-later : e - a ≤ 16 → LongFrom l e
-    long-later k = record { some-is = left-long q ∙ some-long-later (slice a e l) _ (rw name-length k) }
+    long-later k = record {
+      inside = name-inside f q .2;
+      some-is = left-long q ∙ some-long-later (slice a e l) _ (rw name-length k);
+    }
 
 -- the names of the line l are put into the rows s₀ if those from place at on are put into s
 pub record Adding (s₀ : Rows) (l : List ℕ) (at : ℕ) (s : Rows) : Type 0 where

@@ -1,30 +1,22 @@
 -- Laws of the rows of names: their bytes, and those of a table that is filled with them. Assumes nothing.
 use mathlib.Core.Path.{_≡_, refl, sym, ap, _∙_}
-use mathlib.Core.List.{List, [], _∷_, _++_, append-nil, append-assoc}
+use mathlib.Core.List.{List, [], _∷_, _++_}
 use Prim.Native.Nat.{ℕ, zero, suc, _+_, _*_, _≤_, _<_}
 use native.Mathlib.Nat.{not-suc-le-zero, le-of-suc-le-suc}
 use native.Mathlib.Omega.{arith}
-use lib.ListN.{length, take, drop, getD, length-append}
+use lib.ListN.{length, take, drop, getD}
 use lib.Seq.{take-take, take-at, drop-append-add}
 use Rattle.program.specs.Case.{nameSize}
 use Rattle.text.proofs.Slices.{slice-take}
 use Rattle.table.specs.Filled.{filled, padded}
 use Rattle.table.proofs.Filled.{filled-take, padded-length, padded-append, padded-none}
+use Rattle.table.proofs.Rows.{RowTable}
 use Rattle.names.specs.Names.{rowsOf}
 use Rattle.names.specs.Row.{rowAt}
 
-pub rows-length : (ns : List (List ℕ)) → length (rowsOf ns) ≡ 16 * length ns
+pub name-rows : RowTable 16 (padded 16) rowsOf
 unfolding rowsOf
-rows-length [] = refl
-rows-length (n ∷ ns) =
-    let e = rows-length ns in
-    let f = padded-length 16 n in
-    rw (length-append (padded 16 n) (rowsOf ns)) (omega arith)
-
-pub rows-push : (ns : List (List ℕ)) (w : List ℕ) → rowsOf (ns ++ (w ∷ [])) ≡ rowsOf ns ++ padded 16 w
-unfolding rowsOf
-rows-push [] w = append-nil (padded 16 w)
-rows-push (n ∷ ns) w = rw (rows-push ns w, append-assoc)
+name-rows = record { none-is = refl; more-are = λ w ns. refl; width = padded-length 16 }
 
 -- the first row of a table, and the others
 table-none : (n : ℕ) → padded (16 * suc n) [] ≡ padded 16 [] ++ padded (16 * n) []

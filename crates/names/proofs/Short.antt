@@ -14,7 +14,7 @@ use Rattle.text.specs.Tokens.{tokens}
 use Rattle.text.specs.Words.{namesIn}
 use Rattle.text.proofs.ByteLaws.{all-head, all-tail, word-byte-not-zero}
 use Rattle.text.proofs.Each.{Each}
-use Rattle.text.proofs.Words.{IsWord, line-names-are-words}
+use Rattle.text.proofs.Words.{IsWord, line-names-are-words, line-names-are-short}
 use Rattle.names.specs.Names.{someLong}
 use Rattle.names.specs.Held.{NoZero, Named}
 
@@ -44,6 +44,14 @@ module _ (w : List ℕ) (ws : List (List ℕ)) where
 pub some-long-nil : someLong [] ≡ false
 unfolding someLong
 some-long-nil = refl
+
+all-short : (ws : List (List ℕ)) → Each (λ w. length w ≤ 16) ws → someLong ws ≡ false
+all-short [] h = some-long-nil
+all-short (w ∷ ws) h = some-long-later w ws (h .0) ∙ all-short ws (h .1)
+
+-- a line of at most 16 bytes has no long name
+pub short-line : (l : List ℕ) → length l ≤ 16 → someLong (namesIn (tokens l)) ≡ false
+short-line l h = all-short (namesIn (tokens l)) (line-names-are-short 16 l h)
 
 -- Named
 

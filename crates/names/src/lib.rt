@@ -87,7 +87,7 @@ pub fn some_long(l: &[u8]) -> bool
     ensures { λ r. ⌜ r ≡ someLong (namesIn (tokens (now (l .entry)))) ⌝ }
 {
     let mut at = 0;
-    loop {
+    while at + 16 < l.len() {
         let NextName::Name(a, e) = next_name(l, at) else {
             return false;
         };
@@ -96,4 +96,5 @@ pub fn some_long(l: &[u8]) -> bool
         }
         at = e;
     }
+    false
 }

@@ -74,11 +74,17 @@ fn eval(nodes: &[u8], at: usize, i: Interpretation) -> Worth
     }
 }
 
-// The value of a formula by its nodes.
+// The value of a formula by its nodes; of a name alone without a call.
 pub fn formula_value(nodes: &[u8], i: Interpretation) -> Value
     ensures { λ r. ⌜ ((n : ℕ) → oneFormula n (now (nodes .entry)) ≡ true
         → r ≡ valueOf (valueAt i) (formulaOf (now (nodes .entry)))) ⌝ }
 {
+    if 0 < nodes.len() {
+        let node = nodes[0];
+        if node < 64 {
+            return i.value(node as u32);
+        }
+    }
     let w = eval(nodes, 0, i);
     w.value
 }

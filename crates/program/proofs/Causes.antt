@@ -35,6 +35,12 @@ pub causes-of : (c : Case) (cl : List ℕ) → causesOf c cl ≡ causesAmong (c 
 unfolding causesOf
 causes-of c cl = refl
 
+-- they hang on its atoms and clauses alone
+pub causes-alike : (c d : Case) (cl : List ℕ) → c .atoms ≡ d .atoms → c .clauses ≡ d .clauses
+    → causesOf c cl ≡ causesOf d cl
+unfolding causesOf
+causes-alike c d cl a l = rw (a, l)
+
 pub causes-of-lt : (c : Case) (cl : List ℕ) → c .atoms ≤ 64 → causesOf c cl < 2 ^ c .atoms
 unfolding causesOf
 causes-of-lt c cl h = causes-lt (c .atoms) (headsOf cl (c .clauses)) h

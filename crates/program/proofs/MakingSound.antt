@@ -1,6 +1,6 @@
 -- What makes a case sound, phrase by phrase; and that the first words of a table's clauses decide its causes.
 -- Assumes nothing.
-use mathlib.Core.Path.{_≡_, ap}
+use mathlib.Core.Path.{_≡_, sym, ap, _∙_}
 use mathlib.Core.Bool.{true, false}
 use mathlib.Core.List.{List}
 use Prim.Native.Nat.{ℕ, _+_, _*_, _/_, _%_, _^_, _≤_, _<_}
@@ -11,21 +11,23 @@ use borrow.Author.Tests.{lt-ltb, le-leb}
 use Rattle.words.proofs.Below.{any-ext, every-true}
 use Rattle.words.proofs.Words.{word-ext}
 use Rattle.program.specs.declared.case.Case.{Case}
-use Rattle.program.specs.Case.{clauseSize, constraintSize, formulaSize, tablesFull}
+use Rattle.logic.specs.Nodes.{oneFormula}
+use Rattle.program.specs.Case.{clauseSize, constraintSize, formulaSize, partSize, tablesFull, nodesOf}
 use Rattle.program.specs.Program.{headsOf}
 use Rattle.program.specs.Sound.{limitsHold, within, bare, shaped, soundClause, soundClauses, soundConstraint}
-use Rattle.program.specs.Sound.{soundConstraints, fewCauses}
-use Rattle.program.proofs.Soundness.{clauseTest, constraintTest}
+use Rattle.program.specs.Sound.{soundConstraints, fewCauses, soundFormula, soundFormulas}
+use Rattle.program.proofs.Soundness.{clauseTest, constraintTest, formula-fits}
 
 pub tables-full : (cl co fo : List ℕ) → clauseSize ≤ length cl → constraintSize ≤ length co → formulaSize ≤ length fo
     → tablesFull cl co fo ≡ true
 unfolding tablesFull
 tables-full cl co fo a b c = rw (le-leb clauseSize _ a, le-leb constraintSize _ b) (le-leb formulaSize _ c)
 
-pub limits-hold : (c : Case) → 1 ≤ c .atoms → c .atoms ≤ 64 → c .clauses ≤ 256 → c .constraints ≤ 32 → c .nodes ≤ 128
-    → limitsHold c ≡ true
+pub limits-hold : (c : Case) → 1 ≤ c .atoms → c .atoms ≤ 64 → c .clauses ≤ 256 → c .constraints ≤ 32
+    → 1 ≤ c .formulas → c .formulas ≤ 16 → limitsHold c ≡ true
 unfolding limitsHold
-limits-hold c i a l o f = rw (le-leb 1 _ i, le-leb _ 64 a, le-leb _ 256 l, le-leb _ 32 o) (le-leb _ 128 f)
+limits-hold c i a l o s f =
+    rw (le-leb 1 (c .atoms) i, le-leb _ 64 a, le-leb _ 256 l, le-leb _ 32 o, le-leb 1 (c .formulas) s) (le-leb _ 16 f)
 
 pub within-below : (n p q : ℕ) → p < 2 ^ n → q < 2 ^ n → within n p q ≡ true
 unfolding within
@@ -51,6 +53,15 @@ pub constraints-pass : (n m : ℕ) (co : List ℕ) → ((k : ℕ) → k < m → 
     → soundConstraints n co m ≡ true
 unfolding soundConstraints
 constraints-pass n m co h = every-true m _ h
+
+pub formula-passes : (n : ℕ) (ns fo : List ℕ) (q : ℕ) → getD ns q 0 ≤ partSize → oneFormula n (nodesOf ns fo q) ≡ true
+    → soundFormula n ns fo q ≡ true
+formula-passes n ns fo q l e = sym (formula-fits n ns fo q l) ∙ e
+
+pub formulas-pass : (n m : ℕ) (ns fo : List ℕ) → ((q : ℕ) → q < m → soundFormula n ns fo q ≡ true)
+    → soundFormulas n ns fo m ≡ true
+unfolding soundFormulas
+formulas-pass n m ns fo h = every-true m _ h
 
 module _ (cl dl : List ℕ) (m : ℕ) (e : (k : ℕ) → k < m → getD cl (3 * k) 0 ≡ getD dl (3 * k) 0) where
   heads-ext : headsOf cl m ≡ headsOf dl m

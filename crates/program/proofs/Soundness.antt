@@ -2,20 +2,22 @@
 use mathlib.Core.Path.{_≡_, refl, sym, ap, _∙_}
 use mathlib.Core.Bool.{Bool, true, false, _&&_, false≢true}
 use mathlib.Core.List.{List}
-use Prim.Native.Nat.{ℕ, zero, suc, _+_, _*_, _/_, _%_, _≤_, _<_}
+use Prim.Native.Nat.{ℕ, zero, suc, _+_, _-_, _*_, _/_, _%_, _≤_, _<_}
 use native.Mathlib.Omega.{arith}
 use lib.Count.{ones}
 use lib.Dec.{ltb, leb}
-use lib.ListN.{length, getD, take}
+use lib.ListN.{length, getD, take, length-take, length-drop}
 use borrow.Author.Tests.{ltb-true, ltb-false, leb-true, le-leb, lt-leb, le-ltb, lt-ltb}
+use borrow.Rule.Slice.PartMut.{midOf}
 use Rattle.words.proofs.Tests.{and-true-l}
 use Rattle.words.proofs.Below.{every-at}
 use Rattle.logic.specs.Nodes.{oneFormula}
 use Rattle.program.specs.declared.case.Case.{Case}
-use Rattle.program.specs.Case.{tablesFull, headAt, plainAt, negatedAt, forbidden, forbiddenNot}
+use Rattle.program.specs.Case.{formulaSize, tablesFull, headAt, plainAt, negatedAt, forbidden, forbiddenNot}
+use Rattle.program.specs.Case.{partSize, nodesOf}
 use Rattle.program.specs.Cause.{causesOf}
 use Rattle.program.specs.Sound.{limitsHold, within, bare, shaped, soundClause, soundClauses, soundConstraint}
-use Rattle.program.specs.Sound.{soundConstraints, fewCauses, sound}
+use Rattle.program.specs.Sound.{soundConstraints, fewCauses, soundFormula, soundFormulas, sound}
 
 -- ---- at most the number below m by one is below m
 pub leb-below : (a t m : ℕ) → t + 1 ≡ m → leb a t ≡ ltb a m
@@ -61,11 +63,21 @@ module _ (c : Case) where
             let few = lt-leb (c .constraints) 32 l in
             rw (le-leb 1 (c .atoms) some, le-leb (c .atoms) 64 atoms, le-leb (c .clauses) 256 clauses, few)
 
-        pub limits-last : c .constraints ≤ 32 → leb (c .nodes) 128 ≡ limitsHold c
-        unfolding limitsHold
-        limits-last l =
-            let few = le-leb (c .constraints) 32 l in
-            rw (le-leb 1 (c .atoms) some, le-leb (c .atoms) 64 atoms, le-leb (c .clauses) 256 clauses, few)
+        module _ (constraints : c .constraints ≤ 32) where
+          few : leb (c .constraints) 32 ≡ true
+          few = le-leb (c .constraints) 32 constraints
+
+          pub limits-formulaless : c .formulas < 1 → false ≡ limitsHold c
+          unfolding limitsHold
+          limits-formulaless l =
+              let none = lt-leb 1 (c .formulas) l in
+              rw (le-leb 1 (c .atoms) some, le-leb (c .atoms) 64 atoms, le-leb (c .clauses) 256 clauses, few, none)
+
+          pub limits-last : 1 ≤ c .formulas → leb (c .formulas) 16 ≡ limitsHold c
+          unfolding limitsHold
+          limits-last l =
+              let one = le-leb 1 (c .formulas) l in
+              rw (le-leb 1 (c .atoms) some, le-leb (c .atoms) 64 atoms, le-leb (c .clauses) 256 clauses, few, one)
 
 -- ---- a clause: the first test that fails, or the last
 module _ (n first p q : ℕ) where
@@ -112,9 +124,9 @@ seven true true true true true false g h = absurd (false≢true h)
 
 -- ---- full tables
 module _ (cl co fo : List ℕ) (h : tablesFull cl co fo ≡ true) where
-  sizes : Seven true true true true (leb 768 (length cl)) (leb 64 (length co)) (leb 128 (length fo))
+  sizes : Seven true true true true (leb 768 (length cl)) (leb 64 (length co)) (leb formulaSize (length fo))
   unfolding tablesFull
-  sizes = seven true true true true (leb 768 (length cl)) (leb 64 (length co)) (leb 128 (length fo)) h
+  sizes = seven true true true true (leb 768 (length cl)) (leb 64 (length co)) (leb formulaSize (length fo)) h
 
   pub full-clauses : 768 ≤ length cl
   unfolding Seven
@@ -124,34 +136,34 @@ module _ (cl co fo : List ℕ) (h : tablesFull cl co fo ≡ true) where
   unfolding Seven
   full-constraints = leb-true 64 (length co) (sizes .5)
 
-  pub full-formula : 128 ≤ length fo
+  pub full-formula : formulaSize ≤ length fo
   unfolding Seven
-  full-formula = leb-true 128 (length fo) (sizes .6)
+  full-formula = leb-true formulaSize (length fo) (sizes .6)
 
 -- ---- counts within the limits
 module _ (c : Case) (h : limitsHold c ≡ true) where
-  limits : Seven true true (leb 1 (c .atoms)) (leb (c .atoms) 64) (leb (c .clauses) 256) (leb (c .constraints) 32)
-      (leb (c .nodes) 128)
+  limits : Seven true (leb 1 (c .atoms)) (leb (c .atoms) 64) (leb (c .clauses) 256) (leb (c .constraints) 32)
+      (leb 1 (c .formulas)) (leb (c .formulas) 16)
   unfolding limitsHold
   limits =
-      seven true true (leb 1 (c .atoms)) (leb (c .atoms) 64) (leb (c .clauses) 256) (leb (c .constraints) 32)
-      (leb (c .nodes) 128) h
+      seven true (leb 1 (c .atoms)) (leb (c .atoms) 64) (leb (c .clauses) 256) (leb (c .constraints) 32)
+      (leb 1 (c .formulas)) (leb (c .formulas) 16) h
 
   pub limits-atoms : (1 ≤ c .atoms) × (c .atoms ≤ 64)
   unfolding Seven
-  limits-atoms = (leb-true 1 (c .atoms) (limits .2), leb-true (c .atoms) 64 (limits .3))
+  limits-atoms = (leb-true 1 (c .atoms) (limits .1), leb-true (c .atoms) 64 (limits .2))
 
   limits-clauses : c .clauses ≤ 256
   unfolding Seven
-  limits-clauses = leb-true (c .clauses) 256 (limits .4)
+  limits-clauses = leb-true (c .clauses) 256 (limits .3)
 
   limits-constraints : c .constraints ≤ 32
   unfolding Seven
-  limits-constraints = leb-true (c .constraints) 32 (limits .5)
+  limits-constraints = leb-true (c .constraints) 32 (limits .4)
 
-  limits-nodes : c .nodes ≤ 128
+  limits-formulas : (1 ≤ c .formulas) × (c .formulas ≤ 16)
   unfolding Seven
-  limits-nodes = leb-true (c .nodes) 128 (limits .6)
+  limits-formulas = (leb-true 1 (c .formulas) (limits .5), leb-true (c .formulas) 16 (limits .6))
 
 -- ---- tables that hold as many entries as the counts say
 module _ (c : Case) (cl co fo : List ℕ) (f : tablesFull cl co fo ≡ true) (h : limitsHold c ≡ true) where
@@ -167,19 +179,57 @@ module _ (c : Case) (cl co fo : List ℕ) (f : tablesFull cl co fo ≡ true) (h 
       let n = limits-constraints c h in
       (a .0, a .1, n, omega (arith, full-constraints cl co fo f))
 
-  pub nodes-held : c .nodes ≤ length fo
-  nodes-held = let n = limits-nodes c h in omega (arith, full-formula cl co fo f)
+  pub formulas-held : (c .formulas ≤ 16) × (formulaSize ≤ length fo)
+  formulas-held = (limits-formulas c h .1, full-formula cl co fo f)
+
+-- ---- a formula: too many nodes, or the nodes decide
+module _ (n : ℕ) (ns fo : List ℕ) (q : ℕ) where
+  pub formula-long : partSize < getD ns q 0 → false ≡ soundFormula n ns fo q
+  unfolding soundFormula
+  formula-long l = rw (lt-leb (getD ns q 0) partSize l)
+
+  pub formula-fits : getD ns q 0 ≤ partSize → oneFormula n (nodesOf ns fo q) ≡ soundFormula n ns fo q
+  unfolding soundFormula
+  formula-fits l = rw (le-leb (getD ns q 0) partSize l)
+
+  module _ (h : soundFormula n ns fo q ≡ true) where
+    pub formula-few : getD ns q 0 ≤ partSize
+    unfolding soundFormula
+    formula-few =
+        leb-true (getD ns q 0) partSize
+        (and-true-l (leb (getD ns q 0) partSize) (oneFormula n (nodesOf ns fo q)) h)
+
+    pub formula-one : oneFormula n (nodesOf ns fo q) ≡ true
+    formula-one = formula-fits formula-few ∙ h
+
+-- its nodes are as many as ns says
+pub nodes-length : (ns fo : List ℕ) (q : ℕ) → partSize * q + getD ns q 0 ≤ length fo
+    → length (nodesOf ns fo q) ≡ getD ns q 0
+unfolding nodesOf
+nodes-length ns fo q l = simp (length-take, length-drop) (omega arith)
+
+pub nodes-first : (ns fo : List ℕ) → nodesOf ns fo 0 ≡ take (getD ns 0 0) fo
+unfolding nodesOf
+nodes-first ns fo = refl
+
+-- the part of the table that the code lends
+pub nodes-lent : (ns fo : List ℕ) (q : ℕ)
+    → midOf (partSize * q) (partSize * q + getD ns q 0 - partSize * q) fo ≡ nodesOf ns fo q
+unfolding nodesOf
+nodes-lent ns fo q =
+    let e : partSize * q + getD ns q 0 - partSize * q ≡ getD ns q 0 = omega arith in
+    rw e
 
 -- ---- a sound case
 module _ (c : Case) (cl co fo : List ℕ) (h : sound c cl co fo ≡ true) where
   phrases : Seven (tablesFull cl co fo) (limitsHold c) (soundClauses (c .atoms) cl (c .clauses))
       (soundConstraints (c .atoms) co (c .constraints)) (within (c .atoms) (c .plain) (c .negated))
-      (fewCauses (c .atoms) cl (c .clauses)) (oneFormula (c .atoms) (take (c .nodes) fo))
+      (fewCauses (c .atoms) cl (c .clauses)) (soundFormulas (c .atoms) (c .nodes) fo (c .formulas))
   unfolding sound
   phrases =
       seven (tablesFull cl co fo) (limitsHold c) (soundClauses (c .atoms) cl (c .clauses))
       (soundConstraints (c .atoms) co (c .constraints)) (within (c .atoms) (c .plain) (c .negated))
-      (fewCauses (c .atoms) cl (c .clauses)) (oneFormula (c .atoms) (take (c .nodes) fo)) h
+      (fewCauses (c .atoms) cl (c .clauses)) (soundFormulas (c .atoms) (c .nodes) fo (c .formulas)) h
 
   pub sound-full : tablesFull cl co fo ≡ true
   unfolding Seven
@@ -205,9 +255,9 @@ module _ (c : Case) (cl co fo : List ℕ) (h : sound c cl co fo ≡ true) where
   unfolding Seven
   sound-causes = phrases .5
 
-  pub sound-formula : oneFormula (c .atoms) (take (c .nodes) fo) ≡ true
+  pub sound-formula-table : soundFormulas (c .atoms) (c .nodes) fo (c .formulas) ≡ true
   unfolding Seven
-  sound-formula = phrases .6
+  sound-formula-table = phrases .6
 
   pub sound-atoms : (1 ≤ c .atoms) × (c .atoms ≤ 64)
   sound-atoms = limits-atoms c sound-limits
@@ -218,8 +268,14 @@ module _ (c : Case) (cl co fo : List ℕ) (h : sound c cl co fo ≡ true) where
   pub sound-constraints : c .constraints ≤ 32
   sound-constraints = limits-constraints c sound-limits
 
-  pub sound-nodes : c .nodes ≤ 128
-  sound-nodes = limits-nodes c sound-limits
+  pub sound-formulas : (1 ≤ c .formulas) × (c .formulas ≤ 16)
+  sound-formulas = limits-formulas c sound-limits
+
+  -- each of its formulas
+  module _ (q : ℕ) (l : q < c .formulas) where
+    pub sound-each : soundFormula (c .atoms) (c .nodes) fo q ≡ true
+    unfolding soundFormulas
+    sound-each = every-at (c .formulas) (soundFormula (c .atoms) (c .nodes) fo) sound-formula-table q l
 
   pub sound-head : (k : ℕ) → k < c .clauses → headAt cl k < c .atoms
   unfolding soundClauses
@@ -231,11 +287,11 @@ module _ (c : Case) (cl co fo : List ℕ) (h : sound c cl co fo ≡ true) where
   unfolding fewCauses causesOf
   sound-few = leb-true (ones (causesOf c cl)) 10 sound-causes
 
--- where the other phrases hold, the formula decides
+-- where the other phrases hold, the formulas decide
 pub sound-rest : (c : Case) (cl co fo : List ℕ) → tablesFull cl co fo ≡ true → limitsHold c ≡ true
     → soundClauses (c .atoms) cl (c .clauses) ≡ true → soundConstraints (c .atoms) co (c .constraints) ≡ true
     → within (c .atoms) (c .plain) (c .negated) ≡ true → fewCauses (c .atoms) cl (c .clauses) ≡ true
-    → oneFormula (c .atoms) (take (c .nodes) fo) ≡ sound c cl co fo
+    → soundFormulas (c .atoms) (c .nodes) fo (c .formulas) ≡ sound c cl co fo
 unfolding sound
 sound-rest c cl co fo full limits clauses constraints observed few =
     rw (full, limits, clauses, constraints, observed, few)

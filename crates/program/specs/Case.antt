@@ -2,17 +2,19 @@
 -- From: document 01, "Case tables and sound cases".
 --
 --   clauseSize, ..           the sizes of the lent tables, names among them
+--   partSize                 the size of one formula's part of the formula table
 --   tablesFull cl co fo      clauses, constraints and formula have their full sizes
 --   headAt, kindAt           head and kind of clause k: its first word is head + 64 × kind
 --   plainAt, negatedAt       the plain and the negated atoms of clause k
 --   forbidden, forbiddenNot  the plain and the negated atoms of constraint k
+--   nodesOf ns fo q          the nodes of formula q: the first in part q of the formula table, as many as ns says
 use mathlib.Core.Bool.{Bool, _&&_}
 use mathlib.Core.List.{List}
 use Prim.Native.Nat.{ℕ, _+_, _*_, _/_, _%_}
 use lib.Dec.{leb}
-use lib.ListN.{length, getD}
+use lib.ListN.{length, getD, take, drop}
 
--- the sizes of the lent tables: words of clauses and of constraints, bytes of the formula and of the names
+-- the sizes of the lent tables: words of clauses and of constraints, bytes of the formulas and of the names
 abbrev pub clauseSize : ℕ
 clauseSize = 768
 
@@ -20,10 +22,14 @@ abbrev pub constraintSize : ℕ
 constraintSize = 64
 
 abbrev pub formulaSize : ℕ
-formulaSize = 128
+formulaSize = 2048
 
 abbrev pub nameSize : ℕ
 nameSize = 1024
+
+-- 16 parts of 128 bytes
+abbrev pub partSize : ℕ
+partSize = 128
 
 unfoldable pub tablesFull : List ℕ → List ℕ → List ℕ → Bool
 tablesFull cl co fo = leb clauseSize (length cl) && leb constraintSize (length co) && leb formulaSize (length fo)
@@ -45,3 +51,7 @@ forbidden co k = getD co (2 * k) 0
 
 abbrev pub forbiddenNot : List ℕ → ℕ → ℕ
 forbiddenNot co k = getD co (2 * k + 1) 0
+
+-- ns has the node count of each formula
+unfoldable pub nodesOf : List ℕ → List ℕ → ℕ → List ℕ
+nodesOf ns fo q = take (getD ns q 0) (drop (partSize * q) fo)

@@ -1,30 +1,36 @@
 -- Sound cases.
 -- From: document 01, "Case tables and sound cases", phrase by phrase.
 --
---   limitsHold c          1 to 64 atoms, at most 256 clauses, 32 constraints and 128 nodes
+--   limitsHold c          1 to 64 atoms, at most 256 clauses and 32 constraints, 1 to 16 formulas
 --   within n p q          every bit of the two words names one of n atoms
 --   bare p q              neither word has a bit
 --   shaped k b            facts and assumptions have no literal (b), rules have one or more; there is no other kind
 --   soundClause           a clause's three words, over n atoms
 --   soundConstraint       a constraint's two words, over n atoms
 --   fewCauses             at most 10 causes
+--   soundFormula          the nodes of formula q, at most 128, are exactly one formula of depth at most 16 over n atoms
 --   sound c cl co fo      the case c with the tables cl, co, fo is sound
 use mathlib.Core.Bool.{Bool, false, not, _&&_}
 use mathlib.Core.List.{List}
 use Prim.Native.Nat.{ℕ, zero, suc, _*_, _/_, _%_, _^_}
 use lib.Count.{ones}
 use lib.Dec.{eqb, ltb, leb}
-use lib.ListN.{getD, take}
+use lib.ListN.{getD}
 use Rattle.words.specs.Below.{every}
 use Rattle.logic.specs.Nodes.{oneFormula}
 use Rattle.program.specs.declared.case.Case.{Case}
-use Rattle.program.specs.Case.{tablesFull, plainAt, negatedAt, forbidden, forbiddenNot}
+use Rattle.program.specs.Case.{partSize, tablesFull, plainAt, negatedAt, forbidden, forbiddenNot, nodesOf}
 use Rattle.program.specs.Program.{headsOf}
 use Rattle.program.specs.Cause.{causesAmong}
 
 unfoldable pub limitsHold : Case → Bool
 limitsHold c =
-    leb 1 (c .atoms) && leb (c .atoms) 64 && leb (c .clauses) 256 && leb (c .constraints) 32 && leb (c .nodes) 128
+    leb 1 (c .atoms)
+    && leb (c .atoms) 64
+    && leb (c .clauses) 256
+    && leb (c .constraints) 32
+    && leb 1 (c .formulas)
+    && leb (c .formulas) 16
 
 unfoldable pub within : ℕ → ℕ → ℕ → Bool
 within n p q = ltb p (2 ^ n) && ltb q (2 ^ n)
@@ -54,6 +60,13 @@ soundConstraints n co m = every m (λ k. soundConstraint n (forbidden co k) (for
 unfoldable pub fewCauses : ℕ → List ℕ → ℕ → Bool
 fewCauses n cl m = leb (ones (causesAmong n (headsOf cl m))) 10
 
+-- ns has the node count of each formula
+unfoldable pub soundFormula : ℕ → List ℕ → List ℕ → ℕ → Bool
+soundFormula n ns fo q = leb (getD ns q 0) partSize && oneFormula n (nodesOf ns fo q)
+
+unfoldable pub soundFormulas : ℕ → List ℕ → List ℕ → ℕ → Bool
+soundFormulas n ns fo m = every m (soundFormula n ns fo)
+
 unfoldable pub sound : Case → List ℕ → List ℕ → List ℕ → Bool
 sound c cl co fo =
     tablesFull cl co fo
@@ -62,4 +75,4 @@ sound c cl co fo =
     && soundConstraints (c .atoms) co (c .constraints)
     && within (c .atoms) (c .plain) (c .negated)
     && fewCauses (c .atoms) cl (c .clauses)
-    && oneFormula (c .atoms) (take (c .nodes) fo)
+    && soundFormulas (c .atoms) (c .nodes) fo (c .formulas)

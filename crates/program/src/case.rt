@@ -2,14 +2,16 @@
 ghost use mathlib.Core.Path.{_≡_};
 ghost use Rattle.program.specs.Case.{tablesFull};
 
-// A case: how many entries its lent tables have in use, and the observed literals, bit i for atom i.
+// A case: how many entries its lent tables have in use, the observed literals, bit i for atom i, and how many nodes
+// each formula has.
 pub struct Case {
     pub atoms: usize,
     pub clauses: usize,
     pub constraints: usize,
-    pub nodes: usize,
+    pub formulas: usize,
     pub plain: u64,
     pub negated: u64,
+    pub nodes: [usize; 16],
 }
 
 impl Case {
@@ -19,16 +21,18 @@ impl Case {
 
     pub const CONSTRAINTS: usize = 32;
 
+    pub const FORMULAS: usize = 16;
+
     pub const NODES: usize = 128;
 
     pub const CAUSES: u32 = 10;
 
-    // Sizes of the lent tables: words of clauses, words of constraints, bytes of the formula and of the names.
+    // Sizes of the lent tables: words of clauses, words of constraints, bytes of the formulas and of the names.
     pub const CLAUSE_WORDS: usize = 768;
 
     pub const CONSTRAINT_WORDS: usize = 64;
 
-    pub const FORMULA_BYTES: usize = 128;
+    pub const FORMULA_BYTES: usize = 2048;
 
     pub const NAME_BYTES: usize = 1024;
 }

@@ -3,9 +3,10 @@ ghost use mathlib.Core.Path.{_≡_};
 ghost use mathlib.Core.Bool.{true, false};
 ghost use Prim.Native.Nat.{_+_, _*_, _^_, _≤_, _<_};
 ghost use lib.ListN.{length};
-ghost use Rattle.program.specs.Case.{tablesFull};
+ghost use Rattle.program.specs.Case.{formulaSize, tablesFull};
 ghost use Rattle.program.specs.Sound.{limitsHold, bare, shaped, within, soundClause};
-ghost use Rattle.program.specs.Sound.{soundClauses, soundConstraint, soundConstraints, fewCauses, sound};
+ghost use Rattle.program.specs.Sound.{soundClauses, soundConstraint, soundConstraints, fewCauses};
+ghost use Rattle.program.specs.Sound.{soundFormula, soundFormulas, sound};
 use crate::case::Case;
 
 // Whether the counts are within the limits.
@@ -24,7 +25,10 @@ pub fn limits_hold(c: Case) -> bool
     if Case::CONSTRAINTS < c.constraints {
         return false;
     }
-    c.nodes <= Case::NODES
+    if c.formulas < 1 {
+        return false;
+    }
+    c.formulas <= Case::FORMULAS
 }
 
 // Whether a body has no literal.
@@ -130,6 +134,35 @@ pub fn causes_few(atoms: usize, clauses: &[u64], n: usize) -> bool
     words::count(causes) <= Case::CAUSES
 }
 
+// Whether formula q is sound; nodes has the node count of each formula.
+pub fn formula_sound(atoms: usize, nodes: &[usize; 16], formula: &[u8], q: usize) -> bool
+    requires { ⌜ (q < 16) × (formulaSize ≤ length (now formula)) ⌝ }
+    ensures { λ r. ⌜ r ≡ soundFormula atoms (now (nodes .entry)) (now (formula .entry)) q ⌝ }
+{
+    let n = nodes[q];
+    if Case::NODES < n {
+        return false;
+    }
+    let at = Case::NODES * q;
+    let end = at + n;
+    nodes::formula::one_formula(&formula[at..end], atoms)
+}
+
+// Whether the first n formulas are sound; nodes has the node count of each.
+pub fn formulas_sound(atoms: usize, nodes: &[usize; 16], formula: &[u8], n: usize) -> bool
+    requires { ⌜ (n ≤ 16) × (formulaSize ≤ length (now formula)) ⌝ }
+    ensures { λ r. ⌜ r ≡ soundFormulas atoms (now (nodes .entry)) (now (formula .entry)) n ⌝ }
+{
+    let mut q = 0;
+    while q < n {
+        if !formula_sound(atoms, nodes, formula, q) {
+            return false;
+        }
+        q += 1;
+    }
+    true
+}
+
 // Whether a case is sound, where its lent tables have their full sizes.
 pub fn is_sound(c: Case, clauses: &[u64], constraints: &[u64], formula: &[u8]) -> bool
     requires { ⌜ tablesFull (now clauses) (now constraints) (now formula) ≡ true ⌝ }
@@ -151,5 +184,5 @@ pub fn is_sound(c: Case, clauses: &[u64], constraints: &[u64], formula: &[u8]) -
         return false;
     }
     let nodes = c.nodes;
-    nodes::formula::one_formula(&formula[..nodes], c.atoms)
+    formulas_sound(c.atoms, &nodes, formula, c.formulas)
 }

@@ -12,7 +12,6 @@ use Rattle.program.specs.Sound.{fewCauses}
 use Rattle.text.proofs.LineLaws.{lines-none}
 use Rattle.store.specs.Lent.{Lent}
 use Rattle.store.specs.Tables.{clauseWords}
-use Rattle.store.proofs.Rows.{node-each}
 use Rattle.store.proofs.Held.{held-in-limits}
 use Rattle.reader.specs.Reading.{Outcome, orElse, endRefusal, ending, readLines, readFile}
 use Rattle.reader.specs.Steps.{endRefusalIn, Countable, refusedAt, FileTaken}
@@ -21,10 +20,10 @@ use Rattle.reader.proofs.TakingLines.{or-else-refused, refused-taken, L
 
 -- the checks 11 and 12 of a record
 module _ (c : Case) (cl : List ℕ) where
-  pub end-eleven : c .nodes ≡ 0 → 11 ≡ endRefusalIn c cl
+  pub end-eleven : c .formulas ≡ 0 → 11 ≡ endRefusalIn c cl
   end-eleven e = rw e
 
-  module _ (h : c .nodes ≡ 0 → ⊥) where
+  module _ (h : c .formulas ≡ 0 → ⊥) where
     pub countable-held : Countable c cl
         → (1 ≤ c .atoms) × (c .atoms ≤ 64) × (c .clauses ≤ 256) × (3 * c .clauses ≤ length cl)
     countable-held p =
@@ -32,16 +31,16 @@ module _ (c : Case) (cl : List ℕ) where
 
     module _ {b : Bool} (f : b ≡ fewCauses (c .atoms) cl (c .clauses)) where
       pub end-twelve : not b ≡ true → 12 ≡ endRefusalIn c cl
-      end-twelve e = rw (le-leb 1 (c .nodes) (omega arith), ← f, not-true b e)
+      end-twelve e = rw (le-leb 1 (c .formulas) (omega arith), ← f, not-true b e)
 
       pub end-none : not b ≡ false → 0 ≡ endRefusalIn c cl
-      end-none e = rw (le-leb 1 (c .nodes) (omega arith), ← f, not-false b e)
+      end-none e = rw (le-leb 1 (c .formulas) (omega arith), ← f, not-false b e)
 
 -- all lines are taken
 module _ {f : List ℕ} {t₀ t : Lent} {c : Case} {at line : ℕ} (i : LinesTaken f t₀ t c at line) where
   -- the tests of the record and of the table are those of what was read
-  query-is : leb 1 (c .nodes) ≡ leb 1 (length (i .said .queries))
-  query-is = rw (i .held .case-is) (node-each (i .said .queries) (i .held .limits .query-nodes))
+  query-is : leb 1 (c .formulas) ≡ leb 1 (length (i .said .queries))
+  query-is = rw (i .held .case-is)
 
   few-is : fewCauses (c .atoms) (t .clauses) (c .clauses)
       ≡ fewCauses (length (i .said .names)) (clauseWords (i .said .clauses)) (length (i .said .clauses))
@@ -59,8 +58,8 @@ module _ {f : List ℕ} {t₀ t : Lent} {c : Case} {at line : ℕ} (i : LinesTak
   causes-countable = record {
     limits = held-in-limits (i .said) c t (i .held);
     atoms-some = λ h.
-        let q : 1 ≤ length (i .said .queries) = leb-true 1 _ (sym query-is ∙ le-leb 1 (c .nodes) (omega arith)) in
-        rw (i .held .case-is) (omega (arith, i .held .limits .query-atoms));
+        let q : 1 ≤ length (i .said .queries) = leb-true 1 _ (sym query-is ∙ le-leb 1 (c .formulas) (omega arith)) in
+        rw (i .held .case-is) (i .held .limits .query-atoms q);
     clauses-long = i .long .clauses-long;
   }
 

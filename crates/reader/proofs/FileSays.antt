@@ -1,29 +1,32 @@
 -- An accepted file's record and tables say what the file says. Assumes nothing.
 use mathlib.Core.Path.{_≡_, refl, sym, ap, _∙_}
 use mathlib.Core.Bool.{true, false}
-use mathlib.Core.List.{List, [], _∷_}
+use mathlib.Core.List.{List}
 use Prim.Native.Nat.{ℕ, _^_, _<_}
 use native.Mathlib.Nat.{lt-of-lt-of-le}
 use native.Mathlib.Omega.{arith}
-use lib.ListN.{length, take}
+use lib.ListN.{length}
 use lib.Pow.{pow-mono}
+use Rattle.words.specs.Lists.{listOf}
 use Rattle.words.proofs.Checks.{first-of-none}
+use Rattle.words.proofs.Lists.{list-of-is}
 use Rattle.logic.specs.Formula.{Formula}
 use Rattle.logic.specs.Nodes.{formulaOf}
 use Rattle.logic.proofs.Spelled.{one-formula-unique}
 use Rattle.program.specs.declared.case.Case.{Case}
-use Rattle.program.specs.Case.{clauseSize, constraintSize, formulaSize, nameSize}
+use Rattle.program.specs.Case.{clauseSize, constraintSize, formulaSize, nameSize, nodesOf}
 use Rattle.program.specs.Program.{clausesOf}
 use Rattle.text.specs.Lines.{lines}
 use Rattle.table.specs.Filled.{filled}
 use Rattle.names.specs.Names.{rowsOf}
-use Rattle.text.proofs.Each.{Each, each-gives}
+use Rattle.text.proofs.Each.{Each, each-at, each-gives}
 use Rattle.names.proofs.Rows.{filled-row}
 use Rattle.store.specs.Lent.{Lent}
 use Rattle.store.specs.Saying.{ClauseRow, Said, nothingSaid, plainAtoms, negatedAtoms}
-use Rattle.store.specs.Tables.{clauseWords, constraintWords, formulaNodes, caseSaid}
+use Rattle.store.specs.Tables.{clauseWords, constraintWords, formulaParts, caseSaid}
 use Rattle.store.specs.Held.{Long}
 use Rattle.store.proofs.Saying.{is-atoms}
+use Rattle.store.proofs.FilledRows.{formula-is}
 use Rattle.reader.specs.declared.read.Answer.{Answer}
 use Rattle.reader.specs.Reading.{Outcome, refusalOf, readFile}
 use Rattle.reader.specs.Operation.{earlyRefusal, ReadAs}
@@ -31,8 +34,9 @@ use Rattle.reader.specs.Contents.{fileNames, noContent, fileContent, con
 use Rattle.reader.proofs.EarlyRefusals.{early-passed}
 use Rattle.reader.proofs.RefusalNumbers.{Numbered, file-numbered}
 use Rattle.reader.proofs.FirstBad.{accepted-through}
+use Rattle.reader.proofs.WellFormed.{query-spells}
 use Rattle.reader.proofs.WellFormedLines.{Ended, accepted-formed}
-use Rattle.reader.proofs.FilledTables.{filled-own, clauses-filled, constraints-filled}
+use Rattle.reader.proofs.FilledTables.{clauses-filled, constraints-filled}
 use Rattle.reader.proofs.LinesSay.{through-names, Saying, nothing-saying, through-saying}
 
 -- What was read of an accepted file
@@ -67,18 +71,12 @@ module _ (f : List ℕ) (st : Said) (e : readFile f ≡ Outcome.case st) where
       let n = ended .formed .names .rows .few in
       each-gives _ _ (λ x q. omega (arith, q .head-lt)) (st .clauses) (ended .formed .clauses .each)
 
-  query-read : (formulaOf (formulaNodes (st .queries)) ∷ []) ≡ fileContent f .queries
-  query-read =
-      let q = ended .query in
-      ap (λ (g : Formula). g ∷ []) (one-formula-unique _ _ (q .formula) (ended .formed .names .rows .few) (q .spells))
-      ∙ q .only ∙ content-read .queries-are
-
   -- The record c, and the tables u filled over t
 
   module _ (c : Case) (t u : Lent) (long : Long t) (found : c ≡ caseSaid st)
       (cl : u .clauses ≡ filled clauseSize (clauseWords (st .clauses)) (t .clauses))
       (co : u .constraints ≡ filled constraintSize (constraintWords (st .constraints)) (t .constraints))
-      (fo : u .formula ≡ filled formulaSize (formulaNodes (st .queries)) (t .formula))
+      (fo : u .formula ≡ filled formulaSize (formulaParts (st .queries)) (t .formula))
       (na : u .names ≡ filled nameSize (rowsOf (st .names)) (t .names)) where
     clauses-said : clausesOf (u .clauses) (c .clauses) ≡ fileContent f .clauses
     clauses-said =
@@ -93,11 +91,14 @@ module _ (f : List ℕ) (st : Said) (e : readFile f ≡ Outcome.case st) where
         (ended .formed .constraints .few))
         ∙ content-read .constraints-are
 
-    nodes-said : take (c .nodes) (u .formula) ≡ formulaNodes (st .queries)
-    nodes-said =
+    queries-said : listOf (c .formulas) (λ q. formulaOf (nodesOf (c .nodes) (u .formula) q)) ≡ fileContent f .queries
+    queries-said =
         rw (fo, found)
-        (filled-own formulaSize (formulaNodes (st .queries)) (t .formula) (ended .query .nodes-few)
-        (long .formula-long))
+        (list-of-is (st .queries) Formula.truth _ (λ q l.
+        let r = each-at _ (st .queries) q Formula.truth (ended .formed .queries .each) l in
+        rw (formula-is (st .queries) (ended .formed .queries .few) q l (t .formula) (long .formula-long) (r .nodes-few))
+        (one-formula-unique _ _ _ (ended .formed .names .rows .few) (query-spells r))))
+        ∙ content-read .queries-are
 
     pub says : Says f c u
     says = record {
@@ -110,7 +111,7 @@ module _ (f : List ℕ) (st : Said) (e : readFile f ≡ Outcome.case st) where
       constraints-are = constraints-said;
       plain-are = rw found plain-read;
       negated-are = rw found negated-read;
-      query-is = rw nodes-said query-read;
+      queries-are = queries-said;
     }
 
 -- The answer of reading

@@ -3,19 +3,19 @@
 --   rowClause r     the clause that a row is
 --   rowBody r       the body that a constraint's row is
 -- Assumes nothing.
-use mathlib.Core.Path.{_≡_, refl, ap, _∙_}
-use mathlib.Core.List.{List, [], _∷_, _++_, map, map-append}
-use Prim.Native.Nat.{ℕ, zero, suc, _+_, _*_, _/_, _%_, _≤_, _<_}
+use mathlib.Core.Path.{_≡_, refl, sym, _∙_}
+use mathlib.Core.List.{List, [], _∷_, _++_, map}
+use Prim.Native.Nat.{ℕ, suc, _+_, _*_, _/_, _%_, _≤_, _<_}
 use native.Mathlib.Omega.{arith}
-use lib.ListN.{length, getD, take}
-use lib.Seq.{take-suc, take-length, length-take-le, getD-take, ext-getD}
+use lib.ListN.{length, getD, length-map, List·getD-map}
+use Rattle.words.proofs.Lists.{list-of-is, list-of-grown}
 use Rattle.logic.specs.Formula.{Formula, body}
 use Rattle.program.specs.Case.{clauseSize, constraintSize, forbidden, forbiddenNot}
 use Rattle.program.specs.Program.{Clause, clause, byKind, clauseAt, clausesOf}
 use Rattle.program.specs.Sound.{fewCauses}
 use Rattle.program.proofs.MakingSound.{few-causes-ext}
 use Rattle.table.specs.Filled.{filled}
-use Rattle.table.proofs.Filled.{filled-length, filled-at}
+use Rattle.table.proofs.Filled.{filled-at}
 use Rattle.text.proofs.Each.{Each, each-at}
 use Rattle.store.specs.Saying.{ClauseRow, ConstraintRow}
 use Rattle.store.specs.Tables.{clauseWords, constraintWords}
@@ -28,27 +28,14 @@ rowClause r = clause (r .head) (byKind (r .kind) (body (r .plain) (r .negated)))
 abbrev pub rowBody : ConstraintRow → Formula
 rowBody r = body (r .plain) (r .negated)
 
--- Plain lists
-
--- the entries of l, where they fit
-pub filled-own : (n : ℕ) (l old : List ℕ) → length l ≤ n → n ≤ length old → take (length l) (filled n l old) ≡ l
-filled-own n l old h k =
-    let e : length (take (length l) (filled n l old)) ≡ length l =
-    length-take-le (length l) (filled n l old) (omega (arith, filled-length n l old))
-    in
-    ext-getD 0 _ l e
-    (λ i m. getD-take (length l) (filled n l old) i 0 (omega arith) ∙ filled-at n l old i (omega arith) k)
-
 -- a list that grows by f k is the list of the entries of l, where f k is that of the k-th
-module _ {A B : Type 0} (l : List A) (d : A) (h : A → B) (g : ℕ → List B) (f : ℕ → B) (none : g 0 ≡ [])
-    (more : (k : ℕ) → g (suc k) ≡ g k ++ (f k ∷ [])) (same : (k : ℕ) → k < length l → f k ≡ h (getD l k d)) where
-  grown-first : (k : ℕ) → k ≤ length l → g k ≡ map h (take k l)
-  grown-first zero m = none
-  grown-first (suc k) m =
-      more k ∙ rw (take-suc l k d m, map-append, grown-first k (omega arith), same k m)
-
-  grown-all : g (length l) ≡ map h l
-  grown-all = grown-first (length l) (omega arith) ∙ ap (map h) (take-length l)
+grown-all : {A B : Type 0} (l : List A) (d : A) (h : A → B) (g : ℕ → List B) (f : ℕ → B) → g 0 ≡ []
+    → ((k : ℕ) → g (suc k) ≡ g k ++ (f k ∷ [])) → ((k : ℕ) → k < length l → f k ≡ h (getD l k d))
+    → g (length l) ≡ map h l
+grown-all l d h g f none more same =
+    let e = length-map l h in
+    list-of-grown g f none more (length l)
+    ∙ (rw e at (list-of-is (map h l) (h d) f (λ k m. same k (omega arith) ∙ sym (List·getD-map h l k d))))
 
 -- Clauses
 

@@ -2,28 +2,28 @@
 use mathlib.Core.Path.{_≡_, sym, _∙_}
 use mathlib.Core.Bool.{true}
 use mathlib.Core.List.{List}
-use Prim.Native.Nat.{ℕ, _+_, _*_, _≤_}
-use lib.ListN.{length, take}
-use Rattle.logic.specs.Nodes.{oneFormula}
+use Prim.Native.Nat.{ℕ, _+_, _*_, _≤_, _<_}
+use lib.ListN.{length, getD}
+use Rattle.logic.specs.Formula.{Formula}
 use Rattle.logic.proofs.Spelled.{one-formula-complete}
 use Rattle.program.specs.Case.{clauseSize, constraintSize, formulaSize, tablesFull}
 use Rattle.program.specs.Sound.{limitsHold, soundClause, soundClauses, soundConstraint, soundConstraints, fewCauses}
-use Rattle.program.specs.Sound.{sound}
+use Rattle.program.specs.Sound.{soundFormulas, sound}
 use Rattle.program.proofs.Soundness.{sound-rest}
 use Rattle.program.proofs.MakingSound.{tables-full, limits-hold, within-below, clause-passes, clauses-pass}
-use Rattle.program.proofs.MakingSound.{constraint-passes, constraints-pass}
-use Rattle.table.specs.Filled.{filled}
+use Rattle.program.proofs.MakingSound.{constraint-passes, constraints-pass, formula-passes, formulas-pass}
+use Rattle.table.specs.Filled.{filled, padded}
 use Rattle.table.proofs.Filled.{filled-length}
 use Rattle.text.proofs.Each.{each-at}
 use Rattle.store.specs.Lent.{Lent}
 use Rattle.store.specs.Held.{Long}
 use Rattle.store.specs.Saying.{ClauseRow, ConstraintRow, Said}
-use Rattle.store.specs.Tables.{clauseWords, caseSaid, constraintWords, formulaNodes}
+use Rattle.store.specs.Tables.{clauseWords, caseSaid, constraintWords, formulaParts, nodeCounts}
 use Rattle.store.proofs.Formulas.{over-some}
-use Rattle.store.proofs.FilledRows.{noRow, noPair, clause-is, constraint-is}
-use Rattle.reader.proofs.WellFormed.{Rows, ClauseFormed, ConstraintFormed}
+use Rattle.store.proofs.FilledRows.{noRow, noPair, clause-is, constraint-is, count-is, formula-is}
+use Rattle.reader.proofs.WellFormed.{Rows, ClauseFormed, ConstraintFormed, QueryFormed, query-spells}
 use Rattle.reader.proofs.WellFormedLines.{Ended}
-use Rattle.reader.proofs.FilledTables.{filled-own, few-causes-filled}
+use Rattle.reader.proofs.FilledTables.{few-causes-filled}
 
 module _ (n : ℕ) where
   -- Clauses and constraints
@@ -68,7 +68,7 @@ module _ (st : Said) (t : Lent) (long : Long t) (d : Ended st) where
   co = filled constraintSize (constraintWords (st .constraints)) (t .constraints)
 
   abbrev fo : List ℕ
-  fo = filled formulaSize (formulaNodes (st .queries)) (t .formula)
+  fo = filled formulaSize (formulaParts (st .queries)) (t .formula)
 
   few : n ≤ 64
   few = d .formed .names .rows .few
@@ -78,19 +78,28 @@ module _ (st : Said) (t : Lent) (long : Long t) (d : Ended st) where
       (rw filled-length (long .clauses-long)) (rw filled-length (long .constraints-long))
       (rw filled-length (long .formula-long))
 
+  -- query q
+  query : (q : ℕ) → q < length (st .queries) → QueryFormed n (getD (st .queries) q Formula.truth)
+  query q l = each-at _ (st .queries) q Formula.truth (d .formed .queries .each) l
+
   limits : limitsHold (caseSaid st) ≡ true
   limits =
-      limits-hold (caseSaid st) (over-some n (d .query .formula) (d .query .spells .over-atoms)) few
-      (d .formed .clauses .few) (d .formed .constraints .few) (d .query .nodes-few)
+      limits-hold (caseSaid st) (over-some n _ (query 0 (d .query-some) .over-atoms)) few (d .formed .clauses .few)
+      (d .formed .constraints .few) (d .query-some) (d .formed .queries .few)
 
   causes : fewCauses n cl (length (st .clauses)) ≡ true
   causes =
       few-causes-filled (st .clauses) (t .clauses) (long .clauses-long) (d .formed .clauses .few) n ∙ d .causes-few
 
-  formula-sound : oneFormula n (take (length (formulaNodes (st .queries))) fo) ≡ true
-  formula-sound =
-      rw (filled-own formulaSize (formulaNodes (st .queries)) (t .formula) (d .query .nodes-few) (long .formula-long))
-      (one-formula-complete n _ (d .query .formula) few (d .query .spells))
+  formulas-sound : soundFormulas n (padded 16 (nodeCounts (st .queries))) fo (length (st .queries)) ≡ true
+  formulas-sound =
+      formulas-pass n (length (st .queries)) _ fo
+      (λ q l.
+      let r = query q l in
+      let i = d .formed .queries .few in
+      formula-passes n _ fo q (rw (count-is (st .queries) i q l) (r .nodes-few))
+      (rw (formula-is (st .queries) i q l (t .formula) (long .formula-long) (r .nodes-few))
+      (one-formula-complete n _ _ few (query-spells r))))
 
   pub ended-sound : sound (caseSaid st) cl co fo ≡ true
   ended-sound =
@@ -98,4 +107,4 @@ module _ (st : Said) (t : Lent) (long : Long t) (d : Ended st) where
       (clauses-sound n (st .clauses) (t .clauses) few (long .clauses-long) (d .formed .clauses))
       (constraints-sound n (st .constraints) (t .constraints) (long .constraints-long) (d .formed .constraints))
       (within-below n _ _ (d .formed .observed .plain-lt) (d .formed .observed .negated-lt)) causes)
-      ∙ formula-sound
+      ∙ formulas-sound

@@ -4,28 +4,26 @@
 --   BitsBelow n p q      every bit of the two words names one of n atoms
 --   NamesFormed ns       at most 64 names, which are names and differ
 --   ClauseFormed n c     a clause over n atoms; ConstraintFormed and QueryFormed are alike
---   OneQuery n fs        the one query of fs, over n atoms, and its nodes
 --   WellFormed st        what was read is well formed
-use mathlib.Core.Path.{_≡_, refl, sym}
+use mathlib.Core.Path.{_≡_, refl}
 use mathlib.Core.Bool.{true, false}
 use mathlib.Core.List.{List, [], _∷_, _++_}
 use Prim.Native.Nat.{ℕ, _^_, _≤_, _<_}
-use native.Mathlib.Nat.{lt-of-lt-of-le, not-suc-le-zero}
+use native.Mathlib.Nat.{lt-of-lt-of-le}
 use native.Mathlib.Omega.{arith}
 use lib.Pow.{pow-mono}
 use lib.ListN.{length, length-append}
 use Rattle.logic.specs.Formula.{Formula, depth, over}
 use Rattle.logic.specs.Nodes.{nodes}
 use Rattle.logic.specs.Claims.{Spells}
+use Rattle.program.specs.Case.{partSize}
 use Rattle.program.specs.Sound.{bare, shaped}
 use Rattle.names.specs.Names.{withNames}
 use Rattle.names.proofs.Distinct.{Distinct}
 use Rattle.text.proofs.Each.{Each, each-append, each-gives}
 use Rattle.names.proofs.Adding.{distinct-none, with-names-length, with-names-distinct, with-names-each}
 use Rattle.store.specs.Saying.{ClauseRow, ConstraintRow, Said, nothingSaid, renamed}
-use Rattle.store.specs.Tables.{formulaNodes}
 use Rattle.store.proofs.Formulas.{over-mono}
-use Rattle.store.proofs.Rows.{formula-nodes-one}
 use Rattle.checks.specs.Naming.{IsName}
 
 -- Rows
@@ -67,27 +65,11 @@ pub record ConstraintFormed (n : ℕ) (c : ConstraintRow) : Type 0 where
 pub record QueryFormed (n : ℕ) (f : Formula) : Type 0 where
   pub over-atoms : over n f ≡ true
   pub not-deep : depth f ≤ 16
-  pub nodes-few : length (nodes f) ≤ 128
+  pub nodes-few : length (nodes f) ≤ partSize
 
--- The one query
-
-pub record OneQuery (n : ℕ) (fs : List Formula) : Type 0 where
-  pub formula : Formula
-  pub only : (formula ∷ []) ≡ fs
-  pub spells : Spells n (formulaNodes fs) formula
-  pub nodes-few : length (formulaNodes fs) ≤ 128
-
-pub one-query : (n : ℕ) (fs : List Formula) → Rows (QueryFormed n) 1 fs → 0 < length fs → OneQuery n fs
-one-query n [] r l = absurd (not-suc-le-zero l)
-one-query n (f ∷ []) r l =
-    let q = r .each .0 in
-    record {
-      formula = f;
-      only = refl;
-      spells = record { nodes-are = sym (formula-nodes-one f); over-atoms = q .over-atoms; not-deep = q .not-deep };
-      nodes-few = rw (formula-nodes-one f) (q .nodes-few);
-    }
-one-query n (f ∷ (g ∷ fs)) r l = absurd (omega (arith, r .few))
+-- and so its nodes are exactly one formula
+pub query-spells : {n : ℕ} {f : Formula} → QueryFormed n f → Spells n (nodes f) f
+query-spells r = record { nodes-are = refl; over-atoms = r .over-atoms; not-deep = r .not-deep }
 
 -- All of it
 
@@ -96,19 +78,19 @@ pub record WellFormed (st : Said) : Type 0 where
   pub clauses : Rows (ClauseFormed (length (st .names))) 256 (st .clauses)
   pub constraints : Rows (ConstraintFormed (length (st .names))) 32 (st .constraints)
   pub observed : BitsBelow (length (st .names)) (st .plain) (st .negated)
-  pub queries : Rows (QueryFormed (length (st .names))) 1 (st .queries)
+  pub queries : Rows (QueryFormed (length (st .names))) 16 (st .queries)
 
 -- by its parts
 pub well-formed : (st : Said) → NamesFormed (st .names) → Rows (ClauseFormed (length (st .names))) 256 (st .clauses)
     → Rows (ConstraintFormed (length (st .names))) 32 (st .constraints)
     → BitsBelow (length (st .names)) (st .plain) (st .negated)
-    → Rows (QueryFormed (length (st .names))) 1 (st .queries) → WellFormed st
+    → Rows (QueryFormed (length (st .names))) 16 (st .queries) → WellFormed st
 well-formed st ns cs ds o fs = record { names = ns; clauses = cs; constraints = ds; observed = o; queries = fs }
 
 pub nothing-formed : WellFormed nothingSaid
 nothing-formed =
     well-formed nothingSaid (record { rows = rows-none IsName 64; distinct = distinct-none }) (rows-none _ 256)
-    (rows-none _ 32) (record { plain-lt = omega arith; negated-lt = omega arith }) (rows-none _ 1)
+    (rows-none _ 32) (record { plain-lt = omega arith; negated-lt = omega arith }) (rows-none _ 16)
 
 -- More names
 
@@ -143,4 +125,4 @@ renamed-formed st ws r k few =
     well-formed (renamed (withNames (st .names) ws) st) (names-formed (st .names) ws (r .names) k few)
     (rows-give _ 256 (st .clauses) _ (clause-mono _ _ h) (r .clauses))
     (rows-give _ 32 (st .constraints) _ (constraint-mono _ _ h) (r .constraints))
-    (below-mono _ _ h _ _ (r .observed)) (rows-give _ 1 (st .queries) _ (query-mono _ _ h) (r .queries))
+    (below-mono _ _ h _ _ (r .observed)) (rows-give _ 16 (st .queries) _ (query-mono _ _ h) (r .queries))

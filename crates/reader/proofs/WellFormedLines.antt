@@ -33,8 +33,8 @@ use Rattle.checks.proofs.After.{after-comment, after-line}
 use Rattle.checks.proofs.Naming.{names-named}
 use Rattle.reader.specs.Reading.{Outcome, endChecks, readFile}
 use Rattle.reader.specs.Claims.{saidThrough, allPass}
-use Rattle.reader.proofs.WellFormed.{rows-push, BitsBelow, ClauseFormed, ConstraintFormed, QueryFormed, OneQuery}
-use Rattle.reader.proofs.WellFormed.{one-query, WellFormed, well-formed, nothing-formed, renamed-formed}
+use Rattle.reader.proofs.WellFormed.{rows-push, BitsBelow, ClauseFormed, ConstraintFormed, QueryFormed}
+use Rattle.reader.proofs.WellFormed.{WellFormed, well-formed, nothing-formed, renamed-formed}
 use Rattle.reader.proofs.FirstBad.{first-passes, accepted-through}
 
 -- What a line's parts make, where their names are all among ns
@@ -96,7 +96,7 @@ module _ (ns : List (List ℕ)) (h : length ns ≤ 64) where
         (r .queries)
     said-formed (Line.query f) p b d m =
         well-formed _ (r .names) (r .clauses) (r .constraints) (r .observed)
-        (rows-push _ 1 _ _ (r .queries) (omega (arith, m .queries-few)) (sentence-formed f p (omega arith) d))
+        (rows-push _ 16 _ _ (r .queries) (omega (arith, m .queries-few)) (sentence-formed f p (omega arith) d))
 
 -- A line
 
@@ -125,7 +125,7 @@ line-formed st l r e =
 
 pub record Ended (st : Said) : Type 0 where
   pub formed : WellFormed st
-  pub query : OneQuery (length (st .names)) (st .queries)
+  pub query-some : 1 ≤ length (st .queries)
   pub causes-few : fewCauses (length (st .names)) (clauseWords (st .clauses)) (length (st .clauses)) ≡ true
 
 through-formed : (ls : List (List ℕ)) (st : Said) → WellFormed st → allPass ls st ≡ true
@@ -143,6 +143,6 @@ accepted-formed f st e =
     let r = rw (a .2) at (through-formed (lines f) nothingSaid nothing-formed (a .0)) in
     record {
       formed = r;
-      query = one-query (length (st .names)) (st .queries) (r .queries) (leb-true 1 _ (p .0));
+      query-some = leb-true 1 _ (p .0);
       causes-few = p .1 .0;
     }

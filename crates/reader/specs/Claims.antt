@@ -22,7 +22,7 @@ use Rattle.grammar.specs.LineOf.{lineOf}
 use Rattle.names.specs.Names.{atomOf}
 use Rattle.store.specs.Lent.{Lent}
 use Rattle.store.specs.Saying.{Said, nothingSaid, encoded}
-use Rattle.store.specs.Tables.{clauseWords, caseSaid, constraintWords, formulaNodes}
+use Rattle.store.specs.Tables.{clauseWords, caseSaid, constraintWords, formulaParts}
 use Rattle.checks.specs.Checks.{lineRefusal, saidAfter}
 use Rattle.checks.specs.Naming.{IsName}
 use Rattle.reader.specs.Reading.{Outcome, ending, readFile}
@@ -36,7 +36,7 @@ AcceptedSound = (f : List ℕ) (st : Said) (t : Lent) → tablesFit t ≡ true �
     → sound (caseSaid st)
     (filled clauseSize (clauseWords (st .clauses)) (t .clauses))
     (filled constraintSize (constraintWords (st .constraints)) (t .constraints))
-    (filled formulaSize (formulaNodes (st .queries)) (t .formula)) ≡ true
+    (filled formulaSize (formulaParts (st .queries)) (t .formula)) ≡ true
 
 -- where reading accepts the file f, the record and the tables that it leaves say what f says
 abbrev pub TablesSay : Type 0

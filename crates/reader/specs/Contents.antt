@@ -1,5 +1,5 @@
--- What a case file says, from its lines to clauses, constraints, observed literals, query and names; and what it is for
--- a record and tables to say the same.
+-- What a case file says, from its lines to clauses, constraints, observed literals, queries and names; and what it is
+-- for a record and tables to say the same.
 -- From: document 01, "The file", "Interpretations and the step" and "Case tables and sound cases".
 --
 --   formOf l             the form of the line l; a comment says nothing
@@ -14,13 +14,14 @@
 use mathlib.Core.Path.{_≡_}
 use mathlib.Core.List.{List, [], _∷_, _++_}
 use Prim.Native.Nat.{ℕ, zero, suc, _+_, _*_, _<_}
-use lib.ListN.{length, getD, take}
+use lib.ListN.{length, getD}
 use lib.Seq.{slice}
 use Rattle.words.specs.Choice.{pick}
+use Rattle.words.specs.Lists.{listOf}
 use Rattle.logic.specs.Formula.{Formula, body}
 use Rattle.logic.specs.Nodes.{formulaOf}
 use Rattle.program.specs.declared.case.Case.{Case}
-use Rattle.program.specs.Case.{forbidden, forbiddenNot}
+use Rattle.program.specs.Case.{forbidden, forbiddenNot, nodesOf}
 use Rattle.program.specs.Program.{Clause, clause, byKind, clausesOf}
 use Rattle.text.specs.Lines.{lines, isComment}
 use Rattle.text.specs.Tokens.{tokens}
@@ -90,7 +91,8 @@ constraintsOf co zero = []
 constraintsOf co (suc k) = constraintsOf co k ++ (body (forbidden co k) (forbiddenNot co k) ∷ [])
 
 -- row a of the names is the a-th name and zeros; clausesOf is the program that settling takes from the table; the two
--- observed words have the atoms of the plain and of the negated observed literals; there is one query
+-- observed words have the atoms of the plain and of the negated observed literals; part q of the formula table has the
+-- nodes of query q
 pub record Says (f : List ℕ) (c : Case) (t : Lent) : Type 0 where
   pub atoms-are : c .atoms ≡ length (fileNames f)
   pub names-are : (a : ℕ) → a < c .atoms
@@ -99,4 +101,4 @@ pub record Says (f : List ℕ) (c : Case) (t : Lent) : Type 0 where
   pub constraints-are : constraintsOf (t .constraints) (c .constraints) ≡ fileContent f .constraints
   pub plain-are : c .plain ≡ plainAtoms (fileNames f) (fileContent f .observed)
   pub negated-are : c .negated ≡ negatedAtoms (fileNames f) (fileContent f .observed)
-  pub query-is : (formulaOf (take (c .nodes) (t .formula)) ∷ []) ≡ fileContent f .queries
+  pub queries-are : listOf (c .formulas) (λ q. formulaOf (nodesOf (c .nodes) (t .formula) q)) ≡ fileContent f .queries

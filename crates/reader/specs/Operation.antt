@@ -16,7 +16,7 @@ use Rattle.program.specs.Case.{clauseSize, constraintSize, formulaSize, nameSiz
 use Rattle.table.specs.Filled.{filled}
 use Rattle.names.specs.Names.{rowsOf}
 use Rattle.store.specs.Lent.{Lent}
-use Rattle.store.specs.Tables.{clauseWords, constraintWords, formulaNodes, caseSaid, noCase}
+use Rattle.store.specs.Tables.{clauseWords, constraintWords, formulaParts, caseSaid, noCase}
 use Rattle.reader.specs.declared.read.Answer.{Answer}
 use Rattle.reader.specs.Reading.{saidIn, refusalOf, lineOfRefusal, readFile}
 
@@ -36,5 +36,5 @@ pub record ReadAs (f : List ℕ) (t u : Lent) (r : Answer) : Type 0 where
   pub clauses-are : u .clauses ≡ tableLeft f t clauseSize (clauseWords (saidIn (readFile f) .clauses)) (t .clauses)
   pub constraints-are : u .constraints
       ≡ tableLeft f t constraintSize (constraintWords (saidIn (readFile f) .constraints)) (t .constraints)
-  pub formula-is : u .formula ≡ tableLeft f t formulaSize (formulaNodes (saidIn (readFile f) .queries)) (t .formula)
+  pub formula-is : u .formula ≡ tableLeft f t formulaSize (formulaParts (saidIn (readFile f) .queries)) (t .formula)
   pub names-are : u .names ≡ tableLeft f t nameSize (rowsOf (saidIn (readFile f) .names)) (t .names)

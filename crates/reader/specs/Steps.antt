@@ -23,15 +23,14 @@ use Rattle.store.specs.Held.{Long, InLimits, Held, Kept}
 use Rattle.reader.specs.declared.read.Answer.{Answer}
 use Rattle.reader.specs.Reading.{Outcome, saidIn, refusalOf, lineOfRefusal, readFile}
 
--- a record has nodes exactly when there is a query
 abbrev pub endRefusalIn : Case → List ℕ → ℕ
 endRefusalIn c cl =
-    firstFailed (check 11 (leb 1 (c .nodes)) ∷ check 12 (fewCauses (c .atoms) cl (c .clauses)) ∷ [])
+    firstFailed (check 11 (leb 1 (c .formulas)) ∷ check 12 (fewCauses (c .atoms) cl (c .clauses)) ∷ [])
 
 -- a record with a query has an atom
 pub record Countable (c : Case) (cl : List ℕ) : Type 0 where
   pub limits : InLimits c
-  pub atoms-some : (c .nodes ≡ 0 → ⊥) → 1 ≤ c .atoms
+  pub atoms-some : (c .formulas ≡ 0 → ⊥) → 1 ≤ c .atoms
   pub clauses-long : clauseSize ≤ length cl
 
 pub record Zeroed (t u : Lent) : Type 0 where

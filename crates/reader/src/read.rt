@@ -21,9 +21,10 @@ const NO_CASE: Case = Case {
     atoms: 0,
     clauses: 0,
     constraints: 0,
-    nodes: 0,
+    formulas: 0,
     plain: 0,
     negated: 0,
+    nodes: [0; 16],
 };
 
 // Zeroes the four tables in their sizes.
@@ -44,7 +45,7 @@ fn end_refusal(c: Case, clauses: &[u64]) -> u32
     requires { ⌜ Countable c (now clauses) ⌝ }
     ensures { λ r. ⌜ r ≡ endRefusalIn c (now (clauses .entry)) ⌝ }
 {
-    if c.nodes == 0 {
+    if c.formulas == 0 {
         return 11;
     }
     if !program::sound::causes_few(c.atoms, clauses, c.clauses) {

@@ -4,18 +4,20 @@ use mathlib.Core.Path.{_≡_, refl, ap, _∙_}
 use mathlib.Core.Bool.{true}
 use mathlib.Core.List.{List, [], _++_}
 use mathlib.Core.Logic.{⊎-elim}
-use Prim.Native.Nat.{ℕ, _≤_, _<_, min}
+use Prim.Native.Nat.{ℕ, _-_, _≤_, _<_, min}
 use native.Mathlib.Nat.{mul-le-mul}
 use native.Mathlib.Omega.{arith}
-use lib.ListN.{length, take, drop, length-take, length-append}
+use lib.ListN.{length, take, drop, length-take, length-append, length-map}
 use lib.Seq.{take-all, take-length, take-at, length-take-le}
+use Rattle.words.specs.Lists.{listOf}
 use Rattle.words.proofs.Tests.{lt-or-le}
+use Rattle.logic.specs.Nodes.{formulaOf}
 use Rattle.table.specs.Filled.{padded}
-use Rattle.table.proofs.Filled.{filled-exact, padded-length}
-use Rattle.program.specs.Case.{tablesFull}
+use Rattle.table.proofs.Filled.{filled-exact, padded-length, padded-split}
+use Rattle.program.specs.Case.{tablesFull, nodesOf}
 use Rattle.program.specs.Cause.{atomsIn}
 use Rattle.program.specs.Sound.{sound}
-use Rattle.program.proofs.Soundness.{sound-full, sound-atoms, sound-few}
+use Rattle.program.proofs.Soundness.{sound-full, sound-atoms, sound-formulas, sound-few}
 use Rattle.program.proofs.Theorems.{causes-counted}
 use Rattle.names.specs.Names.{rowsOf}
 use Rattle.names.specs.Row.{nameIn}
@@ -23,21 +25,25 @@ use Rattle.names.specs.Held.{Named}
 use Rattle.names.proofs.RowNames.{every-named, table-name}
 use Rattle.names.proofs.Short.{no-zero}
 use Rattle.question.specs.declared.operation.Answer.{Answer}
-use Rattle.question.specs.Operation.{settingsIn, choicesIn, questionRefusal, Asked}
-use Rattle.question.proofs.Answers.{refusal-none, asked-verdict, asked-minimal, asked-written}
-use Rattle.question.proofs.Answers.{asked-rounds, asked-list}
+use Rattle.question.specs.Operation.{settingsIn, choicesIn, questionRefusal, answerIn, Asked}
+use Rattle.question.proofs.Answers.{refusal-none, asked-answer, asked-list}
 use Rattle.walk.proofs.Bounds.{causes-fit, settings-few}
+use Rattle.verdict.specs.Walk.{verdictNumber}
 use Rattle.verdict.proofs.Counting.{minimals-le}
+use Rattle.verdict.proofs.Verdicts.{verdicts-length}
 use Rattle.question.proofs.Theorems.{rounds-bounded}
-use Rattle.store.specs.Lent.{Lent, lent}
+use Rattle.store.specs.Lent.{Lent, lent, filledWith}
 use Rattle.store.specs.Saying.{Said}
-use Rattle.store.specs.Tables.{clauseWords, constraintWords, formulaNodes, caseSaid}
+use Rattle.store.specs.Tables.{clauseWords, constraintWords, formulaParts, wordsOf, caseSaid}
+use Rattle.store.specs.Held.{Long}
 use Rattle.reader.specs.Reading.{Outcome, readFile}
 use Rattle.reader.specs.Operation.{tablesFit}
+use Rattle.reader.specs.Contents.{fileContent}
+use Rattle.reader.proofs.FileSays.{says}
 use Rattle.reader.proofs.Theorems.{accepted-sound, accepted-names}
 use Rattle.wording.specs.Text.{answerText}
 use Rattle.report.specs.Report.{clauseTable, constraintTable, formulaTable, causesIn, judgeIn, minimalsOf}
-use Rattle.report.specs.Report.{roundsOf, verdictIn, nameOf, saidText, listLength}
+use Rattle.report.specs.Report.{roundsOf, verdictsIn, verdictNumbers, nameOf, saidText, listLength}
 use Rattle.wording.proofs.Naming.{answer-alike}
 use Rattle.wording.proofs.Lengths.{answer-length}
 
@@ -67,11 +73,23 @@ module _ (l old : List ℕ) (n : ℕ) where
 
 -- tables of zeros, exactly of their sizes
 zeros : Lent
-zeros = lent (padded 768 []) (padded 64 []) (padded 128 []) (padded 1024 [])
+zeros = lent (padded 768 []) (padded 64 []) (padded 2048 []) (padded 1024 [])
 
 zeros-fit : tablesFit zeros ≡ true
 unfolding zeros tablesFit tablesFull padded
 zeros-fit = refl
+
+zeros-long : Long zeros
+unfolding zeros
+zeros-long = record {
+  clauses-long = omega (arith, padded-length 768 []);
+  constraints-long = omega (arith, padded-length 64 []);
+  formula-long = omega (arith, padded-length 2048 []);
+  names-long = omega (arith, padded-length 1024 []);
+}
+
+numbers-length : (st : Said) → length (verdictNumbers st) ≡ length (st .queries)
+numbers-length st = length-map (verdictsIn st) verdictNumber ∙ verdicts-length (judgeIn st) (minimalsOf st)
 
 module _ (f : List ℕ) (st : Said) (e : readFile f ≡ Outcome.case st) where
   pub said-sound : sound (caseSaid st) (clauseTable st) (constraintTable st) (formulaTable st) ≡ true
@@ -80,9 +98,18 @@ module _ (f : List ℕ) (st : Said) (e : readFile f ≡ Outcome.case st) where
       rw (
         filled-exact 768 (clauseWords (st .clauses)) (padded 768 []) (padded-length 768 []),
         filled-exact 64 (constraintWords (st .constraints)) (padded 64 []) (padded-length 64 []),
-        filled-exact 128 (formulaNodes (st .queries)) (padded 128 []) (padded-length 128 []),
+        filled-exact 2048 (formulaParts (st .queries)) (padded 2048 []) (padded-length 2048 []),
       )
       at (accepted-sound f st zeros zeros-fit e)
+
+  -- the formulas of the formula table
+  pub said-formulas : listOf (length (st .queries)) (λ q. formulaOf (nodesOf (caseSaid st .nodes) (formulaTable st) q))
+      ≡ fileContent f .queries
+  unfolding zeros
+  said-formulas =
+      let u = filledWith (wordsOf st) zeros in
+      rw (filled-exact 2048 (formulaParts (st .queries)) (padded 2048 []) (padded-length 2048 []))
+      at (says f st e (caseSaid st) zeros u zeros-long refl refl refl refl refl .queries-are)
 
   said-named : (a : ℕ) → Named (nameOf st a)
   said-named = every-named (st .names) (λ a h.
@@ -111,13 +138,17 @@ module _ (f : List ℕ) (st : Said) (e : readFile f ≡ Outcome.case st) where
       let l = minimals-le (judgeIn st) (choicesIn (caseSaid st) (clauseTable st)) n in
       omega (arith, said-settings)
 
-  pub said-length : length (saidText st) ≤ 264252
+  said-queries : length (st .queries) ≤ 16
+  said-queries = sound-formulas (caseSaid st) _ _ _ said-sound .1
+
+  pub said-length : length (saidText st) ≤ 264582
   unfolding saidText
   said-length =
       let l = minimalsOf st in
       let few = length-take listLength l in
-      answer-length (nameOf st) (λ a. said-named a .short) (causesIn st) said-causes (verdictIn st) (roundsOf st)
-      (length l) (take listLength l) (omega (arith, said-rounds)) (omega (arith, said-minimals)) (omega arith)
+      answer-length (nameOf st) (λ a. said-named a .short) (causesIn st) said-causes (verdictNumbers st) (roundsOf st)
+      (length l) (take listLength l) (omega (arith, numbers-length st, said-queries)) (omega (arith, said-rounds))
+      (omega (arith, said-minimals)) (omega arith)
 
 -- What is answered for it, with a list of 1,024 slots and a work area of 59,049 bytes
 
@@ -131,17 +162,21 @@ module _ (f : List ℕ) (st : Said) (e : readFile f ≡ Outcome.case st) (list w
         refusal-none (caseSaid st) _ _ _ (length work) (sound-full (caseSaid st) _ _ _ s) s
         (omega (arith, said-settings f st e))
 
-    verdict-is : r .verdict ≡ verdictIn st
-    verdict-is = asked-verdict (caseSaid st) _ _ _ list work r listAfter workAfter h none
+    answer-is : r ≡ answerIn (caseSaid st) (clauseTable st) (constraintTable st) (formulaTable st) 1024
+    answer-is = rw full at (asked-answer (caseSaid st) _ _ _ list work r listAfter workAfter h none)
 
-    rounds-are : r .rounds ≡ roundsOf st
-    rounds-are = asked-rounds (caseSaid st) _ _ _ list work r listAfter workAfter h none
+    pub asked-queries : length (st .queries) ≤ length (r .verdicts)
+    asked-queries =
+        rw answer-is (omega (arith, padded-length 16 (verdictNumbers st), said-queries f st e))
 
-    minimal-is : r .minimal ≡ length (minimalsOf st)
-    minimal-is = asked-minimal (caseSaid st) _ _ _ list work r listAfter workAfter h none
-
-    written-is : r .written ≡ min (length (minimalsOf st)) 1024
-    written-is = rw full at (asked-written (caseSaid st) _ _ _ list work r listAfter workAfter h none)
+    -- the numbers in use
+    verdicts-are : take (length (st .queries)) (r .verdicts) ≡ verdictNumbers st
+    verdicts-are =
+        let vs = verdictNumbers st in
+        let n = numbers-length st in
+        rw answer-is
+        (ap (take (length (st .queries))) (padded-split 16 vs (omega (arith, said-queries f st e)))
+        ∙ take-at vs (padded (16 - length vs) []) (length (st .queries)) n)
 
     list-is : listAfter
         ≡ take (min (length (minimalsOf st)) 1024) (minimalsOf st) ++ drop (min (length (minimalsOf st)) 1024) list
@@ -151,13 +186,13 @@ module _ (f : List ℕ) (st : Said) (e : readFile f ≡ Outcome.case st) (list w
         l ∙ ap (λ (k : ℕ). take w (minimalsOf st) ++ drop k list) (front-length (minimalsOf st) list 1024)
 
     pub asked-fits : r .written ≤ length listAfter
-    asked-fits = rw (written-is, list-is) (front-fits (minimalsOf st) list 1024 full)
+    asked-fits = rw (answer-is, list-is) (front-fits (minimalsOf st) list 1024 full)
 
     pub asked-text : (names : List ℕ) (causes : ℕ) → names ≡ padded 1024 (rowsOf (st .names)) → causes ≡ causesIn st
-        → answerText (nameIn names) causes (r .verdict) (r .rounds) (r .minimal) (take (r .written) listAfter)
-        ≡ saidText st
+        → answerText (nameIn names) causes (take (length (st .queries)) (r .verdicts)) (r .rounds) (r .minimal)
+        (take (r .written) listAfter) ≡ saidText st
     unfolding saidText
     asked-text names causes n c =
-        rw (n, c, verdict-is, rounds-are, minimal-is, written-is, list-is, front-written (minimalsOf st) list 1024)
+        rw (n, c, verdicts-are, answer-is, list-is, front-written (minimalsOf st) list 1024)
         (answer-alike (nameIn (padded 1024 (rowsOf (st .names)))) (nameOf st) (said-table f st e) (causesIn st)
-        (verdictIn st) (roundsOf st) (length (minimalsOf st)) (take listLength (minimalsOf st)))
+        (verdictNumbers st) (roundsOf st) (length (minimalsOf st)) (take listLength (minimalsOf st)))

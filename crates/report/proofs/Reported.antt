@@ -27,7 +27,7 @@ use Rattle.question.specs.Operation.{Asked}
 use Rattle.reader.specs.declared.read.Answer.{Answer}
 use Rattle.store.specs.Lent.{Lent}
 use Rattle.store.specs.Saying.{Said}
-use Rattle.store.specs.Tables.{clauseWords, constraintWords, caseSaid}
+use Rattle.store.specs.Tables.{clauseWords, constraintWords, formulaParts, caseSaid}
 use Rattle.reader.specs.Reading.{Outcome, refusalOf, lineOfRefusal, readFile}
 use Rattle.reader.specs.Operation.{earlyRefusal, ReadAs}
 use Rattle.reader.proofs.EarlyRefusals.{early-none, early-file-long}
@@ -39,7 +39,7 @@ use Rattle.report.specs.Report.{clauseTable, constraintTable, formulaTab
 use Rattle.report.specs.Report.{reportText}
 use Rattle.report.specs.Operation.{ReportShown, Reported}
 use Rattle.report.specs.Sizes.{FullSizes}
-use Rattle.report.proofs.Accepted.{said-sound, said-length, asked-fits, asked-text}
+use Rattle.report.proofs.Accepted.{said-sound, said-length, asked-queries, asked-fits, asked-text}
 
 -- the report of the file f, where the refusal of its length is n
 abbrev textWith : List ℕ → ℕ → List ℕ
@@ -49,7 +49,7 @@ pub report-long : (f : List ℕ) → 32768 < length f → reportText f ≡ refus
 unfolding reportText
 report-long f h = ap (textWith f) (first-failed-here 2 [] (lt-leb (length f) 32768 h))
 
-report-read : (f : List ℕ) → length f ≤ 32768 → reportText f ≡ outcomeText (readFile f)
+pub report-read : (f : List ℕ) → length f ≤ 32768 → reportText f ≡ outcomeText (readFile f)
 unfolding reportText
 report-read f h = ap (textWith f) (first-failed-behind 2 [] (le-leb (length f) 32768 h))
 
@@ -109,7 +109,7 @@ module _ {f : List ℕ} {t u : Lent} {r : Answer} {list work : List ℕ}
         case-is = rw (z, e) at (h .case-is);
         clauses-are = rw (n, e) at (h .clauses-are) ∙ filled-exact 768 _ (t .clauses) (x .clauses-full);
         constraints-are = rw (n, e) at (h .constraints-are) ∙ filled-exact 64 _ (t .constraints) (x .constraints-full);
-        formula-is = rw (n, e) at (h .formula-is) ∙ filled-exact 128 _ (t .formula) (x .formula-full);
+        formula-is = rw (n, e) at (h .formula-is) ∙ filled-exact 2048 _ (t .formula) (x .formula-full);
         names-are = rw (n, e) at (h .names-are) ∙ filled-exact 1024 _ (t .names) (x .names-full);
       }
 
@@ -130,16 +130,19 @@ module _ {f : List ℕ} {t u : Lent} {r : Answer} {list work : List ℕ}
 
 -- An accepted file, and what its question answers, with a list of 1,024 slots and a work area of 59,049 bytes
 
-abbrev textOf : Lent → ℕ → question.Answer → List ℕ → List ℕ
-textOf u causes q list =
-    answerText (nameIn (u .names)) causes (q .verdict) (q .rounds) (q .minimal) (take (q .written) list)
+abbrev textOf : Answer → Lent → ℕ → question.Answer → List ℕ → List ℕ
+textOf r u causes q list =
+    answerText (nameIn (u .names)) causes (take (r .found .formulas) (q .verdicts)) (q .rounds) (q .minimal)
+    (take (q .written) list)
 
--- what the report shows of the answer q and its list, with the tables u
-pub record Answered (f : List ℕ) (u : Lent) (causes : ℕ) (q : question.Answer) (list : List ℕ) : Type 0 where
-  pub names-fit : 1024 ≤ length (u .names)
-  pub list-fits : q .written ≤ length list
-  pub text-fits : Room (textOf u causes q list) 0
-  pub text-is : textOf u causes q list ≡ reportText f
+-- what the report shows of the answer q and its list, with the record of the answer r and the tables u
+pub record Answered (f : List ℕ) (r : Answer) (u : Lent) (causes : ℕ) (q : question.Answer) (list : List ℕ) : Type 0
+  where
+    pub names-fit : 1024 ≤ length (u .names)
+    pub queries-fit : r .found .formulas ≤ length (q .verdicts)
+    pub list-fits : q .written ≤ length list
+    pub text-fits : Room (textOf r u causes q list) 0
+    pub text-is : textOf r u causes q list ≡ reportText f
 
 module _ {f : List ℕ} {u : Lent} {r : Answer} (a : Accepted f u r) where
   accepted-sound : sound (r .found) (u .clauses) (u .constraints) (u .formula) ≡ true
@@ -159,6 +162,9 @@ module _ {f : List ℕ} {u : Lent} {r : Answer} (a : Accepted f u r) where
   pub accepted-constraints : length (u .constraints) ≡ 64
   accepted-constraints = ap length (a .constraints-are) ∙ padded-length 64 (constraintWords (a .said .constraints))
 
+  pub accepted-formula : length (u .formula) ≡ 2048
+  accepted-formula = ap length (a .formula-is) ∙ padded-length 2048 (formulaParts (a .said .queries))
+
   module _ {list work listAfter workAfter : List ℕ} {q : question.Answer} (full : length list ≡ 1024)
       (room : length work ≡ 59049)
       (h : Asked (r .found) (u .clauses) (u .constraints) (u .formula) list work q listAfter workAfter) where
@@ -167,15 +173,19 @@ module _ {f : List ℕ} {u : Lent} {r : Answer} (a : Accepted f u r) where
     asked-said = rw (a .case-is, a .clauses-are, a .constraints-are, a .formula-is) at h
 
     pub accepted-answered : {heads causes : ℕ} → heads ≡ headsOf (u .clauses) (r .found .clauses)
-        → causes ≡ causesAmong (r .found .atoms) heads → Answered f u causes q listAfter
+        → causes ≡ causesAmong (r .found .atoms) heads → Answered f r u causes q listAfter
     accepted-answered {heads} {causes} d c =
         let st = a .said in
         let e : causes ≡ causesIn st =
         rw (a .case-is, a .clauses-are) at (c ∙ ap (causesAmong (r .found .atoms)) d ∙ sym (causes-of (r .found) _)) in
-        let t = asked-text f st (a .read-is) list work full room q listAfter workAfter asked-said (u .names) causes
-        (a .names-are) e in
+        let t : textOf r u causes q listAfter ≡ saidText st =
+        rw (a .case-is)
+        (asked-text f st (a .read-is) list work full room q listAfter workAfter asked-said (u .names) causes
+        (a .names-are) e) in
         record {
           names-fit = omega (arith, ap length (a .names-are), padded-length 1024 (rowsOf (st .names)));
+          queries-fit = rw (a .case-is)
+              (asked-queries f st (a .read-is) list work full room q listAfter workAfter asked-said);
           list-fits = asked-fits f st (a .read-is) list work full room q listAfter workAfter asked-said;
           text-fits = rw t (omega (arith, said-length f st (a .read-is)));
           text-is = t ∙ sym (a .text-is);

@@ -1,20 +1,34 @@
 -- What is claimed of reports is so. Assumes nothing.
 use mathlib.Core.Path.{_≡_, refl, sym, ap, _∙_}
-use mathlib.Core.List.{List}
+use mathlib.Core.List.{List, map}
 use mathlib.Core.Logic.{⊎-elim}
 use Prim.Native.Nat.{ℕ, zero, suc, _≤_, _<_}
 use native.Mathlib.Omega.{arith}
 use lib.ListN.{length, take}
 use lib.Seq.{take-all, length-take-le}
 use Rattle.words.specs.Choice.{unlessRefused}
+use Rattle.words.specs.Lists.{listOf}
+use Rattle.words.proofs.Lists.{list-of-ext, list-of-map, list-of-is}
 use Rattle.words.proofs.Tests.{lt-or-le}
+use Rattle.logic.specs.Formula.{Formula}
+use Rattle.logic.specs.Nodes.{formulaOf}
+use Rattle.program.specs.Case.{nodesOf}
+use Rattle.explanation.specs.Judge.{Judge}
+use Rattle.verdict.specs.declared.verdict.Verdict.the-variants.{Unexplained}
+use Rattle.verdict.specs.Walk.{verdictOf, verdictsOf, verdictNumber}
+use Rattle.verdict.proofs.Verdicts.{verdict-alike, verdicts-length, verdicts-at}
+use Rattle.store.specs.Saying.{Said}
+use Rattle.store.specs.Tables.{caseSaid}
 use Rattle.reader.specs.Reading.{Outcome, readFile}
-use Rattle.report.specs.Report.{outcomeText, fileRefusal, reportText}
-use Rattle.report.specs.Claims.{reportLimit, ReportFits, ReportCut}
+use Rattle.report.specs.Report.{listLength, formulaTable, causesIn, judgeIn, minimalsOf, roundsOf, nameOf}
+use Rattle.report.specs.Report.{saidText, outcomeText, fileRefusal, reportText}
+use Rattle.report.specs.Claims.{reportLimit, ReportFits, ReportCut, judgeOn, verdictOn}
+use Rattle.report.specs.Claims.{VerdictsOnQueries, OneQuery}
 use Rattle.wording.specs.Text.{refusalText}
+use Rattle.wording.proofs.Listings.{answer-one}
 use Rattle.wording.proofs.Lengths.{refusal-length}
-use Rattle.report.proofs.Accepted.{said-length}
-use Rattle.report.proofs.Reported.{report-long}
+use Rattle.report.proofs.Accepted.{said-formulas, said-length}
+use Rattle.report.proofs.Reported.{report-long, report-read}
 
 outcome-length : (f : List ℕ) (o : Outcome) → readFile f ≡ o → length (outcomeText o) ≤ reportLimit
 outcome-length f (Outcome.case st) e = said-length f st e
@@ -39,3 +53,31 @@ report-cut f k h = ⊎-elim long short (lt-or-le k (length f))
 
     short : length f ≤ k → reportText (take k f) ≡ reportText f
     short l = ap reportText (take-all k f l)
+
+verdicts-listed : (J : Judge) (l : List ℕ) → verdictsOf J l ≡ listOf (J .queries) (λ q. verdictOf J q l)
+verdicts-listed J l =
+    let n = verdicts-length J l in
+    sym (list-of-is (verdictsOf J l) Unexplained _ (λ q k. sym (verdicts-at J l q (rw n at k))))
+    ∙ ap (λ (m : ℕ). listOf m (λ q. verdictOf J q l)) n
+
+-- query q of the formula table
+abbrev queryOf : Said → ℕ → Formula
+queryOf st q = formulaOf (nodesOf (caseSaid st .nodes) (formulaTable st) q)
+
+pub verdicts-on-queries : VerdictsOnQueries
+verdicts-on-queries f st e =
+    let n = length (st .queries) in
+    let l = minimalsOf st in
+    verdicts-listed (judgeIn st) l
+    ∙ list-of-ext n _ _ (λ q k. verdict-alike (judgeIn st) (judgeOn st (queryOf st q)) q 0 (λ s. refl) l)
+    ∙ sym (list-of-map n (queryOf st) (verdictOn st))
+    ∙ ap (map (verdictOn st)) (said-formulas f st e)
+
+pub one-query : OneQuery
+unfolding saidText
+one-query f st g h e q =
+    report-read f h
+    ∙ ap outcomeText e
+    ∙ rw (verdicts-on-queries f st e, q)
+    (answer-one (nameOf st) (causesIn st) (verdictNumber (verdictOn st g)) (roundsOf st) (length (minimalsOf st))
+    (take listLength (minimalsOf st)))

@@ -1,14 +1,33 @@
 -- What is claimed of reports beyond the contract of *report*. Proved in proofs/Theorems.antt.
 -- From: document 01, "The program `causes`".
+--
+--   ReportFits           how long a report can be
+--   ReportCut            a file that is too long, cut behind the limit
+--   verdictOn st g       the verdict on the formula g of what a file says
+--   VerdictsOnQueries    the verdicts are those on the file's queries
+--   OneQuery             the report of a file with one query
 use mathlib.Core.Path.{_≡_}
-use mathlib.Core.List.{List}
+use mathlib.Core.List.{List, [], _∷_, _++_, map}
 use Prim.Native.Nat.{ℕ, _≤_, _<_}
 use lib.ListN.{length, take}
-use Rattle.report.specs.Report.{reportText}
+use Rattle.logic.specs.Formula.{Formula, valueOf}
+use Rattle.program.specs.Setting.{additionsOf}
+use Rattle.explanation.specs.Explanation.{settledWith}
+use Rattle.explanation.specs.Judge.{Judge}
+use Rattle.verdict.specs.declared.verdict.Verdict.{Verdict}
+use Rattle.verdict.specs.Walk.{verdictOf, verdictNumber}
+use Rattle.store.specs.Saying.{Said}
+use Rattle.store.specs.Tables.{caseSaid}
+use Rattle.reader.specs.Reading.{Outcome, readFile}
+use Rattle.reader.specs.Contents.{fileContent}
+use Rattle.wording.specs.Text.{verdictLine, roundsLine, minimalLine, causeLines}
+use Rattle.report.specs.Report.{listLength, clauseTable, causesIn, judgeIn, minimalsOf, roundsOf, verdictsIn}
+use Rattle.report.specs.Report.{nameOf, reportText}
 
--- a bound on the length of any report: the first three lines, and 1,024 settings of ten causes with names of 16 bytes
+-- a bound on the length of any report: 16 verdicts, the two lines behind them, and 1,024 settings of ten causes with
+-- names of 16 bytes
 abbrev pub reportLimit : ℕ
-reportLimit = 264252
+reportLimit = 264582
 
 -- an output of that many bytes is long enough for the report of any file
 abbrev pub ReportFits : Type 0
@@ -17,3 +36,31 @@ ReportFits = (f : List ℕ) → length (reportText f) ≤ reportLimit
 -- the first k bytes of a file give its report, where k is over the limit of 32,768
 abbrev pub ReportCut : Type 0
 ReportCut = (f : List ℕ) (k : ℕ) → 32768 < k → reportText (take k f) ≡ reportText f
+
+-- the judge of what a file says, with the formula g as its one query
+abbrev pub judgeOn : Said → Formula → Judge
+judgeOn st g = record {
+  explains = judgeIn st .explains;
+  rounds = judgeIn st .rounds;
+  queries = 1;
+  value = λ q s. valueOf (settledWith (caseSaid st) (clauseTable st) (additionsOf (causesIn st) s)) g;
+}
+
+-- over the minimal settings
+abbrev pub verdictOn : Said → Formula → Verdict
+verdictOn st g = verdictOf (judgeOn st g) 0 (minimalsOf st)
+
+-- the verdicts of an accepted file are those on the formulas of its query lines, in file order
+abbrev pub VerdictsOnQueries : Type 0
+VerdictsOnQueries = (f : List ℕ) (st : Said) → readFile f ≡ Outcome.case st
+    → verdictsIn st ≡ map (verdictOn st) (fileContent f .queries)
+
+-- the report of an accepted file with one query line, whose formula is g: one verdict, the rounds, how many minimal
+-- settings there are and are listed, and the listed ones
+abbrev pub OneQuery : Type 0
+OneQuery = (f : List ℕ) (st : Said) (g : Formula) → length f ≤ 32768 → readFile f ≡ Outcome.case st
+    → fileContent f .queries ≡ (g ∷ [])
+    → let l = minimalsOf st in let listed = take listLength l in
+    reportText f ≡ verdictLine (verdictNumber (verdictOn st g))
+    ++ (roundsLine (roundsOf st)
+    ++ (minimalLine (length l) (length listed) ++ causeLines (nameOf st) (causesIn st) listed))

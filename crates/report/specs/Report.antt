@@ -4,11 +4,11 @@
 --   listLength             the slots of the program's list
 --   judgeIn st             the judge of what a file says
 --   causesIn st            its causes; minimalsOf st its minimal settings; roundsOf st the rounds over all settings
---   verdictIn st           its verdict
+--   verdictsIn st          its verdicts, in file order; verdictNumbers st their numbers
 --   outcomeText o          the report of an outcome of reading
 --   fileRefusal f          0, or 2 where the file is too long
 --   reportText f           the report of the file f
-use mathlib.Core.List.{List, [], _∷_}
+use mathlib.Core.List.{List, [], _∷_, map}
 use Prim.Native.Nat.{ℕ}
 use lib.Dec.{leb}
 use lib.ListN.{length, getD, take}
@@ -18,10 +18,10 @@ use Rattle.program.specs.Case.{clauseSize, constraintSize, formulaSize}
 use Rattle.program.specs.Cause.{causesOf}
 use Rattle.verdict.specs.declared.verdict.Verdict.{Verdict}
 use Rattle.explanation.specs.Judge.{Judge, judgeOf}
-use Rattle.verdict.specs.Walk.{roundsBelow, verdictOf}
+use Rattle.verdict.specs.Walk.{roundsBelow, verdictsOf, verdictNumber}
 use Rattle.question.specs.Operation.{settingsIn, minimalsIn}
 use Rattle.store.specs.Saying.{Said}
-use Rattle.store.specs.Tables.{clauseWords, constraintWords, formulaNodes, caseSaid}
+use Rattle.store.specs.Tables.{clauseWords, constraintWords, formulaParts, caseSaid}
 use Rattle.reader.specs.Reading.{Outcome, readFile}
 use Rattle.wording.specs.Text.{answerText, refusalText}
 
@@ -37,7 +37,7 @@ abbrev pub constraintTable : Said → List ℕ
 constraintTable st = padded constraintSize (constraintWords (st .constraints))
 
 abbrev pub formulaTable : Said → List ℕ
-formulaTable st = padded formulaSize (formulaNodes (st .queries))
+formulaTable st = padded formulaSize (formulaParts (st .queries))
 
 abbrev pub causesIn : Said → ℕ
 causesIn st = causesOf (caseSaid st) (clauseTable st)
@@ -51,8 +51,11 @@ minimalsOf st = minimalsIn (caseSaid st) (clauseTable st) (constraintTable st) (
 abbrev pub roundsOf : Said → ℕ
 roundsOf st = roundsBelow (judgeIn st) (settingsIn (caseSaid st) (clauseTable st))
 
-abbrev pub verdictIn : Said → Verdict
-verdictIn st = verdictOf (judgeIn st) (minimalsOf st)
+abbrev pub verdictsIn : Said → List Verdict
+verdictsIn st = verdictsOf (judgeIn st) (minimalsOf st)
+
+abbrev pub verdictNumbers : Said → List ℕ
+verdictNumbers st = map verdictNumber (verdictsIn st)
 
 -- the name of an atom
 abbrev pub nameOf : Said → ℕ → List ℕ
@@ -61,7 +64,7 @@ nameOf st a = getD (st .names) a []
 unfoldable pub saidText : Said → List ℕ
 saidText st =
     let l = minimalsOf st in
-    answerText (nameOf st) (causesIn st) (verdictIn st) (roundsOf st) (length l) (take listLength l)
+    answerText (nameOf st) (causesIn st) (verdictNumbers st) (roundsOf st) (length l) (take listLength l)
 
 abbrev pub outcomeText : Outcome → List ℕ
 outcomeText (Outcome.case st) = saidText st

@@ -1,6 +1,6 @@
 // The operation *report*.
 ghost use Prim.Native.Nat.{_≤_};
-ghost use lib.ListN.{length};
+ghost use lib.ListN.{length, take};
 ghost use Rattle.program.specs.Case.{nameSize};
 ghost use Rattle.wording.specs.Text.{answerText, refusalText};
 ghost use Rattle.report.specs.Operation.{ReportShown, Reported};
@@ -28,38 +28,34 @@ fn show_refusal(number: u32, line: u32, out: &mut [u8]) -> Answer
     Answer { refusal: 0, length }
 }
 
-// Writes the text of an answer that lists some settings, unless the output is too short.
+// Writes the text of an answer on some queries that lists some settings, unless the output is too short.
 fn show_answer(
     a: question::operation::Answer,
+    queries: usize,
     names: &[u8],
     causes: u64,
     list: &[u16],
     out: &mut [u8],
 ) -> Answer
-    requires { ⌜ (nameSize ≤ length (now names))
-        × Room (answerText (nameIn (now names)) causes (a .verdict) (a .rounds) (a .minimal) (now list)) 0 ⌝ }
+    requires { ⌜ (queries ≤ length (a .verdicts)) × (nameSize ≤ length (now names))
+        × Room (answerText (nameIn (now names)) causes (take queries (a .verdicts)) (a .rounds) (a .minimal)
+        (now list)) 0 ⌝ }
     ensures { λ r. ⌜ ReportShown
-        (answerText (nameIn (now (names .entry))) causes (a .verdict) (a .rounds) (a .minimal) (now (list .entry)))
+        (answerText (nameIn (now (names .entry))) causes (take queries (a .verdicts)) (a .rounds) (a .minimal)
+        (now (list .entry)))
         (now (out .entry)) r (now (out .exit)) ⌝ }
 {
-    let verdict = a.verdict;
+    let verdicts = a.verdicts;
+    let shown = &verdicts[..queries];
     let mut spare = [0u8; 1];
-    let length = answer_text(
-        &mut spare,
-        verdict,
-        a.rounds,
-        a.minimal,
-        names,
-        causes,
-        list,
-    );
+    let length = answer_text(&mut spare, shown, a.rounds, a.minimal, names, causes, list);
     if out.len() < length {
         return Answer {
             refusal: 19,
             length: 0,
         };
     }
-    answer_text(out, verdict, a.rounds, a.minimal, names, causes, list);
+    answer_text(out, shown, a.rounds, a.minimal, names, causes, list);
     Answer { refusal: 0, length }
 }
 
@@ -87,7 +83,7 @@ fn report_in(
     let heads = program::cause::heads(clauses, c.clauses);
     let causes = program::cause::causes(c.atoms, heads);
     let n = a.written;
-    show_answer(a, names, causes, &list[..n], out)
+    show_answer(a, c.formulas, names, causes, &list[..n], out)
 }
 
 // Writes the report of a file's bytes to a lent output, and answers its length. Refuses with 19 an output shorter than

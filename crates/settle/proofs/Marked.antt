@@ -20,9 +20,17 @@ record Row : Type 0 where
   clauses : List ℕ
   expected : List Settled
 
--- a case with n atoms, m clauses, one node, and these observed literals
+-- a case with n atoms, m clauses, one formula of one node, and these observed literals
 abbrev caseOf : ℕ → ℕ → ℕ → ℕ → Case
-caseOf n m p q = record { atoms = n; clauses = m; constraints = 0; nodes = 1; plain = p; negated = q }
+caseOf n m p q = record {
+  atoms = n;
+  clauses = m;
+  constraints = 0;
+  formulas = 1;
+  plain = p;
+  negated = q;
+  nodes = 1 ∷ [];
+}
 
 abbrev answer : ℕ → ℕ → ℕ → Settled
 answer t f k = record { interpretation = record { trues = t; falses = f }; rounds = k }

@@ -1,26 +1,21 @@
 -- Tables that hold what was read hold it with one clause, constraint, reading or query more, and with a line's names.
 -- Assumes nothing.
 use mathlib.Core.Path.{_≡_, refl, ap, subst, _∙_}
-use mathlib.Core.List.{List, [], _∷_, _++_}
-use mathlib.Core.Option.{Option}
-use Prim.Native.Nat.{ℕ, zero, suc, _+_, _≤_, _<_}
-use native.Mathlib.Nat.{zero-add}
+use mathlib.Core.List.{List, [], _∷_, _++_, map-append}
+use Prim.Native.Nat.{ℕ, zero, suc, _≤_, _<_}
 use native.Mathlib.Omega.{arith}
-use lib.Dec.{leb}
-use lib.ListN.{length, drop, length-append}
-use lib.Seq.{sets}
-use Rattle.words.specs.Choice.{pick}
+use lib.ListN.{length, getD, length-append, length-map}
 use Rattle.logic.specs.Formula.{Formula}
 use Rattle.logic.specs.Nodes.{nodes}
 use Rattle.program.specs.declared.case.Case.{Case}
-use Rattle.program.specs.Case.{clauseSize, constraintSize, formulaSize, nameSize}
-use Rattle.text.specs.Tokens.{tokens}
+use Rattle.program.specs.Case.{clauseSize, constraintSize, formulaSize, partSize, nameSize}
 use Rattle.text.proofs.Each.{Each, each-gives}
 use Rattle.text.proofs.Places.{place-name}
-use Rattle.table.specs.Filled.{filled}
-use Rattle.table.proofs.Kept.{sets-behind}
+use Rattle.table.specs.Filled.{filled, padded}
+use Rattle.table.proofs.Filled.{padded-push}
+use Rattle.table.proofs.Rows.{row-stored}
 use Rattle.formulas.specs.Sentence.{Sentence, sentenceNames}
-use Rattle.formulas.specs.Items.{Item, itemsOf}
+use Rattle.formulas.specs.Parsing.{sizeOf}
 use Rattle.grammar.specs.Line.{Literal, bodyNames}
 use Rattle.names.specs.Names.{atomOf, withNames, rowsOf}
 use Rattle.names.specs.Row.{rowOf}
@@ -30,37 +25,33 @@ use Rattle.names.proofs.Held.{row-atom, all-named-at}
 use Rattle.names.proofs.Interning.{LineInterned}
 use Rattle.store.specs.declared.masks.Masks.{Masks}
 use Rattle.store.specs.Lent.{Lent, lent}
-use Rattle.store.specs.Saying.{Said, said, ClauseRow, ConstraintRow, encoded, clauseRow, constraintRow, renamed}
-use Rattle.store.specs.Saying.{withClause, withConstraint, withObserved, withQuery}
-use Rattle.store.specs.Tables.{caseWith, clauseWords, constraintWords, formulaNodes, caseSaid}
+use Rattle.store.specs.Saying.{Said, said, ClauseRow, ConstraintRow, encodedBy, encoded, clauseRow, constraintRow}
+use Rattle.store.specs.Saying.{renamed, withClause, withConstraint, withObserved, withQuery}
+use Rattle.store.specs.Tables.{caseWith, clauseWords, constraintWords, formulaParts, nodeCounts}
 use Rattle.store.specs.Held.{Long, Limits, InLimits, Held}
 use Rattle.store.specs.Masks.{masksBy}
-use Rattle.store.specs.Nodes.{NodeTable, nodeTable}
-use Rattle.store.specs.Stored.{ClauseStored, ConstraintStored, ObservedStored, QueryStored, queriesIn}
+use Rattle.store.specs.Stored.{ClauseStored, ConstraintStored, ObservedStored}
 use Rattle.store.proofs.Lent.{lent-same}
 use Rattle.store.proofs.Formulas.{over-some}
-use Rattle.store.proofs.Encoded.{Known, encoded-over}
+use Rattle.store.proofs.Encoded.{Known, encoded-over, encoded-length}
 use Rattle.store.proofs.Lookups.{Agree, masks-same, encoded-same}
-use Rattle.store.proofs.NodeLaws.{query-nodes, nodes-stored}
-use Rattle.store.proofs.Rows.{clause-words-stored, constraint-words-stored, formula-nodes-push}
-use Rattle.store.proofs.Rows.{nodes-push-length, node-each}
+use Rattle.store.proofs.NodeLaws.{FormulaPut}
+use Rattle.store.proofs.Rows.{clauseRowWords, constraintRowWords, clause-rows, constraint-rows, formula-rows}
+
+-- each of l is at most m, with one more
+push-le : (m : ℕ) (l : List ℕ) (x : ℕ) → ((q : ℕ) → getD l q 0 ≤ m) → x ≤ m → (q : ℕ) → getD (l ++ (x ∷ [])) q 0 ≤ m
+push-le m [] x h k zero = k
+push-le m [] x h k (suc q) = omega arith
+push-le m (y ∷ l) x h k zero = h zero
+push-le m (y ∷ l) x h k (suc q) = push-le m l x (λ i. h (suc i)) k q
 
 -- c with a number of atoms
 abbrev pub withAtomCount : Case → ℕ → Case
-withAtomCount c n = caseWith n (c .clauses) (c .constraints) (c .nodes) (c .plain) (c .negated)
+withAtomCount c n = caseWith n (c .clauses) (c .constraints) (c .formulas) (c .plain) (c .negated) (c .nodes)
 
 -- The limits
 
-some-queries : (n : ℕ) → n ≤ 1 → pick (leb 1 n) 1 0 ≡ n
-some-queries zero h = refl
-some-queries (suc zero) h = refl
-some-queries (suc (suc n)) h = absurd (omega arith)
-
 module _ (st : Said) (h : Limits st) where
-  -- a record counts the nodes of its query: where it has none, there is no query
-  pub queries-in : queriesIn (caseSaid st) ≡ length (st .queries)
-  queries-in = rw (node-each (st .queries) (h .query-nodes)) (some-queries (length (st .queries)) (h .queries-few))
-
   limits-as : {ns : List (List ℕ)} {cs : List ClauseRow} {ds : List ConstraintRow} {p q : ℕ} → length cs ≤ 256
       → length ds ≤ 32 → length (st .names) ≤ length ns → Limits (said ns cs ds p q (st .queries))
   limits-as i j k = record {
@@ -68,19 +59,17 @@ module _ (st : Said) (h : Limits st) where
     constraints-few = j;
     queries-few = h .queries-few;
     nodes-few = h .nodes-few;
-    query-nodes = h .query-nodes;
-    query-atoms = omega (arith, h .query-atoms);
+    query-atoms = λ s. omega (arith, h .query-atoms s);
   }
 
-  query-limits : (f : Formula) → length (formulaNodes (st .queries)) ≡ 0 → 1 ≤ length (st .names)
-      → 1 ≤ length (nodes f) → length (nodes f) ≤ 128 → Limits (withQuery st f)
-  query-limits f z a k m = record {
+  query-limits : (f : Formula) → length (st .queries) < 16 → 1 ≤ length (st .names) → length (nodes f) ≤ partSize
+      → Limits (withQuery st f)
+  query-limits f room a few = record {
     clauses-few = h .clauses-few;
     constraints-few = h .constraints-few;
     queries-few = omega (arith, length-append (st .queries) (f ∷ []));
-    nodes-few = omega (arith, nodes-push-length (st .queries) f);
-    query-nodes = omega (arith, length-append (st .queries) (f ∷ []), nodes-push-length (st .queries) f);
-    query-atoms = omega (arith, length-append (st .queries) (f ∷ []));
+    nodes-few = λ q. rw map-append (push-le partSize (nodeCounts (st .queries)) _ (h .nodes-few) few q);
+    query-atoms = λ _. a;
   }
 
 -- The record c and the tables t hold st
@@ -91,7 +80,7 @@ module _ (st : Said) (c : Case) (t : Lent) (h : Held st c t) where
     atoms-few = h .few-names;
     clauses-few = h .limits .clauses-few;
     constraints-few = h .limits .constraints-few;
-    nodes-few = h .limits .nodes-few;
+    formulas-few = h .limits .queries-few;
   })
 
   clauses-held : t .clauses ≡ filled clauseSize (clauseWords (st .clauses)) (t .clauses)
@@ -100,7 +89,7 @@ module _ (st : Said) (c : Case) (t : Lent) (h : Held st c t) where
   constraints-held : t .constraints ≡ filled constraintSize (constraintWords (st .constraints)) (t .constraints)
   constraints-held = ap (λ (x : Lent). x .constraints) (h .tables-are)
 
-  formula-held : t .formula ≡ filled formulaSize (formulaNodes (st .queries)) (t .formula)
+  formula-held : t .formula ≡ filled formulaSize (formulaParts (st .queries)) (t .formula)
   formula-held = ap (λ (x : Lent). x .formula) (h .tables-are)
 
   rows-held : t .names ≡ filled nameSize (rowsOf (st .names)) (t .names)
@@ -148,13 +137,15 @@ module _ (st : Said) (c : Case) (t : Lent) (h : Held st c t) where
           → withNames (st .names) (w ∷ bodyNames ls) ≡ st .names → c .clauses < 256
           → ClauseStored w kind m c (t .names) (t .clauses) r u
           → Held (withClause st (clauseRow (st .names) kind w ls)) r (lent u (t .constraints) (t .formula) (t .names))
-      unfolding clauseWords
+      unfolding padded
       clause-held kind w known room s =
           let row = clauseRow (st .names) kind w ls in
           let a = each-agree (w ∷ bodyNames ls) known in
           let n = length-append (st .clauses) (row ∷ []) in
           let room' : length (st .clauses) < 256 = rw (h .case-is) at room in
-          let words = clause-words-stored (st .clauses) row (t .clauses) room' (long .clauses-long) clauses-held in
+          let words =
+          row-stored clause-rows clauseSize (st .clauses) row (clauseRowWords row) (t .clauses) refl (omega arith)
+          (omega arith) (long .clauses-long) clauses-held in
           record {
             limits = limits-as st (h .limits) (omega arith) (h .limits .constraints-few) (omega arith);
             case-is = s .counted ∙ rw (h .case-is, n);
@@ -168,15 +159,15 @@ module _ (st : Said) (c : Case) (t : Lent) (h : Held st c t) where
       module _ (known : withNames (st .names) (bodyNames ls) ≡ st .names) where
         pub constraint-held : {r : Case} {u : List ℕ} → c .constraints < 32 → ConstraintStored m c (t .constraints) r u
             → Held (withConstraint st (constraintRow (st .names) ls)) r (lent (t .clauses) u (t .formula) (t .names))
-        unfolding constraintWords
+        unfolding padded
         constraint-held room s =
             let row = constraintRow (st .names) ls in
             let a = masks-are (each-agree (bodyNames ls) known) in
             let n = length-append (st .constraints) (row ∷ []) in
             let room' : length (st .constraints) < 32 = rw (h .case-is) at room in
             let words =
-            constraint-words-stored (st .constraints) row (t .constraints) room' (long .constraints-long)
-            constraints-held in
+            row-stored constraint-rows constraintSize (st .constraints) row (constraintRowWords row) (t .constraints)
+            refl (omega arith) (omega arith) (long .constraints-long) constraints-held in
             record {
               limits = limits-as st (h .limits) (h .limits .clauses-few) (omega arith) (omega arith);
               case-is = s .counted ∙ rw (h .case-is, n);
@@ -195,37 +186,29 @@ module _ (st : Said) (c : Case) (t : Lent) (h : Held st c t) where
           tables-are = h .tables-are;
         }
 
-    module _ {l : List ℕ} {at : ℕ} {f : Sentence} {r : Case} {u : List ℕ}
-        (i : itemsOf (tokens (drop at l)) ≡ Option.some (Item.formula f ∷ (Item.closing ∷ [])))
-        (known : withNames (st .names) (sentenceNames f) ≡ st .names) (none : c .nodes ≡ 0)
-        (few : length (nodes (encoded (st .names) f)) ≤ 128) (s : QueryStored l at c (t .names) (t .formula) r u) where
-      query-put : nodeTable (r .nodes) u
-          ≡ nodeTable (length (nodes (encoded (st .names) f))) (sets (t .formula) 0 (nodes (encoded (st .names) f)))
-      query-put =
-          let by = rowOf (t .names) (c .atoms) in
-          let same = encoded-same by (atomOf (st .names)) f (each-agree (sentenceNames f) known) in
-          s .nodes-are ∙ rw (query-nodes by (tokens (drop at l)) f i, same, none)
-          (nodes-stored (nodes (encoded (st .names) f)) 0 (t .formula) (omega arith) ∙ rw zero-add)
+    module _ (f : Sentence) (known : withNames (st .names) (sentenceNames f) ≡ st .names) where
+      abbrev g : Formula
+      g = encoded (st .names) f
 
-      pub query-held : 1 ≤ length (nodes (encoded (st .names) f))
-          → Held (withQuery st (encoded (st .names) f)) r (lent (t .clauses) (t .constraints) u (t .names))
-      query-held some =
-          let g = encoded (st .names) f in
-          let empty : length (formulaNodes (st .queries)) ≡ 0 = rw (h .case-is) at none in
-          let push = formula-nodes-push (st .queries) g in
-          let n = nodes-push-length (st .queries) g in
-          let count : r .nodes ≡ length (formulaNodes (st .queries ++ (g ∷ []))) =
-          ap (λ (x : NodeTable). x .count) query-put ∙ omega arith in
+      pub query-held : {r : Case} {u : List ℕ} → c .formulas < 16 → sizeOf f ≤ partSize
+          → FormulaPut (encodedBy (rowOf (t .names) (c .atoms)) f) c (t .formula) r u
+          → Held (withQuery st g) r (lent (t .clauses) (t .constraints) u (t .names))
+      query-held {r} {u} room small p =
+          let s : FormulaPut g c (t .formula) r u =
+          rw (encoded-same _ (atomOf (st .names)) f (each-agree (sentenceNames f) known)) at p in
+          let few = encoded-length (atomOf (st .names)) f in
+          let room' : length (st .queries) < 16 = rw (h .case-is) at room in
+          let n = length-append (st .queries) (g ∷ []) in
+          let counts = padded-push 16 (nodeCounts (st .queries)) (length (nodes g)) (rw length-map room') in
           let atoms = over-some _ g (encoded-over (atomOf (st .names)) _ f (each-known (sentenceNames f) known)) in
+          let words =
+          row-stored formula-rows formulaSize (st .queries) g (nodes g) (t .formula) refl (omega arith) (omega arith)
+          (long .formula-long) formula-held in
           record {
-            limits = query-limits st (h .limits) g empty atoms some few;
-            case-is = s .counted ∙ rw (count, h .case-is);
+            limits = query-limits st (h .limits) g room' atoms (omega arith);
+            case-is = s .counted ∙ rw (h .case-is, n, map-append, ← counts, length-map);
             all-named = h .all-named;
             few-names = h .few-names;
             tables-are =
-                lent-same clauses-held constraints-held
-                (rw (ap (λ (x : NodeTable). x .table) query-put)
-                (sets-behind formulaSize 0 (formulaNodes (st .queries)) (nodes g) _ (t .formula) push (omega arith)
-                (omega arith) (long .formula-long) formula-held))
-                rows-held;
+                lent-same clauses-held constraints-held (rw (s .table-is, h .case-is) words) rows-held;
           }

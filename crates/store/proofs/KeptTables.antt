@@ -6,12 +6,13 @@ use mathlib.Core.Path.{_≡_, refl, sym, ap, _∙_}
 use mathlib.Core.List.{[]}
 use native.Mathlib.Omega.{arith}
 use lib.ListN.{length}
+use Rattle.table.proofs.Filled.{padded-zeros}
 use Rattle.table.proofs.Kept.{kept-length}
 use Rattle.names.specs.Names.{rowsOf}
 use Rattle.names.specs.Held.{AllNamed}
 use Rattle.store.specs.Lent.{Lent, lent, filledWith}
 use Rattle.store.specs.Saying.{nothingSaid}
-use Rattle.store.specs.Tables.{clauseWords, constraintWords, formulaNodes, wordsOf, noCase}
+use Rattle.store.specs.Tables.{clauseWords, constraintWords, formulaParts, wordsOf, caseWith, noCase}
 use Rattle.store.specs.Held.{Long, Limits, Held, Kept}
 use Rattle.store.proofs.Lent.{filled-with-again}
 
@@ -42,25 +43,22 @@ kept-long t u k l =
 -- Nothing
 
 pub nothing-words : wordsOf nothingSaid ≡ lent [] [] [] []
-unfolding clauseWords constraintWords formulaNodes rowsOf
+unfolding clauseWords constraintWords formulaParts rowsOf
 nothing-words = refl
 
 nothing-limits : Limits nothingSaid
-unfolding formulaNodes
 nothing-limits = record {
   clauses-few = omega arith;
   constraints-few = omega arith;
   queries-few = omega arith;
-  nodes-few = omega arith;
-  query-nodes = omega arith;
+  nodes-few = λ q. omega arith;
   query-atoms = omega arith;
 }
 
 pub nothing-held : (t u : Lent) → u ≡ filledWith (wordsOf nothingSaid) t → Held nothingSaid noCase u
-unfolding formulaNodes
 nothing-held t u e = record {
   limits = nothing-limits;
-  case-is = refl;
+  case-is = ap (caseWith 0 0 0 0 0 0) (padded-zeros 16);
   all-named = AllNamed.none;
   few-names = omega arith;
   tables-are = e ∙ sym (ap (filledWith _) e ∙ filled-with-again _ _ t);

@@ -8,7 +8,7 @@
 -- Lookups: lookups that agree.
 -- MaskLaws: the atoms of literals, added one after the other.
 -- NodeLaws: the nodes of formulas, in a line and in a table.
--- Rows: one clause, constraint or query more in the words of a table.
+-- Rows: the rows of clauses, constraints and queries in the words of a table.
 -- FilledRows: the rows of filled tables.
 -- Held: tables that hold what was read with one row, reading, query or name more.
 -- Stored: what storing a form of a line leaves, for each kind of line.

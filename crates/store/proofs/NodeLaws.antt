@@ -4,35 +4,37 @@ use mathlib.Core.Path.{_≡_, refl, sym, ap, ap₂, subst, _∙_}
 use mathlib.Core.Bool.{Bool, true, false}
 use mathlib.Core.List.{List, [], _∷_, _++_, append-assoc, append-nil}
 use mathlib.Core.Option.{Option}
-use Prim.Native.Nat.{ℕ, zero, suc, _+_, _-_, _≤_, _<_}
-use native.Mathlib.Nat.{add-zero}
+use Prim.Native.Nat.{ℕ, zero, suc, _+_, _-_, _*_, _≤_, _<_}
+use native.Mathlib.Nat.{add-zero, zero-add}
 use native.Mathlib.Numerals.{add-one}
 use native.Mathlib.Omega.{arith}
-use lib.Dec.{ltb}
 use lib.ListN.{length, drop, getD, set}
 use lib.Seq.{slice, sets}
-use borrow.Author.Tests.{lt-ltb, le-ltb, ltb-true}
+use borrow.Author.Tests.{lt-ltb, le-ltb}
+use borrow.Rule.Slice.PartMut.{take-put}
 use Rattle.words.specs.Choice.{pick}
-use Rattle.words.proofs.Tests.{by-test}
 use Rattle.logic.specs.Formula.{Formula}
 use Rattle.logic.specs.Nodes.{nodes, joined}
-use Rattle.program.specs.Case.{formulaSize}
+use Rattle.program.specs.declared.case.Case.{Case}
+use Rattle.program.specs.Case.{formulaSize, partSize}
 use Rattle.text.specs.Tokens.{Token, tokens}
 use Rattle.text.specs.declared.tokens.Next.{Next}
 use Rattle.text.specs.declared.tokens.Next.the-variants.{End, Open, Close, Word}
 use Rattle.text.specs.Scanning.{Found}
 use Rattle.text.proofs.TokenLaws.{found-tokens}
-use Rattle.table.specs.Filled.{filled}
-use Rattle.table.proofs.Kept.{kept-refl, kept-trans, sets-kept}
+use Rattle.table.proofs.Stores.{restFrom, restBack, rest-lent, rest-back, sets-part}
 use Rattle.formulas.specs.Sentence.{Sentence, formWords, tokensOf, isSentence}
 use Rattle.formulas.specs.Items.{Item, itemsOf}
 use Rattle.formulas.specs.Keyword.{nodeOf}
+use Rattle.formulas.specs.Parsing.{sizeOf}
 use Rattle.formulas.proofs.Keywords.{word-node}
 use Rattle.formulas.proofs.Spelling.{joined-sentence, spelledItems, Spells, items-spell}
 use Rattle.names.specs.Row.{rowOf}
 use Rattle.names.proofs.Search.{row-le}
 use Rattle.store.specs.Saying.{encodedBy}
 use Rattle.store.specs.Nodes.{nodesFrom, NodeTable, nodeTable, withNodes}
+use Rattle.store.specs.Stored.{withFormula, QueryStored}
+use Rattle.store.proofs.Encoded.{encoded-length}
 
 -- The nodes of tokens
 
@@ -84,7 +86,7 @@ module _ (at : List ℕ → ℕ) where
       (nodes-form k _ _ (word-node k (omega arith) (j .high)) (F ∙ rw (G, closing-nodes ts, append-assoc)))
 
 -- of the tokens of a query behind its word
-pub query-nodes : (at : List ℕ → ℕ) (ts : List Token) (f : Sentence)
+query-nodes : (at : List ℕ → ℕ) (ts : List Token) (f : Sentence)
     → itemsOf ts ≡ Option.some (Item.formula f ∷ (Item.closing ∷ [])) → nodesFrom at false ts ≡ nodes (encodedBy at f)
 unfolding nodesFrom spelledItems
 query-nodes at ts f e =
@@ -93,23 +95,52 @@ query-nodes at ts f e =
 
 -- The table
 
-pub nodes-stored : (xs : List ℕ) (n : ℕ) (t : List ℕ) → n + length xs ≤ formulaSize
+nodes-stored : (xs : List ℕ) (n : ℕ) (t : List ℕ) → n + length xs ≤ partSize
     → withNodes (nodeTable n t) xs ≡ nodeTable (n + length xs) (sets t n xs)
 unfolding withNodes
 nodes-stored [] n t h = ap (λ k. nodeTable k t) (sym (add-zero n))
 nodes-stored (x ∷ xs) n t h =
     let e : n + 1 + length xs ≡ n + suc (length xs) = omega arith in
-    rw (lt-ltb n formulaSize (omega arith), nodes-stored xs (n + 1) (set t n x) (omega arith), e, add-one)
+    rw (lt-ltb n partSize (omega arith), nodes-stored xs (n + 1) (set t n x) (omega arith), e, add-one)
 
-pub nodes-kept : (xs : List ℕ) (n : ℕ) (t : List ℕ)
-    → let u = withNodes (nodeTable n t) xs .table in u ≡ filled formulaSize u t
-unfolding withNodes
-nodes-kept [] n t = kept-refl formulaSize t
-nodes-kept (x ∷ xs) n t =
-    by-test (ltb n formulaSize)
-    (λ e. let k = sets-kept formulaSize (x ∷ []) t n (omega (arith, ltb-true n formulaSize e)) in
-    rw e (kept-trans formulaSize t k (nodes-kept xs (n + 1) (set t n x))))
-    (λ e. rw e (kept-refl formulaSize t))
+-- A query
+
+-- the formula f stands in the part behind those in use
+pub record FormulaPut (f : Formula) (c : Case) (fo : List ℕ) (r : Case) (u : List ℕ) : Type 0 where
+  pub counted : r ≡ withFormula c (length (nodes f))
+  pub table-is : u ≡ sets fo (partSize * c .formulas) (nodes f)
+
+pub formula-put : {l : List ℕ} {at : ℕ} {c : Case} {na fo : List ℕ} {r : Case} {u : List ℕ} {f : Sentence}
+    → itemsOf (tokens (drop at l)) ≡ Option.some (Item.formula f ∷ (Item.closing ∷ [])) → sizeOf f ≤ partSize
+    → c .formulas < 16 → formulaSize ≤ length fo → QueryStored l at c na fo r u
+    → FormulaPut (encodedBy (rowOf na (c .atoms)) f) c fo r u
+formula-put {l} {at} {c} {na} {fo} {r} {u} {f} e small room long s =
+    let by = rowOf na (c .atoms) in
+    let xs = nodes (encodedBy by f) in
+    let n = encoded-length by f in
+    let i = partSize * c .formulas in
+    let put = rw (query-nodes by (tokens (drop at l)) f e) at (s .nodes-are)
+    ∙ (rw zero-add at (nodes-stored xs 0 (drop i fo) (omega arith))) in
+    record {
+      counted = s .counted ∙ ap (λ (t : NodeTable). withFormula c (t .count)) put;
+      table-is = sets-part i xs fo u (omega arith) (s .before-kept) (ap (λ (t : NodeTable). t .table) put);
+    }
+
+-- the part from its place on, lent to `store_nodes`, is back as ys
+pub query-stored-back : {l : List ℕ} {at : ℕ} {c : Case} {na fo : List ℕ} {n : ℕ} {ys : List ℕ} → c .formulas < 16
+    → formulaSize ≤ length fo
+    → nodeTable n ys ≡ withNodes (nodeTable 0 (restFrom (partSize * c .formulas) fo))
+    (nodesFrom (rowOf na (c .atoms)) false (tokens (drop at l)))
+    → QueryStored l at c na fo (withFormula c n) (restBack (partSize * c .formulas) fo ys)
+query-stored-back {c = c} {fo = fo} {n = n} {ys = ys} room long e =
+    let i = partSize * c .formulas in
+    let k : i ≤ length fo = omega arith in
+    record {
+      count = n;
+      counted = refl;
+      before-kept = take-put i (length fo - i) fo ys k;
+      nodes-are = rw (rest-back i fo ys k, ← rest-lent i fo) e;
+    }
 
 -- The loop of `store_nodes`
 
@@ -137,15 +168,15 @@ module _ {at : List ℕ → ℕ} {all : NodeTable} {l : List ℕ} {i : ℕ} {b :
   storing-close e = record { all-are = h .all-are ∙ rw (found-tokens f e) }
 
   module _ {a e : ℕ} (q : r ≡ Word a e) where
-    pub storing-full : formulaSize ≤ n → nodeTable n t ≡ all
+    pub storing-full : partSize ≤ n → nodeTable n t ≡ all
     unfolding nodesFrom withNodes
-    storing-full k = sym (h .all-are ∙ rw (found-tokens f q, le-ltb n formulaSize k))
+    storing-full k = sym (h .all-are ∙ rw (found-tokens f q, le-ltb n partSize k))
 
-    pub storing-word : {x : ℕ} → n < formulaSize → x ≡ pick b (nodeOf (slice a e l)) (at (slice a e l))
+    pub storing-word : {x : ℕ} → n < partSize → x ≡ pick b (nodeOf (slice a e l)) (at (slice a e l))
         → Storing at all l e false (n + 1) (set t n x)
     unfolding nodesFrom withNodes
     storing-word k g =
-        record { all-are = h .all-are ∙ rw (found-tokens f q, lt-ltb n formulaSize k, ← g) }
+        record { all-are = h .all-are ∙ rw (found-tokens f q, lt-ltb n partSize k, ← g) }
 
 -- the row of a name fits a byte
 pub row-few : (t : List ℕ) (n : ℕ) (w : List ℕ) {r : ℕ} → r ≡ rowOf t n w → r ≤ n

@@ -1,50 +1,34 @@
 -- Storing a form of a line leaves tables that hold what was read with that line: a law for each kind of line.
 -- Assumes nothing.
-use mathlib.Core.Path.{_≡_, refl, ap, subst}
+use mathlib.Core.Path.{_≡_, subst}
 use mathlib.Core.List.{List, [], _∷_}
 use mathlib.Core.Option.{Option}
-use Prim.Native.Nat.{ℕ, zero, suc, _+_, _*_, _≤_, _<_}
+use Prim.Native.Nat.{ℕ, _*_, _≤_, _<_}
 use native.Mathlib.Omega.{arith}
-use lib.Dec.{leb}
 use lib.ListN.{length, drop}
 use lib.Seq.{slice}
-use borrow.Author.Tests.{le-leb}
-use Rattle.words.specs.Choice.{pick}
+use Rattle.logic.specs.Nodes.{nodes}
 use Rattle.program.specs.declared.case.Case.{Case}
-use Rattle.program.specs.Case.{clauseSize, constraintSize}
+use Rattle.program.specs.Case.{clauseSize, constraintSize, formulaSize, partSize}
 use Rattle.text.specs.Tokens.{tokens}
 use Rattle.table.proofs.Kept.{kept-refl, sets-kept}
-use Rattle.formulas.specs.Sentence.{Sentence}
 use Rattle.formulas.specs.Parsing.{sizeOf}
 use Rattle.formulas.proofs.Sizes.{first-formula-size}
 use Rattle.grammar.specs.declared.line.Form.{Form}
 use Rattle.grammar.specs.declared.line.Form.the-variants.{Skipped, NoForm, Clause, Never, Seen, Query}
 use Rattle.grammar.specs.Line.{Line, Literal}
 use Rattle.grammar.specs.Parsing.{FormIs, bodyIn}
-use Rattle.names.specs.Names.{atomOf}
 use Rattle.names.specs.Row.{rowOf}
 use Rattle.store.specs.declared.masks.Masks.{Masks}
 use Rattle.store.specs.Lent.{lent}
-use Rattle.store.specs.Saying.{saidBy}
+use Rattle.store.specs.Saying.{encodedBy, saidBy}
 use Rattle.store.specs.Held.{Long}
 use Rattle.store.specs.Masks.{masksBy}
-use Rattle.store.specs.Nodes.{NodeTable}
 use Rattle.store.specs.Stored.{ClauseStored, ConstraintStored, ObservedStored, QueryStored, Storable, StoredAs}
 use Rattle.store.proofs.Encoded.{encoded-length}
 use Rattle.store.proofs.Lent.{lent-same, kept-refl-all}
-use Rattle.store.proofs.NodeLaws.{nodes-kept}
+use Rattle.store.proofs.NodeLaws.{formula-put}
 use Rattle.store.proofs.Held.{clause-held, constraint-held, observed-held, query-held}
-
-size-positive : (f : Sentence) → 1 ≤ sizeOf f
-unfolding sizeOf
-size-positive (Sentence.name w) = omega arith
-size-positive (Sentence.negation f) = omega arith
-size-positive (Sentence.joined k f g) = omega arith
-
--- the record of a case without query has no node
-no-query : (n : ℕ) → pick (leb 1 n) 1 0 + 1 ≤ 1 → n ≡ 0
-no-query zero h = refl
-no-query (suc n) h = absurd (omega (arith, rw (le-leb 1 (suc n) (omega arith)) at h))
 
 -- the masks m are those of the literals at place at of the line l, by the first n names in the table na
 abbrev MasksOf : List ℕ → ℕ → List ℕ → ℕ → Masks → Type 0
@@ -54,7 +38,7 @@ module _ {l : List ℕ} {x : Form} {c : Case} {y : Line} (s : Storable l x c y) 
   form-told : {z : Form} → x ≡ z → FormIs l z y
   form-told e = subst (λ q. FormIs l q y) e (s .form-is)
 
-  -- what the arms of a clause and of a constraint take
+  -- what the arms of a clause, a constraint and a query take
 
   module _ {k a e at : ℕ} (q : x ≡ Clause k a e at) where
     pub clause-kind : k ≤ 2
@@ -74,6 +58,11 @@ module _ {l : List ℕ} {x : Form} {c : Case} {y : Line} (s : Storable l x c y) 
   pub never-room : {at : ℕ} → x ≡ Never at → c .constraints < 32
   never-room q =
       let room = rw (form-told q .line-is) at (s .room .constraints-fit) in
+      omega arith
+
+  pub query-room : {at d : ℕ} → x ≡ Query at d → c .formulas < 16
+  query-room q =
+      let room = rw (form-told q .line-is) at (s .room .queries-fit) in
       omega arith
 
   module _ {cl co fo na : List ℕ} where
@@ -139,15 +128,15 @@ module _ {l : List ℕ} {x : Form} {c : Case} {y : Line} (s : Storable l x c y) 
       query-stored q d =
           let f = form-told q in
           let b = first-formula-size l at (f .sentence) _ (f .items-are) in
-          let none = no-query (c .nodes) (rw (f .line-is) at (s .room .query-fits)) in
-          let some = size-positive (f .sentence) in
+          let small : sizeOf (f .sentence) ≤ partSize = omega (arith, s .short) in
+          let room = query-room q in
+          let p = formula-put (f .items-are) small room (long .formula-long) d in
+          let n = encoded-length (rowOf na (c .atoms)) (f .sentence) in
           record {
             kept =
                 lent-same (kept-refl _ cl) (kept-refl _ co)
-                (rw (ap (λ (k : NodeTable). k .table) (d .nodes-are)) (nodes-kept _ (c .nodes) fo)) (kept-refl _ na);
+                (rw (p .table-is) (sets-kept formulaSize (nodes (encodedBy _ (f .sentence))) fo _ (omega arith)))
+                (kept-refl _ na);
             held = λ st h known.
-                let e = encoded-length (atomOf (st .names)) (f .sentence) in
-                rw (f .line-is)
-                (query-held st c _ h long (f .items-are) (rw (f .line-is) at known) none (omega (arith, s .short)) d
-                (omega arith));
+                rw (f .line-is) (query-held st c _ h long (f .sentence) (rw (f .line-is) at known) room small p);
           }

@@ -6,14 +6,14 @@
 --   Held st c t      the record c and the tables t hold st
 --   Kept t u         the tables u are t but for the entries within their sizes
 use mathlib.Core.Path.{_≡_}
-use Prim.Native.Nat.{_≤_}
-use lib.ListN.{length}
+use Prim.Native.Nat.{ℕ, _≤_}
+use lib.ListN.{length, getD}
 use Rattle.program.specs.declared.case.Case.{Case}
-use Rattle.program.specs.Case.{clauseSize, constraintSize, formulaSize, nameSize}
+use Rattle.program.specs.Case.{clauseSize, constraintSize, formulaSize, partSize, nameSize}
 use Rattle.names.specs.Held.{AllNamed}
 use Rattle.store.specs.Lent.{Lent, filledWith}
 use Rattle.store.specs.Saying.{Said}
-use Rattle.store.specs.Tables.{formulaNodes, wordsOf, caseSaid}
+use Rattle.store.specs.Tables.{nodeCounts, wordsOf, caseSaid}
 
 -- the tables have their full sizes
 pub record Long (t : Lent) : Type 0 where
@@ -22,20 +22,19 @@ pub record Long (t : Lent) : Type 0 where
   pub formula-long : formulaSize ≤ length (t .formula)
   pub names-long : nameSize ≤ length (t .names)
 
--- what was read is within the limits; a query has nodes and names an atom
+-- what was read is within the limits; a query names an atom
 pub record Limits (st : Said) : Type 0 where
   pub clauses-few : length (st .clauses) ≤ 256
   pub constraints-few : length (st .constraints) ≤ 32
-  pub queries-few : length (st .queries) ≤ 1
-  pub nodes-few : length (formulaNodes (st .queries)) ≤ 128
-  pub query-nodes : length (st .queries) ≤ length (formulaNodes (st .queries))
-  pub query-atoms : length (st .queries) ≤ length (st .names)
+  pub queries-few : length (st .queries) ≤ 16
+  pub nodes-few : (q : ℕ) → getD (nodeCounts (st .queries)) q 0 ≤ partSize
+  pub query-atoms : 1 ≤ length (st .queries) → 1 ≤ length (st .names)
 
 pub record InLimits (c : Case) : Type 0 where
   pub atoms-few : c .atoms ≤ 64
   pub clauses-few : c .clauses ≤ 256
   pub constraints-few : c .constraints ≤ 32
-  pub nodes-few : c .nodes ≤ 128
+  pub formulas-few : c .formulas ≤ 16
 
 -- the tables have the words of st and zeros in their sizes, whatever is behind them
 pub record Held (st : Said) (c : Case) (t : Lent) : Type 0 where

@@ -10,7 +10,7 @@ use Prim.Native.Nat.{ℕ, _+_}
 use lib.Dec.{ltb}
 use lib.ListN.{set}
 use Rattle.words.specs.Choice.{pick}
-use Rattle.program.specs.Case.{formulaSize}
+use Rattle.program.specs.Case.{partSize}
 use Rattle.text.specs.Tokens.{Token}
 use Rattle.formulas.specs.Keyword.{nodeOf}
 
@@ -31,4 +31,4 @@ unfoldable pub withNodes : NodeTable → List ℕ → NodeTable
 withNodes s [] = s
 withNodes s (x ∷ xs) =
     let more = withNodes (nodeTable (s .count + 1) (set (s .table) (s .count) x)) xs in
-    pick (ltb (s .count) formulaSize) more s
+    pick (ltb (s .count) partSize) more s

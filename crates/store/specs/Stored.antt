@@ -1,8 +1,7 @@
 -- What storing a form of a line leaves.
 --
---   withRows c n m      the record c with n clauses and m constraints; withNodeCount, withObservedAtoms are alike
+--   withRows c n m      the record c with n clauses and m constraints; withFormula, withObservedAtoms are alike
 --   ClauseStored ..     one clause more; ConstraintStored, ObservedStored, QueryStored are alike
---   queriesIn c         how many queries the record c has, which counts nodes: none or one
 --   Room c b            behind c there is room for what a line brings
 --   Storable l x c y    x is the form of the line l, which says y, and behind c there is room for it
 --   StoredAs y c t r u  the record r and the tables u are c and t with what the line y says
@@ -10,11 +9,10 @@ use mathlib.Core.Path.{_≡_}
 use mathlib.Core.Bool.{false}
 use mathlib.Core.List.{List, [], _∷_}
 use Prim.Native.Nat.{ℕ, _+_, _*_, _≤_}
-use lib.Dec.{leb}
-use lib.ListN.{length, drop}
+use lib.ListN.{length, set, take, drop}
 use lib.Seq.{sets}
-use Rattle.words.specs.Choice.{pick}
 use Rattle.program.specs.declared.case.Case.{Case}
+use Rattle.program.specs.Case.{partSize}
 use Rattle.text.specs.Tokens.{tokens}
 use Rattle.grammar.specs.declared.brings.Brings.{Brings}
 use Rattle.grammar.specs.declared.line.Form.{Form}
@@ -30,13 +28,16 @@ use Rattle.store.specs.Nodes.{nodesFrom, nodeTable, withNodes}
 use Rattle.store.specs.Held.{Held, Kept}
 
 abbrev pub withRows : Case → ℕ → ℕ → Case
-withRows c n m = caseWith (c .atoms) n m (c .nodes) (c .plain) (c .negated)
+withRows c n m = caseWith (c .atoms) n m (c .formulas) (c .plain) (c .negated) (c .nodes)
 
-abbrev pub withNodeCount : Case → ℕ → Case
-withNodeCount c n = caseWith (c .atoms) (c .clauses) (c .constraints) n (c .plain) (c .negated)
+-- one formula more, with n nodes
+abbrev pub withFormula : Case → ℕ → Case
+withFormula c n =
+    caseWith (c .atoms) (c .clauses) (c .constraints) (c .formulas + 1) (c .plain) (c .negated)
+    (set (c .nodes) (c .formulas) n)
 
 abbrev pub withObservedAtoms : Case → ℕ → ℕ → Case
-withObservedAtoms c p q = caseWith (c .atoms) (c .clauses) (c .constraints) (c .nodes) p q
+withObservedAtoms c p q = caseWith (c .atoms) (c .clauses) (c .constraints) (c .formulas) p q (c .nodes)
 
 -- one clause more, with the head w, by the names in the table na
 pub record ClauseStored (w : List ℕ) (kind : ℕ) (m : Masks) (c : Case) (na cl : List ℕ) (r : Case) (u : List ℕ)
@@ -51,19 +52,19 @@ pub record ConstraintStored (m : Masks) (c : Case) (co : List ℕ) (r : Case) (u
 abbrev pub ObservedStored : Masks → Case → Case → Type 0
 ObservedStored m c r = r ≡ withObservedAtoms c (orAtoms (c .plain) (m .plain)) (orAtoms (c .negated) (m .negated))
 
--- the nodes of the query at place at of the line l more
+-- the nodes of the query at place at of the line l more, in the part behind those in use; what stands before is kept
 pub record QueryStored (l : List ℕ) (at : ℕ) (c : Case) (na fo : List ℕ) (r : Case) (u : List ℕ) : Type 0 where
-  pub counted : r ≡ withNodeCount c (r .nodes)
-  pub nodes-are : nodeTable (r .nodes) u
-      ≡ withNodes (nodeTable (c .nodes) fo) (nodesFrom (rowOf na (c .atoms)) false (tokens (drop at l)))
-
-abbrev pub queriesIn : Case → ℕ
-queriesIn c = pick (leb 1 (c .nodes)) 1 0
+  pub count : ℕ
+  pub counted : r ≡ withFormula c count
+  pub before-kept : take (partSize * c .formulas) u ≡ take (partSize * c .formulas) fo
+  pub nodes-are : nodeTable count (drop (partSize * c .formulas) u)
+      ≡ withNodes (nodeTable 0 (drop (partSize * c .formulas) fo))
+      (nodesFrom (rowOf na (c .atoms)) false (tokens (drop at l)))
 
 pub record Room (c : Case) (b : Brings) : Type 0 where
   pub clauses-fit : c .clauses + b .clauses ≤ 256
   pub constraints-fit : c .constraints + b .constraints ≤ 32
-  pub query-fits : queriesIn c + b .queries ≤ 1
+  pub queries-fit : c .formulas + b .queries ≤ 16
 
 pub record Storable (l : List ℕ) (x : Form) (c : Case) (y : Line) : Type 0 where
   pub short : length l ≤ 200

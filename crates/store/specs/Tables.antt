@@ -3,15 +3,18 @@
 --
 --   clauseWords cs       the words of clauses: three each
 --   constraintWords cs   the words of constraints: two each
---   formulaNodes fs      the nodes of formulas
+--   formulaParts fs      the parts of formulas: 128 bytes each, its nodes and zeros behind them
+--   nodeCounts fs        how many nodes each formula has
 --   wordsOf st           the four tables' words for what was read
 --   caseWith ..          a record by its parts; caseSaid st the record of what was read, noCase that of zeros
-use mathlib.Core.List.{List, [], _∷_, _++_}
+use mathlib.Core.List.{List, [], _∷_, _++_, map}
 use Prim.Native.Nat.{ℕ, _+_, _*_}
-use lib.ListN.{length}
+use lib.ListN.{length, replicate}
 use Rattle.logic.specs.Formula.{Formula}
 use Rattle.logic.specs.Nodes.{nodes}
 use Rattle.program.specs.declared.case.Case.{Case}
+use Rattle.program.specs.Case.{partSize}
+use Rattle.table.specs.Filled.{padded}
 use Rattle.names.specs.Names.{rowsOf}
 use Rattle.store.specs.Lent.{Lent, lent}
 use Rattle.store.specs.Saying.{Said, ClauseRow, ConstraintRow}
@@ -26,24 +29,35 @@ unfoldable pub constraintWords : List ConstraintRow → List ℕ
 constraintWords [] = []
 constraintWords (c ∷ cs) = c .plain ∷ (c .negated ∷ constraintWords cs)
 
--- the nodes of formulas, one after the other
-unfoldable pub formulaNodes : List Formula → List ℕ
-formulaNodes [] = []
-formulaNodes (f ∷ fs) = nodes f ++ formulaNodes fs
+-- a part a formula
+unfoldable pub formulaParts : List Formula → List ℕ
+formulaParts [] = []
+formulaParts (f ∷ fs) = padded partSize (nodes f) ++ formulaParts fs
+
+abbrev pub nodeCounts : List Formula → List ℕ
+nodeCounts fs = map (λ f. length (nodes f)) fs
 
 abbrev pub wordsOf : Said → Lent
 wordsOf st =
-    lent (clauseWords (st .clauses)) (constraintWords (st .constraints)) (formulaNodes (st .queries))
+    lent (clauseWords (st .clauses)) (constraintWords (st .constraints)) (formulaParts (st .queries))
     (rowsOf (st .names))
 
 -- a record by its parts
-abbrev pub caseWith : ℕ → ℕ → ℕ → ℕ → ℕ → ℕ → Case
-caseWith a c d n p q = record { atoms = a; clauses = c; constraints = d; nodes = n; plain = p; negated = q }
+abbrev pub caseWith : ℕ → ℕ → ℕ → ℕ → ℕ → ℕ → List ℕ → Case
+caseWith a c d m p q ns = record {
+  atoms = a;
+  clauses = c;
+  constraints = d;
+  formulas = m;
+  plain = p;
+  negated = q;
+  nodes = ns;
+}
 
 abbrev pub caseSaid : Said → Case
 caseSaid st =
-    caseWith (length (st .names)) (length (st .clauses)) (length (st .constraints))
-    (length (formulaNodes (st .queries))) (st .plain) (st .negated)
+    caseWith (length (st .names)) (length (st .clauses)) (length (st .constraints)) (length (st .queries)) (st .plain)
+    (st .negated) (padded 16 (nodeCounts (st .queries)))
 
 abbrev pub noCase : Case
-noCase = caseWith 0 0 0 0 0 0
+noCase = caseWith 0 0 0 0 0 0 (replicate 16 0)

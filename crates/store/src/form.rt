@@ -67,14 +67,19 @@ fn store_observed(m: Masks, c: Case) -> Case
     next
 }
 
-// Stores the nodes of the query at or behind a place of a line.
+// Stores the nodes of the query at or behind a place of a line, in the part behind those in use.
 fn store_query(l: &[u8], at: usize, c: Case, names: &[u8], formula: &mut [u8]) -> Case
-    requires { ⌜ (c .atoms ≤ 64) × (nameSize ≤ length (now names)) × (formulaSize ≤ length (now formula)) ⌝ }
+    requires { ⌜ (c .atoms ≤ 64) × (c .formulas < 16) × (nameSize ≤ length (now names))
+        × (formulaSize ≤ length (now formula)) ⌝ }
     ensures { λ r. ⌜ QueryStored (now (l .entry)) at c (now (names .entry)) (now (formula .entry)) r
         (now (formula .exit)) ⌝ }
 {
+    let k = c.formulas;
+    let part = Case::NODES * k;
+    let n = store_nodes(l, at, names, c.atoms, &mut formula[part..]);
     let mut next = c;
-    next.nodes = store_nodes(l, at, names, c.atoms, formula, c.nodes);
+    next.formulas = k + 1;
+    next.nodes[k] = n;
     next
 }
 

@@ -5,7 +5,7 @@ ghost use Prim.Native.Nat.{_≤_};
 ghost use lib.ListN.{length, drop};
 ghost use lib.Seq.{slice};
 ghost use Rattle.words.specs.Choice.{pick};
-ghost use Rattle.program.specs.Case.{formulaSize, nameSize};
+ghost use Rattle.program.specs.Case.{partSize, nameSize};
 ghost use Rattle.text.specs.Tokens.{tokens};
 ghost use Rattle.formulas.specs.Keyword.{nodeOf};
 ghost use Rattle.names.specs.Row.{rowOf};
@@ -27,22 +27,15 @@ fn node_at(l: &[u8], a: usize, e: usize, form: bool, names: &[u8], count: usize)
     names::find(names, count, l, a, e) as u8
 }
 
-// Stores the nodes of the words from a place of a line on, by a table of count names, behind len nodes, while there is
-// room; answers how many there are.
-pub fn store_nodes(
-    l: &[u8],
-    at: usize,
-    names: &[u8],
-    count: usize,
-    nodes: &mut [u8],
-    len: usize,
-) -> usize
-    requires { ⌜ (count ≤ 64) × (nameSize ≤ length (now names)) × (formulaSize ≤ length (now nodes)) ⌝ }
-    ensures { λ r. ⌜ nodeTable r (now (nodes .exit)) ≡ withNodes (nodeTable len (now (nodes .entry)))
+// Stores the nodes of the words from a place of a line on, by a table of count names, while there is room in a
+// formula's part; answers how many there are.
+pub fn store_nodes(l: &[u8], at: usize, names: &[u8], count: usize, nodes: &mut [u8]) -> usize
+    requires { ⌜ (count ≤ 64) × (nameSize ≤ length (now names)) × (partSize ≤ length (now nodes)) ⌝ }
+    ensures { λ r. ⌜ nodeTable r (now (nodes .exit)) ≡ withNodes (nodeTable 0 (now (nodes .entry)))
         (nodesFrom (rowOf (now (names .entry)) count) false (tokens (drop at (now (l .entry))))) ⌝ }
 {
     let mut i = at;
-    let mut n = len;
+    let mut n = 0;
     let mut opened = false;
     loop {
         match token(l, i) {
@@ -58,7 +51,7 @@ pub fn store_nodes(
                 i = next;
             }
             Next::Word(a, e) => {
-                if Case::FORMULA_BYTES <= n {
+                if Case::NODES <= n {
                     return n;
                 }
                 nodes[n] = node_at(l, a, e, opened, names, count);

@@ -5,7 +5,7 @@ use Prim.Native.Nat.{ℕ, zero, suc, _+_, _-_, _≤_, _<_}
 use native.Mathlib.Nat.{not-suc-le-zero, le-of-suc-le-suc, suc-add, zero-add}
 use native.Mathlib.Numerals.{add-one}
 use native.Mathlib.Omega.{arith}
-use lib.ListN.{length, take, drop, getD, set, length-append}
+use lib.ListN.{length, take, drop, getD, set, replicate, length-append}
 use lib.Seq.{sets, take-all, take-at}
 use Rattle.table.specs.Filled.{filled, padded}
 
@@ -87,11 +87,23 @@ padded-at (suc n) [] (suc i) h = padded-at n [] i (le-of-suc-le-suc h)
 padded-at (suc n) (x ∷ l) zero h = refl
 padded-at (suc n) (x ∷ l) (suc i) h = padded-at n l i (le-of-suc-le-suc h)
 
+-- an entry is stored behind l
+pub padded-push : (n : ℕ) (l : List ℕ) (x : ℕ) → length l < n → set (padded n l) (length l) x ≡ padded n (l ++ (x ∷ []))
+unfolding padded
+padded-push zero l x h = absurd (not-suc-le-zero h)
+padded-push (suc n) [] x h = refl
+padded-push (suc n) (y ∷ l) x h = rw (padded-push n l x (le-of-suc-le-suc h))
+
 -- only zeros
 pub padded-none : (k n : ℕ) → padded (k + n) [] ≡ padded k [] ++ padded n []
 unfolding padded
 padded-none zero n = rw (zero-add n)
 padded-none (suc k) n = rw (suc-add, padded-none k n)
+
+pub padded-zeros : (n : ℕ) → replicate n 0 ≡ padded n []
+unfolding padded
+padded-zeros zero = refl
+padded-zeros (suc n) = rw (padded-zeros n)
 
 pub padded-first : (n : ℕ) → getD (padded n []) 0 0 ≡ 0
 unfolding padded
@@ -111,3 +123,16 @@ pub padded-split : (n : ℕ) (l : List ℕ) → length l ≤ n → padded n l �
 padded-split n l h =
     let e : length l + (n - length l) ≡ n = omega arith in
     rw (e, append-nil) at (padded-behind (n - length l) l [])
+
+-- filling has zeros behind the list by itself
+filled-zeros : (n k : ℕ) (l old : List ℕ) → filled n (l ++ padded k []) old ≡ filled n l old
+unfolding filled padded
+filled-zeros zero k l old = refl
+filled-zeros (suc n) k l [] = refl
+filled-zeros (suc n) zero [] (o ∷ old) = refl
+filled-zeros (suc n) (suc k) [] (o ∷ old) = rw (filled-zeros n k [] old)
+filled-zeros (suc n) k (x ∷ l) (o ∷ old) = rw (filled-zeros n k l old)
+
+pub filled-padded : (n k : ℕ) (l m old : List ℕ) → length m ≤ k
+    → filled n (l ++ padded k m) old ≡ filled n (l ++ m) old
+filled-padded n k l m old h = rw (padded-split k m h, ← append-assoc) (filled-zeros n (k - length m) (l ++ m) old)

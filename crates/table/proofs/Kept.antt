@@ -57,8 +57,3 @@ pub sets-filled : (n : ℕ) (l vs t : List ℕ) → length l + length vs ≤ n �
     → sets t (length l) vs ≡ filled n (l ++ vs) (sets t (length l) vs)
 sets-filled n l vs t h k e =
     filled-has n (l ++ vs) t (ap (λ m. sets m (length l) vs) e ∙ filled-pushes n l vs t h k)
-
--- the same at place i, for a list m of l and vs
-pub sets-behind : (n i : ℕ) (l vs m t : List ℕ) → m ≡ l ++ vs → i ≡ length l → i + length vs ≤ n → n ≤ length t
-    → t ≡ filled n l t → sets t i vs ≡ filled n m (sets t i vs)
-sets-behind n i l vs m t p q h k e = rw (p, q) (sets-filled n l vs t (omega arith) k e)

@@ -1,13 +1,14 @@
 -- Laws of the list that stores one behind the other leave, for straight stores and for loops that store a list or a
 -- row. Assumes nothing.
 use mathlib.Core.Path.{_≡_, refl, sym, _∙_}
-use mathlib.Core.List.{List, [], _∷_, _++_}
-use Prim.Native.Nat.{ℕ, suc, _+_, _≤_, _<_}
-use native.Mathlib.Nat.{add-suc, suc-add, add-zero}
+use mathlib.Core.List.{List, [], _∷_, _++_, append-assoc, append-nil}
+use Prim.Native.Nat.{ℕ, suc, _+_, _-_, _≤_, _<_}
+use native.Mathlib.Nat.{add-suc, suc-add, add-zero, zero-add}
 use native.Mathlib.Numerals.{add-one}
 use native.Mathlib.Omega.{arith}
-use lib.ListN.{length, take, getD, set, length-set}
-use lib.Seq.{sets, take-all, take-suc, length-take-le}
+use lib.ListN.{length, take, drop, getD, set, length-set, length-drop, take-append-drop}
+use lib.Seq.{sets, sets-eq, take-all, take-suc, length-take-le, drop-drop, drop-at, drop-length}
+use borrow.Rule.Slice.PartMut.{midOf, putMid, post-is}
 use Rattle.table.specs.Filled.{padded}
 use Rattle.table.proofs.Filled.{padded-length, padded-at}
 
@@ -15,6 +16,29 @@ use Rattle.table.proofs.Filled.{padded-length, padded-at}
 pub sets-push : (vs t : List ℕ) (i x : ℕ) → set (sets t i vs) (i + length vs) x ≡ sets t i (vs ++ (x ∷ []))
 sets-push [] t i x = rw (add-zero i)
 sets-push (v ∷ vs) t i x = rw (add-suc, ← suc-add) (sets-push vs (set t i v) (suc i) x)
+
+-- the part from place i on: lent, and back as ys
+abbrev pub restFrom : ℕ → List ℕ → List ℕ
+restFrom i t = midOf i (length t - i) t
+
+abbrev pub restBack : ℕ → List ℕ → List ℕ → List ℕ
+restBack i t ys = putMid i (length t - i) t ys
+
+pub rest-lent : (i : ℕ) (t : List ℕ) → restFrom i t ≡ drop i t
+rest-lent i t = take-all (length t - i) (drop i t) (rw length-drop (omega arith))
+
+pub rest-put : (i : ℕ) (t ys : List ℕ) → i ≤ length t → restBack i t ys ≡ take i t ++ ys
+rest-put i t ys h = rw (post-is i (length t) t h, drop-length, append-nil)
+
+pub rest-back : (i : ℕ) (t ys : List ℕ) → i ≤ length t → drop i (restBack i t ys) ≡ ys
+rest-back i t ys h = rw (rest-put i t ys h) (drop-at (take i t) ys i (length-take-le i t h))
+
+-- stores in it
+pub sets-part : (i : ℕ) (vs t u : List ℕ) → i + length vs ≤ length t → take i u ≡ take i t
+    → drop i u ≡ sets (drop i t) 0 vs → u ≡ sets t i vs
+sets-part i vs t u h p q =
+    let rest = sets-eq vs (drop i t) 0 (rw length-drop (omega arith)) in
+    sym (take-append-drop i u) ∙ rw (p, q, rest, zero-add, drop-drop, sets-eq vs t i h, append-assoc)
 
 -- the table t when a loop has stored the first j entries of vs in t₀ from place i on: after a turn, and at the end
 module _ (vs t t₀ : List ℕ) (i j : ℕ) (e : t ≡ sets t₀ i (take j vs)) where

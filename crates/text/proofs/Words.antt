@@ -1,12 +1,12 @@
--- What the words of a line are made of: at least one byte, and bytes that stand in words only; and what a name begins
--- with. Assumes nothing.
+-- What the words of a line are made of: at least one byte, and bytes that stand in words only; that none is longer than
+-- the line; and what a name begins with. Assumes nothing.
 use mathlib.Core.Path.{_≡_, refl}
 use mathlib.Core.Bool.{Bool, true, false}
 use mathlib.Core.List.{List, [], _∷_, _++_}
-use Prim.Native.Nat.{ℕ, _≤_, _<_}
+use Prim.Native.Nat.{ℕ, _+_, _≤_, _<_}
 use native.Mathlib.Omega.{arith}
 use lib.Dec.{eqb}
-use lib.ListN.{length, getD}
+use lib.ListN.{length, getD, length-append}
 use lib.Seq.{slice, slice-cons}
 use Rattle.words.specs.Choice.{pick}
 use Rattle.text.specs.Bytes.{isLetter, isWordByte, allOf}
@@ -19,49 +19,68 @@ use Rattle.text.proofs.ByteLaws.{all-push}
 abbrev pub IsWord : List ℕ → Type 0
 IsWord w = (0 < length w) × (allOf isWordByte w ≡ true)
 
--- every word of a list of tokens is so
-abbrev pub WordBytes : List Token → Type 0
-WordBytes [] = Unit {0}
-WordBytes (Token.opening ∷ ts) = WordBytes ts
-WordBytes (Token.closing ∷ ts) = WordBytes ts
-WordBytes (Token.word w ∷ ts) = IsWord w × WordBytes ts
+-- ---- what holds of each word of a list of tokens
+module _ (P : List ℕ → Type 0) where
+  abbrev EachWord : List Token → Type 0
+  EachWord [] = Unit {0}
+  EachWord (Token.opening ∷ ts) = EachWord ts
+  EachWord (Token.closing ∷ ts) = EachWord ts
+  EachWord (Token.word w ∷ ts) = P w × EachWord ts
 
-ended-bytes : (w : List ℕ) (ts : List Token) → allOf isWordByte w ≡ true → WordBytes ts → WordBytes (ended w ts)
+  picked-each : (t : Bool) (x y : List Token) → (t ≡ true → EachWord x) → (t ≡ false → EachWord y)
+      → EachWord (pick t x y)
+  picked-each true x y f g = f refl
+  picked-each false x y f g = g refl
+
+  bracket-each : (b : ℕ) (ts : List Token) → EachWord ts → EachWord (bracket b ts)
+  bracket-each b ts h = picked-each (eqb b 40) _ _ (λ _. h) (λ _. picked-each (eqb b 41) _ _ (λ _. h) (λ _. h))
+
+  names-each : (b : Bool) (ts : List Token) → EachWord ts → Each P (namesFrom b ts)
+  unfolding namesFrom
+  names-each b [] h = tt
+  names-each b (Token.opening ∷ ts) h = names-each true ts h
+  names-each b (Token.closing ∷ ts) h = names-each false ts h
+  names-each true (Token.word w ∷ ts) h = names-each false ts (h .1)
+  names-each false (Token.word w ∷ ts) h = (h .0, names-each false ts (h .1))
+
+-- ---- the bytes of words
+ended-bytes : (w : List ℕ) (ts : List Token) → allOf isWordByte w ≡ true → EachWord IsWord ts
+    → EachWord IsWord (ended w ts)
 ended-bytes [] ts h k = k
 ended-bytes (b ∷ w) ts h k = ((omega arith, h), k)
 
-picked-bytes : (t : Bool) (x y : List Token) → (t ≡ true → WordBytes x) → (t ≡ false → WordBytes y)
-    → WordBytes (pick t x y)
-picked-bytes true x y f g = f refl
-picked-bytes false x y f g = g refl
-
-bracket-bytes : (b : ℕ) (ts : List Token) → WordBytes ts → WordBytes (bracket b ts)
-bracket-bytes b ts h =
-    picked-bytes (eqb b 40) _ _ (λ _. h) (λ _. picked-bytes (eqb b 41) _ _ (λ _. h) (λ _. h))
-
-tokens-from-bytes : (w l : List ℕ) → allOf isWordByte w ≡ true → WordBytes (tokensFrom w l)
+tokens-from-bytes : (w l : List ℕ) → allOf isWordByte w ≡ true → EachWord IsWord (tokensFrom w l)
 unfolding tokensFrom allOf
 tokens-from-bytes w [] h = ended-bytes w [] h tt
 tokens-from-bytes w (b ∷ l) h =
-    picked-bytes (isWordByte b) _ _
+    picked-each IsWord (isWordByte b) _ _
     (λ t. tokens-from-bytes (w ++ (b ∷ [])) l (all-push isWordByte w b h t))
-    (λ _. ended-bytes w _ h (bracket-bytes b _ (tokens-from-bytes [] l refl)))
-
-tokens-word-bytes : (l : List ℕ) → WordBytes (tokens l)
-unfolding allOf
-tokens-word-bytes l = tokens-from-bytes [] l refl
-
--- each name of a line is so
-names-are-words : (b : Bool) (ts : List Token) → WordBytes ts → Each IsWord (namesFrom b ts)
-unfolding namesFrom
-names-are-words b [] h = tt
-names-are-words b (Token.opening ∷ ts) h = names-are-words true ts h
-names-are-words b (Token.closing ∷ ts) h = names-are-words false ts h
-names-are-words true (Token.word w ∷ ts) h = names-are-words false ts (h .1)
-names-are-words false (Token.word w ∷ ts) h = (h .0, names-are-words false ts (h .1))
+    (λ _. ended-bytes w _ h (bracket-each IsWord b _ (tokens-from-bytes [] l refl)))
 
 pub line-names-are-words : (l : List ℕ) → Each IsWord (namesIn (tokens l))
-line-names-are-words l = names-are-words false (tokens l) (tokens-word-bytes l)
+unfolding allOf
+line-names-are-words l = names-each IsWord false (tokens l) (tokens-from-bytes [] l refl)
+
+-- ---- no word is longer than its line
+abbrev AtMost : ℕ → List ℕ → Type 0
+AtMost n w = length w ≤ n
+
+ended-short : (n : ℕ) (w : List ℕ) (ts : List Token) → length w ≤ n → EachWord (AtMost n) ts
+    → EachWord (AtMost n) (ended w ts)
+ended-short n [] ts h k = k
+ended-short n (b ∷ w) ts h k = (h, k)
+
+tokens-from-short : (n : ℕ) (w l : List ℕ) → length w + length l ≤ n → EachWord (AtMost n) (tokensFrom w l)
+unfolding tokensFrom
+tokens-from-short n w [] h = ended-short n w [] (omega arith) tt
+tokens-from-short n w (b ∷ l) h =
+    picked-each (AtMost n) (isWordByte b) _ _
+    (λ t. tokens-from-short n (w ++ (b ∷ [])) l (omega (arith, length-append w (b ∷ []))))
+    (λ _. ended-short n w _ (omega arith)
+    (bracket-each (AtMost n) b _ (tokens-from-short n [] l (omega arith))))
+
+pub line-names-are-short : (n : ℕ) (l : List ℕ) → length l ≤ n → Each (AtMost n) (namesIn (tokens l))
+line-names-are-short n l h = names-each (AtMost n) false (tokens l) (tokens-from-short n [] l (omega arith))
 
 -- a word is a name by its first byte
 pub name-first : (l : List ℕ) (a e : ℕ) → a < e → e ≤ length l → beginsWithLetter (slice a e l) ≡ isLetter (getD l a 0)

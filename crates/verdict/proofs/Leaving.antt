@@ -6,13 +6,14 @@ use mathlib.Core.List.{List, _++_}
 use Prim.Native.Nat.{ℕ, _+_, _-_, _≤_, _<_, min}
 use native.Mathlib.Omega.{arith}
 use lib.ListN.{length, take, drop, set, length-append, length-take, length-drop}
+use Rattle.table.proofs.Stores.{restFrom, restBack}
 use Rattle.explanation.specs.Judge.{Judge}
 use Rattle.explanation.specs.Subset.{minimal}
 use Rattle.verdict.specs.Walk.{byteOf, bytesBelow, minimalsBelow}
 use Rattle.verdict.specs.Visited.{Left}
 use Rattle.verdict.proofs.Bytes.{bytes-length, bytes-more}
 use Rattle.verdict.proofs.Counting.{minimals-more, minimals-same}
-use Rattle.verdict.proofs.Lists.{lent, back, lent-length, put-back, list-more}
+use Rattle.verdict.proofs.Lists.{lent-length, put-back, list-more}
 
 pub left-start : (J : Judge) (cs list work : List ℕ) → Left J cs list work 0 0 list work
 unfolding bytesBelow minimalsBelow
@@ -47,19 +48,19 @@ module _ {J : Judge} {cs list₀ work₀ : List ℕ} {s w : ℕ} {list work : Li
         record { work-is = work-more; list-is = rw same (p .list-is); written-is = rw same (p .written-is) }
 
     -- the list's free rest was lent to `put`, which took k slots and left ys
-    module _ (f : minimal J cs s ≡ true) (k : ℕ) (ys : List ℕ) (ek : k ≡ min 1 (length (lent w list)))
-        (ey : ys ≡ set (lent w list) 0 s) where
+    module _ (f : minimal J cs s ≡ true) (k : ℕ) (ys : List ℕ) (ek : k ≡ min 1 (length (restFrom w list)))
+        (ey : ys ≡ set (restFrom w list) 0 s) where
       slots-are : k ≡ min 1 (length list₀ - w)
       slots-are = omega (arith, ek, lent-length w list, list-kept)
 
-      list-longer : back w list ys ≡ take (w + k) (minimalsBelow J cs (s + 1)) ++ drop (w + k) list₀
+      list-longer : restBack w list ys ≡ take (w + k) (minimalsBelow J cs (s + 1)) ++ drop (w + k) list₀
       list-longer =
           put-back w list s ys ey
           ∙ ap (λ (l : List ℕ). set l w s) (p .list-is)
           ∙ list-more (minimalsBelow J cs s) list₀ w s k (p .written-is) slots-are
           ∙ rw (minimals-more J cs s f)
 
-      pub left-taken : Left J cs list₀ work₀ (s + 1) (w + k) (back w list ys) (set work s b)
+      pub left-taken : Left J cs list₀ work₀ (s + 1) (w + k) (restBack w list ys) (set work s b)
       left-taken = record {
         work-is = work-more;
         list-is = list-longer;

@@ -1,5 +1,8 @@
--- Verdicts: the verdict over minimal settings and one more.
--- Counting: what is counted setting by setting.
+-- Verdicts: the verdict by its tests, the tests over minimal settings and one more, the list of the verdicts.
+-- Counting: what is counted setting by setting, and the verdicts by it.
+-- Numbers: the numbers of the verdicts stored one by one.
+-- Holding: the queries told one by one.
+-- Asking: the queries that counts still ask.
 -- Bytes: the byte of a setting, and the bytes of the settings below one.
 -- Rounds: the rounds of the settings below one.
 -- Lists: a slot of a list's free rest, lent and written.
@@ -8,6 +11,9 @@
 -- Visiting: the lanes of a block visited one by one.
 pub mod Verdicts
 pub mod Counting
+pub mod Numbers
+pub mod Holding
+pub mod Asking
 pub mod Bytes
 pub mod Rounds
 pub mod Lists

@@ -1,4 +1,5 @@
--- The rounds of the settings below one: of none, of m settings more, and a bound of them. Assumes nothing.
+-- The rounds of the settings below one: of none, of m settings more, by judges that count alike, and a bound of them.
+-- Assumes nothing.
 use mathlib.Core.Path.{_≡_, refl}
 use Prim.Native.Nat.{ℕ, zero, suc, _+_, _*_, _≤_}
 use native.Mathlib.Nat.{suc-mul}
@@ -24,3 +25,8 @@ module _ (J : Judge) where
   unfolding roundsBelow
   rounds-le k h zero = omega arith
   rounds-le k h (suc n) = omega (arith, rounds-le k h n, h n, suc-mul n k)
+
+pub rounds-alike : (J K : Judge) → ((s : ℕ) → J .rounds s ≡ K .rounds s) → (n : ℕ) → roundsBelow J n ≡ roundsBelow K n
+unfolding roundsBelow
+rounds-alike J K e zero = refl
+rounds-alike J K e (suc n) = rw (rounds-alike J K e n, e n)

@@ -1,80 +1,88 @@
--- The verdict over a list of minimal settings and one more. Assumes nothing.
-use mathlib.Core.Path.{_≡_, refl, _∙_, ap₂}
+-- The verdict by its tests, the tests over a list of minimal settings and one more, and the list of the verdicts.
+-- Assumes nothing.
+use mathlib.Core.Path.{_≡_, refl, ap₂}
 use mathlib.Core.Bool.{Bool, true, false, _&&_, and-true, and-assoc}
 use mathlib.Core.List.{List, [], _∷_, _++_}
-use Prim.Native.Nat.{ℕ}
-use native.Mathlib.Omega.{arith}
-use Rattle.logic.specs.declared.value.Value.{Value}
-use Rattle.logic.specs.declared.value.Value.the-variants.{False, Unknown, True}
+use Prim.Native.Nat.{ℕ, zero, suc, _<_}
+use lib.ListN.{length, getD}
+use Rattle.words.proofs.Lists.{list-of-length, list-of-at, list-of-one}
 use Rattle.logic.specs.Value.{isTrue, isFalse}
-use Rattle.verdict.specs.declared.verdict.Verdict.the-variants.{Unexplained}
+use Rattle.verdict.specs.declared.verdict.Verdict.the-variants.{Unexplained, Follows, Denied, Open}
 use Rattle.explanation.specs.Judge.{Judge}
-use Rattle.verdict.specs.Walk.{trueInAll, falseInAll, decide, verdictOf}
-use Rattle.verdict.specs.Counting.{verdictWith}
+use Rattle.verdict.specs.Walk.{trueInAll, falseInAll, verdictBy, verdictOf, verdictsOf}
 
--- of one setting
-decide-one : (x : Value) → decide (isTrue x && true) (isFalse x && true) ≡ verdictWith Unexplained x
-decide-one False = refl
-decide-one Unknown = refl
-decide-one True = refl
+-- ---- of one or more minimal settings
+pub verdict-follows : (m : ℕ) (t f : Bool) → (m ≡ 0 → ⊥) → t ≡ true → Follows ≡ verdictBy m t f
+verdict-follows zero t f n p = absurd (n refl)
+verdict-follows (suc m) t f n p = rw p
 
--- a value isn't both true and false
-value-apart : (x : Value) (a f : Bool) → (isTrue x && a) ≡ true → (isFalse x && f) ≡ true → ⊥
-value-apart False a f p q = let z : _≡_ {A = ℕ} 0 1 = cc in omega arith
-value-apart Unknown a f p q = let z : _≡_ {A = ℕ} 0 1 = cc in omega arith
-value-apart True a f p q = let z : _≡_ {A = ℕ} 0 1 = cc in omega arith
+pub verdict-denied : (m : ℕ) (t f : Bool) → (m ≡ 0 → ⊥) → t ≡ false → f ≡ true → Denied ≡ verdictBy m t f
+verdict-denied zero t f n p q = absurd (n refl)
+verdict-denied (suc m) t f n p q = rw (p, q)
 
--- one setting more, where the query isn't both true and false under all so far
-decide-more : (a f : Bool) (x : Value) → (a ≡ true → f ≡ true → ⊥)
-    → decide (a && isTrue x) (f && isFalse x) ≡ verdictWith (decide a f) x
-decide-more true true x n = absurd (n refl refl)
-decide-more true false False n = refl
-decide-more true false Unknown n = refl
-decide-more true false True n = refl
-decide-more false true False n = refl
-decide-more false true Unknown n = refl
-decide-more false true True n = refl
-decide-more false false x n = refl
+pub verdict-open : (m : ℕ) (t f : Bool) → (m ≡ 0 → ⊥) → t ≡ false → f ≡ false → Open ≡ verdictBy m t f
+verdict-open zero t f n p q = absurd (n refl)
+verdict-open (suc m) t f n p q = rw (p, q)
 
-module _ (J : Judge) where
-  pub verdict-none : verdictOf J [] ≡ Unexplained
+-- ---- on one query
+module _ (J : Judge) (q : ℕ) where
+  pub verdict-is : (l : List ℕ) → verdictOf J q l ≡ verdictBy (length l) (trueInAll J q l) (falseInAll J q l)
   unfolding verdictOf
-  verdict-none = refl
+  verdict-is l = refl
 
-  pub verdict-some : (s : ℕ) (l : List ℕ) → verdictOf J (s ∷ l) ≡ decide (trueInAll J (s ∷ l)) (falseInAll J (s ∷ l))
-  unfolding verdictOf
-  verdict-some s l = refl
-
-  pub true-in-none : trueInAll J [] ≡ true
+  pub true-in-none : trueInAll J q [] ≡ true
   unfolding trueInAll
   true-in-none = refl
 
-  pub true-in-next : (s : ℕ) (l : List ℕ) → trueInAll J (s ∷ l) ≡ (isTrue (J .value s) && trueInAll J l)
+  pub true-in-next : (s : ℕ) (l : List ℕ) → trueInAll J q (s ∷ l) ≡ (isTrue (J .value q s) && trueInAll J q l)
   unfolding trueInAll
   true-in-next s l = refl
 
-  pub false-in-none : falseInAll J [] ≡ true
+  pub false-in-none : falseInAll J q [] ≡ true
   unfolding falseInAll
   false-in-none = refl
 
-  pub false-in-next : (s : ℕ) (l : List ℕ) → falseInAll J (s ∷ l) ≡ (isFalse (J .value s) && falseInAll J l)
+  pub false-in-next : (s : ℕ) (l : List ℕ) → falseInAll J q (s ∷ l) ≡ (isFalse (J .value q s) && falseInAll J q l)
   unfolding falseInAll
   false-in-next s l = refl
 
-  all-true-more : (s : ℕ) (l : List ℕ) → trueInAll J (l ++ (s ∷ [])) ≡ (trueInAll J l && isTrue (J .value s))
+  pub all-true-more : (s : ℕ) (l : List ℕ) → trueInAll J q (l ++ (s ∷ [])) ≡ (trueInAll J q l && isTrue (J .value q s))
   unfolding trueInAll
-  all-true-more s [] = and-true (isTrue (J .value s))
+  all-true-more s [] = and-true (isTrue (J .value q s))
   all-true-more s (x ∷ l) = rw (all-true-more s l, and-assoc)
 
-  all-false-more : (s : ℕ) (l : List ℕ) → falseInAll J (l ++ (s ∷ [])) ≡ (falseInAll J l && isFalse (J .value s))
+  pub all-false-more : (s : ℕ) (l : List ℕ)
+      → falseInAll J q (l ++ (s ∷ [])) ≡ (falseInAll J q l && isFalse (J .value q s))
   unfolding falseInAll
-  all-false-more s [] = and-true (isFalse (J .value s))
+  all-false-more s [] = and-true (isFalse (J .value q s))
   all-false-more s (x ∷ l) = rw (all-false-more s l, and-assoc)
 
-  pub verdict-more : (s : ℕ) (l : List ℕ) → verdictOf J (l ++ (s ∷ [])) ≡ verdictWith (verdictOf J l) (J .value s)
-  unfolding verdictOf trueInAll falseInAll
-  verdict-more s [] = decide-one (J .value s)
-  verdict-more s (x ∷ l) =
-      ap₂ decide (all-true-more s (x ∷ l)) (all-false-more s (x ∷ l))
-      ∙ decide-more (trueInAll J (x ∷ l)) (falseInAll J (x ∷ l)) (J .value s)
-      (value-apart (J .value x) (trueInAll J l) (falseInAll J l))
+-- ---- query p of one judge and query q of another, with the same values
+module _ (J K : Judge) (p q : ℕ) (e : (s : ℕ) → J .value p s ≡ K .value q s) where
+  true-alike : (l : List ℕ) → trueInAll J p l ≡ trueInAll K q l
+  unfolding trueInAll
+  true-alike [] = refl
+  true-alike (s ∷ l) = rw (e s, true-alike l)
+
+  false-alike : (l : List ℕ) → falseInAll J p l ≡ falseInAll K q l
+  unfolding falseInAll
+  false-alike [] = refl
+  false-alike (s ∷ l) = rw (e s, false-alike l)
+
+  pub verdict-alike : (l : List ℕ) → verdictOf J p l ≡ verdictOf K q l
+  unfolding verdictOf
+  verdict-alike l = ap₂ (verdictBy (length l)) (true-alike l) (false-alike l)
+
+-- ---- on all queries
+module _ (J : Judge) (l : List ℕ) where
+  pub verdicts-length : length (verdictsOf J l) ≡ J .queries
+  unfolding verdictsOf
+  verdicts-length = list-of-length (J .queries) _
+
+  pub verdicts-at : (q : ℕ) → q < J .queries → getD (verdictsOf J l) q Unexplained ≡ verdictOf J q l
+  unfolding verdictsOf
+  verdicts-at q h = list-of-at (J .queries) (λ q. verdictOf J q l) q Unexplained h
+
+  pub verdicts-one : J .queries ≡ 1 → verdictsOf J l ≡ (verdictOf J 0 l ∷ [])
+  unfolding verdictsOf
+  verdicts-one e = rw (e, list-of-one)

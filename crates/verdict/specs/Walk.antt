@@ -5,10 +5,14 @@
 --   bytesBelow J cs n    the bytes of the settings below n
 --   minimalsBelow J cs n the minimal settings below n, in rising order
 --   roundsBelow J n      the sum of the round counts of the settings below n
---   Verdict, verdictOf   over a list of minimal settings; verdictNumber is document 01's number
+--   verdictOf J q l      the verdict on query q over the list l of minimal settings
+--   verdictsOf J l       the verdicts on all queries, in file order
+--   verdictNumber v      document 01's number of a verdict
 use mathlib.Core.Bool.{Bool, true, false, _&&_}
 use mathlib.Core.List.{List, [], _∷_, _++_}
 use Prim.Native.Nat.{ℕ, zero, suc, _+_}
+use lib.ListN.{length}
+use Rattle.words.specs.Lists.{listOf}
 use Rattle.logic.specs.Value.{isTrue, isFalse}
 use Rattle.verdict.specs.declared.verdict.Verdict.{Verdict}
 use Rattle.verdict.specs.declared.verdict.Verdict.the-variants.{Unexplained, Follows, Denied, Open}
@@ -40,24 +44,27 @@ unfoldable pub roundsBelow : Judge → ℕ → ℕ
 roundsBelow J zero = 0
 roundsBelow J (suc s) = roundsBelow J s + J .rounds s
 
--- the query is true, and is false, under each of the settings
-unfoldable pub trueInAll : Judge → List ℕ → Bool
-trueInAll J [] = true
-trueInAll J (s ∷ l) = isTrue (J .value s) && trueInAll J l
+-- query q is true, and is false, under each of the settings
+unfoldable pub trueInAll : Judge → ℕ → List ℕ → Bool
+trueInAll J q [] = true
+trueInAll J q (s ∷ l) = isTrue (J .value q s) && trueInAll J q l
 
-unfoldable pub falseInAll : Judge → List ℕ → Bool
-falseInAll J [] = true
-falseInAll J (s ∷ l) = isFalse (J .value s) && falseInAll J l
+unfoldable pub falseInAll : Judge → ℕ → List ℕ → Bool
+falseInAll J q [] = true
+falseInAll J q (s ∷ l) = isFalse (J .value q s) && falseInAll J q l
 
--- of one or more minimal settings
-abbrev pub decide : Bool → Bool → Verdict
-decide true f = Follows
-decide false true = Denied
-decide false false = Open
+-- of m minimal settings, under each of which the query is true, or not, and false, or not
+abbrev pub verdictBy : ℕ → Bool → Bool → Verdict
+verdictBy zero t f = Unexplained
+verdictBy (suc m) true f = Follows
+verdictBy (suc m) false true = Denied
+verdictBy (suc m) false false = Open
 
-unfoldable pub verdictOf : Judge → List ℕ → Verdict
-verdictOf J [] = Unexplained
-verdictOf J (s ∷ l) = decide (trueInAll J (s ∷ l)) (falseInAll J (s ∷ l))
+unfoldable pub verdictOf : Judge → ℕ → List ℕ → Verdict
+verdictOf J q l = verdictBy (length l) (trueInAll J q l) (falseInAll J q l)
+
+unfoldable pub verdictsOf : Judge → List ℕ → List Verdict
+verdictsOf J l = listOf (J .queries) (λ q. verdictOf J q l)
 
 abbrev pub verdictNumber : Verdict → ℕ
 verdictNumber Unexplained = 0

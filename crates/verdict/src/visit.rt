@@ -9,9 +9,7 @@ ghost use Rattle.explanation.specs.Subset.{someProper};
 ghost use Rattle.verdict.specs.Lane.{Tells, Room, Seen};
 ghost use Rattle.verdict.specs.Visited.{Visited};
 use crate::counts::Counts;
-use crate::query::query_value;
-use planes::lane::lane;
-use program::case::Case;
+use crate::query::hold;
 
 // What is found in the settings visited: the counts, and how many minimal ones are written to the list.
 pub struct Found {
@@ -34,7 +32,7 @@ fn put(rest: &mut [u16], setting: u16) -> usize
 // Takes the setting of lane j, of which is known whether it explains and whether a proper subset of it does: marks it
 // in the work area, and counts and lists it where it is minimal.
 fn take(
-    c: Case,
+    nodes: &[usize; 16],
     formula: &[u8],
     explains: bool,
     larger: bool,
@@ -46,14 +44,15 @@ fn take(
     list: &mut [u16],
     work: &mut [u8],
 ) -> Found
-    requires { ⌜ (c .nodes ≤ 128) × (128 ≤ length (now formula)) × (j < 64) × (setting < 59049)
-        × (setting < length (now work)) × Room setting found (now list) ⌝ }
+    requires { ⌜ (j < 64) × (setting < 59049) × (setting < length (now work))
+        × Room (now nodes) (now formula) setting found (now list) ⌝ }
     ensures visited { λ r. ⌜ ((J : Judge) (cs list₀ work₀ : List ℕ)
-        → Tells J c (now (formula .entry)) setting explains (column (now (t .entry)) (now (f .entry)) j)
+        → Tells J (now (nodes .entry)) (now (formula .entry)) setting explains
+        (column (now (t .entry)) (now (f .entry)) j)
         → larger ≡ someProper (J .explains) cs setting
         → Visited J cs list₀ work₀ setting found (now (list .entry)) (now (work .entry))
         → Visited J cs list₀ work₀ (setting + 1) r (now (list .exit)) (now (work .exit))) ⌝ }
-    ensures room { λ r. ⌜ Room (setting + 1) r (now (list .exit)) ⌝ }
+    ensures room { λ r. ⌜ Room (now (nodes .entry)) (now (formula .entry)) (setting + 1) r (now (list .exit)) ⌝ }
 {
     if !explains {
         work[setting] = 0;
@@ -67,17 +66,16 @@ fn take(
     let w = found.written;
     let took = put(&mut list[w..], setting as u16);
     let counts = found.counts;
-    let i = lane(t, f, j);
     Found {
-        counts: counts.taken(query_value(c, formula, i)),
+        counts: hold(nodes, formula, t, f, j, counts),
         written: w + took,
     }
 }
 
 // Takes the first m of the 64 settings from first on. Those of the lanes of e explain, those of the lanes of larger
-// have a proper subset that explains, and t and f are what they settle to.
+// have a proper subset that explains, and t and f are what they settle to; nodes has the node count of each query.
 pub fn visit(
-    c: Case,
+    nodes: &[usize; 16],
     formula: &[u8],
     e: u64,
     larger: u64,
@@ -89,10 +87,10 @@ pub fn visit(
     list: &mut [u16],
     work: &mut [u8],
 ) -> Found
-    requires { ⌜ (c .nodes ≤ 128) × (128 ≤ length (now formula)) × (m ≤ 64) × (first + m ≤ 59049)
-        × (first + m ≤ length (now work)) × Room first found (now list) ⌝ }
+    requires { ⌜ (m ≤ 64) × (first + m ≤ 59049) × (first + m ≤ length (now work))
+        × Room (now nodes) (now formula) first found (now list) ⌝ }
     ensures { λ r. ⌜ ((J : Judge) (cs list₀ work₀ : List ℕ)
-        → Seen J cs c (now (formula .entry)) e larger (now (t .entry)) (now (f .entry)) m first
+        → Seen J cs (now (nodes .entry)) (now (formula .entry)) e larger (now (t .entry)) (now (f .entry)) m first
         → Visited J cs list₀ work₀ first found (now (list .entry)) (now (work .entry))
         → Visited J cs list₀ work₀ (first + m) r (now (list .exit)) (now (work .exit))) ⌝ }
 {
@@ -102,7 +100,7 @@ pub fn visit(
         let explains = words::test(e, j);
         let larger_too = words::test(larger, j);
         r = take(
-            c,
+            nodes,
             formula,
             explains,
             larger_too,

@@ -5,19 +5,17 @@ use mathlib.Core.Path.{_≡_, refl, sym, ap, ap₂, subst, _∙_}
 use mathlib.Core.List.{List}
 use Prim.Native.Nat.{ℕ, _+_, _-_, _*_, _≤_, _<_, min}
 use native.Mathlib.Omega.{arith}
-use lib.ListN.{length, getD, take}
+use lib.ListN.{length, getD}
 use Rattle.words.specs.Bits.{has}
 use Rattle.words.specs.OneBit.{BitOf}
 use Rattle.logic.specs.declared.interpretation.Interpretation.{Interpretation}
-use Rattle.logic.specs.Formula.{Formula, valueOf}
-use Rattle.logic.specs.Nodes.{formulaOf}
 use Rattle.logic.specs.Interpretation.{valueAt, Disjoint}
 use Rattle.program.specs.declared.case.Case.{Case}
 use Rattle.program.specs.declared.cause.Additions.{Additions}
 use Rattle.program.specs.Program.{Clause, programWith}
 use Rattle.program.specs.Cause.{causesOf, atomsIn}
 use Rattle.program.specs.Setting.{choicesFor, settingsOf, additionsOf}
-use Rattle.program.proofs.Soundness.{sound-formula}
+use Rattle.program.proofs.Soundness.{sound-formulas, sound-each}
 use Rattle.settle.specs.Rounds.{settled}
 use Rattle.settle.proofs.Reached.{settled-good}
 use Rattle.planes.specs.Planes.{column, Planes}
@@ -35,16 +33,18 @@ use Rattle.verdict.specs.declared.visit.Found.{Found}
 use Rattle.walk.specs.declared.walk.Tally.{Tally}
 use Rattle.verdict.specs.Walk.{roundsBelow}
 use Rattle.verdict.specs.Counting.{noCounts}
-use Rattle.verdict.specs.Lane.{Room, Seen}
+use Rattle.verdict.specs.Lane.{queryUnder, Room, Seen}
 use Rattle.verdict.specs.Visited.{Visited}
 use Rattle.walk.specs.Walking.{Bounded, Walked}
-use Rattle.walk.proofs.Bounds.{settings-few, rounds-few}
+use Rattle.walk.proofs.Bounds.{settings-few, rounds-few, formula-fits}
 use Rattle.verdict.proofs.Counting.{minimals-le, counted-none, counted-few}
+use Rattle.verdict.proofs.Asking.{askable-counted}
 use Rattle.verdict.proofs.Leaving.{left-start, work-kept, written-free}
 use Rattle.verdict.proofs.Rounds.{rounds-none, rounds-more, rounds-le}
 
-abbrev pub noneFound : Found
-noneFound = record { counts = noCounts; written = 0 }
+-- nothing is found for n queries yet
+abbrev pub noneFound : ℕ → Found
+noneFound n = record { counts = noCounts n; written = 0 }
 
 -- the walk before setting s, whose bit is the first of word b of the row
 pub record Walking (c : Case) (cl co fo : List ℕ) (causes end : ℕ) (list₀ work₀ list work row : List ℕ) (f : Found)
@@ -78,14 +78,14 @@ module _ {c : Case} {cl co fo : List ℕ} {causes end : ℕ} {work₀ : List ℕ
   start = omega arith
 
   pub walking-start : {list₀ : List ℕ} (row : List ℕ) → length row ≡ 1848
-      → Walking c cl co fo causes end list₀ work₀ list₀ work₀ row noneFound 0
+      → Walking c cl co fo causes end list₀ work₀ list₀ work₀ row (noneFound (c .formulas)) 0
       (record { facts = 0; assumptions = 0 }) 923 0
   walking-start {list₀} row e = record {
     place-is = refl;
     added-is = additions-start causes;
     size-is = e;
     covered = λ s l. absurd (omega arith);
-    visited = subst (λ (n : ℕ). Visited J cs list₀ work₀ n noneFound list₀ work₀) start
+    visited = subst (λ (n : ℕ). Visited J cs list₀ work₀ n (noneFound (c .formulas)) list₀ work₀) start
         (record { counted = counted-none J cs; left = left-start J cs list₀ work₀ });
     rounds-are = sym (rounds-none J) ∙ ap (roundsBelow J) start;
   }
@@ -117,11 +117,14 @@ module _ {c : Case} {cl co fo : List ℕ} {causes end : ℕ} {work₀ : List ℕ
       standing : Visited J cs list₀ work₀ s f list work
       standing = subst (λ (n : ℕ). Visited J cs list₀ work₀ n f list work) here (w .visited)
 
-      pub walking-room : Room s f list
+      pub walking-room : Room (c .nodes) fo s f list
       walking-room = record {
         free = written-free (standing .left);
         few = counted-few (standing .counted);
         listed-few = omega (arith, standing .left .written-is, minimals-le J cs s);
+        askable = askable-counted (standing .counted) (c .atoms) (c .nodes) fo
+            (sound-formulas c cl co fo (g .is-sound) .1) (formula-fits c cl co fo (g .is-sound))
+            (sound-each c cl co fo (g .is-sound));
       }
 
       -- the first m lanes are those of settings, and total is the sum of their rounds
@@ -182,23 +185,20 @@ module _ {c : Case} {cl co fo : List ℕ} {causes end : ℕ} {work₀ : List ℕ
             covered = subst (λ (n : ℕ). CoveredRow (J .explains) cs n row) here (w .covered);
           }
 
-          query : Formula
-          query = formulaOf (take (c .nodes) fo)
-
-          seen : Seen J cs c fo e larger t u m s
-          unfolding query
+          seen : Seen J cs (c .nodes) fo e larger t u m s
           seen = record {
             tells = λ j q. record {
               explains-is = explains-is j (omega arith);
-              is-formula = sound-formula c cl co fo (g .is-sound);
-              value-is = ap (λ (i : Interpretation). valueOf (valueAt i) query) (lane-is j (omega arith));
+              queries-few = sound-formulas c cl co fo (g .is-sound) .1;
+              values-are = λ k.
+                  ap (λ (i : Interpretation). queryUnder i (c .nodes) fo k) (lane-is j (omega arith));
             };
             larger-is = λ j q. el .larger-is (J .explains) s block j (omega arith) (omega (arith, end-is));
           }
 
           pub walking-next : {next : Additions} {f₁ : Found} {list₁ work₁ : List ℕ}
               → next ≡ additionsOf causes (s + 64)
-              → ((J : Judge) (cs ls ws : List ℕ) → Seen J cs c fo e larger t u m s
+              → ((J : Judge) (cs ls ws : List ℕ) → Seen J cs (c .nodes) fo e larger t u m s
               → Visited J cs ls ws s f list work → Visited J cs ls ws (s + m) f₁ list₁ work₁)
               → Walking c cl co fo causes end list₀ work₀ list₁ work₁ row₁ f₁ (k + total) next (b + 1) (s + 64)
           walking-next {next} {f₁} {list₁} {work₁} n step =

@@ -9,12 +9,13 @@ use native.Mathlib.Omega.{arith}
 use lib.ListN.{length}
 use lib.Pow.{pow-mono}
 use Rattle.program.specs.declared.case.Case.{Case}
+use Rattle.program.specs.Case.{formulaSize}
 use Rattle.program.specs.Cause.{causesOf}
 use Rattle.program.specs.Setting.{settingsOf}
 use Rattle.program.specs.Sound.{sound}
 use Rattle.program.proofs.Causes.{causes-of-lt}
 use Rattle.program.proofs.Soundness.{full-clauses, full-constraints, full-formula, sound-full}
-use Rattle.program.proofs.Soundness.{sound-atoms, sound-clauses, sound-constraints, sound-nodes, sound-few}
+use Rattle.program.proofs.Soundness.{sound-atoms, sound-clauses, sound-constraints, sound-few}
 use Rattle.settle.proofs.Theorems.{round-count-least}
 use Rattle.explanation.specs.Judge.{judgeOf}
 use Rattle.explanation.proofs.Weighing.{settings-low}
@@ -40,5 +41,5 @@ module _ (c : Case) (cl co fo : List ℕ) (h : sound c cl co fo ≡ true) where
   pub constraints-fit : (c .constraints ≤ 32) × (64 ≤ length co)
   constraints-fit = (sound-constraints c cl co fo h, full-constraints cl co fo (sound-full c cl co fo h))
 
-  pub nodes-fit : (c .nodes ≤ 128) × (128 ≤ length fo)
-  nodes-fit = (sound-nodes c cl co fo h, full-formula cl co fo (sound-full c cl co fo h))
+  pub formula-fits : formulaSize ≤ length fo
+  formula-fits = full-formula cl co fo (sound-full c cl co fo h)

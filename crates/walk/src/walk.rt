@@ -54,8 +54,9 @@ fn visit_all(
         (choicesFor (atomsIn (causesOf c (now (clauses .entry))))) (now (list .entry)) (now (work .entry)) end r
         (now (list .exit)) (now (work .exit)) ⌝ }
 {
+    let nodes = c.nodes;
     let mut found = Found {
-        counts: Counts::none(),
+        counts: Counts::none(c.formulas),
         written: 0,
     };
     let mut rounds: u64 = 0;
@@ -93,7 +94,7 @@ fn visit_all(
         rounds = rounds + sum;
         let e = explaining(c, constraints, &t, &f);
         let larger = cover(row, b, e, causes, weights, &x, &y);
-        found = visit(c, formula, e, larger, &t, &f, m, s, found, list, work);
+        found = visit(&nodes, formula, e, larger, &t, &f, m, s, found, list, work);
         added = next;
         b += 1;
         s += 64;

@@ -1,27 +1,32 @@
 -- Laws of the length of a report's lines. Assumes nothing.
 use mathlib.Core.List.{List, [], _∷_, _++_}
 use Prim.Native.Nat.{ℕ, zero, suc, _+_, _*_, _^_, _≤_, _<_}
+use native.Mathlib.Nat.{mul-suc}
 use native.Mathlib.Omega.{arith}
 use lib.ListN.{length, length-append}
 use Rattle.program.specs.Cause.{atomsIn}
 use Rattle.program.specs.Setting.{digitsOf}
-use Rattle.verdict.specs.declared.verdict.Verdict.{Verdict}
-use Rattle.verdict.specs.declared.verdict.Verdict.the-variants.{Unexplained, Follows, Denied, Open}
 use Rattle.output.proofs.Decimals.{decimal-length, decimal-short}
 use Rattle.output.proofs.FormTexts.{spaced-nil, spaced-more, spaced-one, spaced-two, form-length, line-length}
 use Rattle.output.specs.Forms.{spaced}
-use Rattle.wording.specs.Text.{verdictWord, verdictLine, roundsLine, minimalLine, withAbducible, abducibles}
-use Rattle.wording.specs.Text.{causeLine, causeLines, answerText, refusalText}
+use Rattle.wording.specs.Text.{linesOf, verdictWord, verdictLine, verdictLines, roundsLine, minimalLine}
+use Rattle.wording.specs.Text.{withAbducible, abducibles, causeLine, causeLines, answerText, refusalText}
 
 -- Lines
 
-verdict-word-length : (v : Verdict) → length (verdictWord v) ≤ 11
-verdict-word-length Unexplained = omega arith
-verdict-word-length Follows = omega arith
-verdict-word-length Denied = omega arith
-verdict-word-length Open = omega arith
+lines-length : (f : ℕ → List ℕ) (k : ℕ) → ((x : ℕ) → length (f x) ≤ k) → (l : List ℕ)
+    → length (linesOf f l) ≤ k * length l
+unfolding linesOf
+lines-length f k h [] = omega arith
+lines-length f k h (x ∷ l) = rw (length-append, mul-suc) (omega (arith, h x, lines-length f k h l))
 
-verdict-line-length : (v : Verdict) → length (verdictLine v) ≤ 22
+verdict-word-length : (v : ℕ) → length (verdictWord v) ≤ 11
+verdict-word-length zero = omega arith
+verdict-word-length (suc zero) = omega arith
+verdict-word-length (suc (suc zero)) = omega arith
+verdict-word-length (suc (suc (suc v))) = omega arith
+
+verdict-line-length : (v : ℕ) → length (verdictLine v) ≤ 22
 unfolding verdictLine
 verdict-line-length v = rw (line-length, spaced-one) (omega (arith, verdict-word-length v))
 
@@ -59,24 +64,17 @@ module _ (name : ℕ → List ℕ) (short : (a : ℕ) → length (name a) ≤ 16
     unfolding causeLine
     cause-line-length s = rw line-length (omega (arith, abducibles-length (atomsIn w) (digitsOf w s)))
 
-    cause-lines-length : (l : List ℕ) → length (causeLines name w l) ≤ 258 * length l
-    unfolding causeLines
-    cause-lines-length [] = omega arith
-    cause-lines-length (s ∷ l) =
-        omega
-        (arith, length-append (causeLine name w s) (causeLines name w l), cause-line-length s, cause-lines-length l)
-
-    pub answer-length : (v : Verdict) (n m : ℕ) (l : List ℕ) → n < 10 ^ 7 → m < 10 ^ 5 → length l ≤ 1024
-        → length (answerText name w v n m l) ≤ 264252
+    pub answer-length : (vs : List ℕ) (n m : ℕ) (l : List ℕ) → length vs ≤ 16 → n < 10 ^ 7 → m < 10 ^ 5
+        → length l ≤ 1024 → length (answerText name w vs n m l) ≤ 264582
     unfolding answerText
-    answer-length v n m l h k f =
+    answer-length vs n m l g h k f =
         omega (
           arith,
-          length-append (verdictLine v) (roundsLine n ++ (minimalLine m (length l) ++ causeLines name w l)),
+          length-append (verdictLines vs) (roundsLine n ++ (minimalLine m (length l) ++ causeLines name w l)),
           length-append (roundsLine n) (minimalLine m (length l) ++ causeLines name w l),
           length-append (minimalLine m (length l)) (causeLines name w l),
-          verdict-line-length v,
+          lines-length verdictLine 22 verdict-line-length vs,
           rounds-line-length n h,
           minimal-line-length m (length l) k (omega arith),
-          cause-lines-length l,
+          lines-length (causeLine name w) 258 cause-line-length l,
         )

@@ -3,7 +3,7 @@
 -- Lines: how each line, and each form in one, is written.
 -- Progress: a text that is being written piece by piece.
 -- Abducibles: how what a setting adds is written, atom by atom.
--- Listings: how the lines of a list of settings are written, and the text of an answer.
+-- Listings: how the lines of a list are written, and the text of an answer.
 -- Naming: the names that a report shows.
 -- Lengths: the length of a report's lines.
 pub mod LineTexts

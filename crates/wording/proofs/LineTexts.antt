@@ -4,7 +4,6 @@ use mathlib.Core.List.{List, [], _∷_, _++_}
 use Prim.Native.Nat.{ℕ, zero, suc}
 use Rattle.program.specs.Cause.{atomsIn}
 use Rattle.program.specs.Setting.{digitsOf}
-use Rattle.verdict.specs.declared.verdict.Verdict.{Verdict}
 use Rattle.text.specs.Bytes.{bytes}
 use Rattle.output.specs.Decimal.{decimal}
 use Rattle.output.specs.Forms.{spaced, form}
@@ -38,9 +37,15 @@ assumptionOpening = bytes " (false "
 abbrev pub pairText : List ℕ → ℕ → ℕ → List ℕ
 pairText opening x y = opening ++ (decimal x ++ (bytes " " ++ (decimal y ++ lineEnd)))
 
-pub verdict-text : (v : Verdict) → verdictLine v ≡ verdictOpening ++ (verdictWord v ++ lineEnd)
+pub verdict-text : (v : ℕ) → verdictLine v ≡ verdictOpening ++ (verdictWord v ++ lineEnd)
 unfolding verdictLine
 verdict-text v = line-one (bytes "verdict") (verdictWord v)
+
+pub open-word : (v : ℕ) → (v ≡ 0 → ⊥) → (v ≡ 1 → ⊥) → (v ≡ 2 → ⊥) → verdictWord v ≡ bytes "open"
+open-word zero p q r = absurd (p refl)
+open-word (suc zero) p q r = absurd (q refl)
+open-word (suc (suc zero)) p q r = absurd (r refl)
+open-word (suc (suc (suc v))) p q r = refl
 
 pub rounds-text : (n : ℕ) → roundsLine n ≡ roundsOpening ++ (decimal n ++ lineEnd)
 unfolding roundsLine

@@ -1,13 +1,12 @@
 -- How each line of a report, and each form in one, is written: the room that its pieces take, and the pieces one behind
 -- another. Assumes nothing.
-use mathlib.Core.Path.{_≡_, ap}
+use mathlib.Core.Path.{_≡_}
 use mathlib.Core.List.{List, [], _++_}
 use Prim.Native.Nat.{ℕ, _+_, _≤_}
 use native.Mathlib.Omega.{arith}
 use lib.ListN.{length, length-append}
 use Rattle.program.specs.Cause.{atomsIn}
 use Rattle.program.specs.Setting.{digitsOf}
-use Rattle.verdict.specs.declared.verdict.Verdict.{Verdict}
 use Rattle.text.specs.Bytes.{bytes}
 use Rattle.output.specs.Decimal.{decimal}
 use Rattle.output.specs.Forms.{spaced}
@@ -18,8 +17,8 @@ use Rattle.output.proofs.Laying.{writes-append}
 use Rattle.wording.specs.Text.{verdictWord, verdictLine, roundsLine, withAbducible, abducibles, causeLine}
 use Rattle.wording.specs.Text.{refusalText}
 use Rattle.wording.proofs.LineTexts.{verdictOpening, roundsOpening, refusedOpening, causeOpening, factOpening}
-use Rattle.wording.proofs.LineTexts.{assumptionOpening, pairText, verdict-text, rounds-text, refusal-text}
-use Rattle.wording.proofs.LineTexts.{cause-text, fact-text, assumption-text}
+use Rattle.wording.proofs.LineTexts.{assumptionOpening, pairText, verdict-text, open-word, rounds-text}
+use Rattle.wording.proofs.LineTexts.{refusal-text, cause-text, fact-text, assumption-text}
 
 -- three pieces
 pieces-room : (s t u : List ℕ) {at : ℕ} → Room (s ++ (t ++ u)) at → at + (length s + length t + length u) ≤ textLimit
@@ -75,14 +74,22 @@ pub refusal-written : (n k : ℕ) {at r : ℕ} {out u : List ℕ} → Writes (pa
     → Writes (refusalText n k) out at r u
 refusal-written n k w = rw refusal-text w
 
--- the line of the verdict v, where it is known to be w
-module _ (w : Verdict) {v : Verdict} {at : ℕ} (e : v ≡ w) where
+-- the line of the verdict with the number v, which is w, or none of 0 to 2
+module _ (w : ℕ) {v at : ℕ} (e : v ≡ w) where
   pub verdict-room : Room (verdictLine v) at → Room (verdictOpening ++ (verdictWord w ++ lineEnd)) at
   verdict-room h = rw (e, verdict-text) at h
 
   pub verdict-written : {r : ℕ} {out u : List ℕ} → Writes (verdictOpening ++ (verdictWord w ++ lineEnd)) out at r u
       → Writes (verdictLine v) out at r u
   verdict-written h = rw (e, verdict-text) h
+
+module _ {v at : ℕ} (p : v ≡ 0 → ⊥) (q : v ≡ 1 → ⊥) (o : v ≡ 2 → ⊥) where
+  pub open-room : Room (verdictLine v) at → Room (verdictOpening ++ (bytes "open" ++ lineEnd)) at
+  open-room h = rw (verdict-text, open-word v p q o) at h
+
+  pub open-written : {r : ℕ} {out u : List ℕ} → Writes (verdictOpening ++ (bytes "open" ++ lineEnd)) out at r u
+      → Writes (verdictLine v) out at r u
+  open-written h = rw (verdict-text, open-word v p q o) h
 
 -- what the digit d adds for the cause named w: a fact where it is 1, and an assumption where it is neither 0 nor 1
 module _ (d : ℕ) (w : List ℕ) {at : ℕ} where

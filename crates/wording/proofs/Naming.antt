@@ -8,8 +8,7 @@ use lib.ListN.{length, getD}
 use Rattle.program.specs.Cause.{atomsIn}
 use Rattle.program.specs.Setting.{digitsOf}
 use Rattle.program.proofs.Atoms.{atoms-below}
-use Rattle.verdict.specs.declared.verdict.Verdict.{Verdict}
-use Rattle.wording.specs.Text.{withAbducible, abducibles, causeLine, causeLines, answerText}
+use Rattle.wording.specs.Text.{linesOf, withAbducible, abducibles, causeLine, causeLines, answerText}
 
 module _ (f g : ℕ → List ℕ) (agree : (a : ℕ) → a < 64 → f a ≡ g a) where
   abducibles-alike : (l ds : List ℕ) → ((i : ℕ) → i < length l → getD l i 0 < 64)
@@ -26,10 +25,10 @@ module _ (f g : ℕ → List ℕ) (agree : (a : ℕ) → a < 64 → f a ≡ g a)
   cause-line-alike w s = rw (abducibles-alike (atomsIn w) (digitsOf w s) (atoms-below w))
 
   cause-lines-alike : (w : ℕ) (l : List ℕ) → causeLines f w l ≡ causeLines g w l
-  unfolding causeLines
+  unfolding linesOf
   cause-lines-alike w [] = refl
   cause-lines-alike w (s ∷ l) = ap₂ _++_ (cause-line-alike w s) (cause-lines-alike w l)
 
-  pub answer-alike : (w : ℕ) (v : Verdict) (n m : ℕ) (l : List ℕ) → answerText f w v n m l ≡ answerText g w v n m l
+  pub answer-alike : (w : ℕ) (vs : List ℕ) (n m : ℕ) (l : List ℕ) → answerText f w vs n m l ≡ answerText g w vs n m l
   unfolding answerText
-  answer-alike w v n m l = rw (cause-lines-alike w l)
+  answer-alike w vs n m l = rw (cause-lines-alike w l)

@@ -1,32 +1,40 @@
 -- The text of an answer, and of a refusal.
 -- From: document 01, "The program `causes`".
 --
---   verdictWord v              the word of a verdict
---   abducibles name l ds       (true N) or (false N) for each cause of l whose digit in ds isn't 0, in atom order
---   causeLine name w s         the line of setting s of the causes w
---   causeLines name w l        the lines of the settings l
---   answerText name w v n m l  verdict v, rounds n, m minimal explanations, of which the settings l are listed
---   refusalText n k            the refusal with the number n at line k
+--   linesOf f l                 the lines that f gives for the numbers l, one behind another
+--   verdictWord v               the word of the verdict with the number v
+--   verdictLines vs             the lines of the verdicts with the numbers vs
+--   abducibles name l ds        (true N) or (false N) for each cause of l whose digit in ds isn't 0, in atom order
+--   causeLine name w s          the line of setting s of the causes w
+--   causeLines name w l         the lines of the settings l
+--   answerText name w vs n m l  verdicts vs, rounds n, m minimal explanations, of which the settings l are listed
+--   refusalText n k             the refusal with the number n at line k
 use mathlib.Core.List.{List, [], _∷_, _++_}
 use Prim.Native.Nat.{ℕ, zero, suc}
 use lib.ListN.{length}
 use Rattle.program.specs.Cause.{atomsIn}
 use Rattle.program.specs.Setting.{digitsOf}
-use Rattle.verdict.specs.declared.verdict.Verdict.{Verdict}
-use Rattle.verdict.specs.declared.verdict.Verdict.the-variants.{Unexplained, Follows, Denied, Open}
 use Rattle.text.specs.Bytes.{bytes}
 use Rattle.output.specs.Decimal.{decimal}
 use Rattle.output.specs.Forms.{form, line}
 
-abbrev pub verdictWord : Verdict → List ℕ
-verdictWord Unexplained = bytes "unexplained"
-verdictWord Follows = bytes "follows"
-verdictWord Denied = bytes "denied"
-verdictWord Open = bytes "open"
+unfoldable pub linesOf : (ℕ → List ℕ) → List ℕ → List ℕ
+linesOf f [] = []
+linesOf f (x ∷ l) = f x ++ linesOf f l
+
+-- 0 unexplained, 1 follows, 2 denied, 3 open
+abbrev pub verdictWord : ℕ → List ℕ
+verdictWord zero = bytes "unexplained"
+verdictWord (suc zero) = bytes "follows"
+verdictWord (suc (suc zero)) = bytes "denied"
+verdictWord (suc (suc (suc v))) = bytes "open"
 
 -- "(verdict v)"
-unfoldable pub verdictLine : Verdict → List ℕ
+unfoldable pub verdictLine : ℕ → List ℕ
 verdictLine v = line (bytes "verdict") (verdictWord v ∷ [])
+
+abbrev pub verdictLines : List ℕ → List ℕ
+verdictLines vs = linesOf verdictLine vs
 
 -- "(rounds n)"
 unfoldable pub roundsLine : ℕ → List ℕ
@@ -52,12 +60,11 @@ abducibles name (a ∷ l) (d ∷ ds) = withAbducible d (name a) (abducibles name
 unfoldable pub causeLine : (ℕ → List ℕ) → ℕ → ℕ → List ℕ
 causeLine name w s = line (bytes "cause") (abducibles name (atomsIn w) (digitsOf w s))
 
-unfoldable pub causeLines : (ℕ → List ℕ) → ℕ → List ℕ → List ℕ
-causeLines name w [] = []
-causeLines name w (s ∷ l) = causeLine name w s ++ causeLines name w l
+abbrev pub causeLines : (ℕ → List ℕ) → ℕ → List ℕ → List ℕ
+causeLines name w l = linesOf (causeLine name w) l
 
-unfoldable pub answerText : (ℕ → List ℕ) → ℕ → Verdict → ℕ → ℕ → List ℕ → List ℕ
-answerText name w v n m l = verdictLine v ++ (roundsLine n ++ (minimalLine m (length l) ++ causeLines name w l))
+unfoldable pub answerText : (ℕ → List ℕ) → ℕ → List ℕ → ℕ → ℕ → List ℕ → List ℕ
+answerText name w vs n m l = verdictLines vs ++ (roundsLine n ++ (minimalLine m (length l) ++ causeLines name w l))
 
 -- "(refused n k)"
 unfoldable pub refusalText : ℕ → ℕ → List ℕ

@@ -10,25 +10,38 @@ ghost use Rattle.names.specs.Row.{nameIn};
 ghost use Rattle.output.specs.Decimal.{decimal};
 ghost use Rattle.output.specs.Forms.{spaced};
 ghost use Rattle.wording.specs.Text.{withAbducible, abducibles, causeLine, causeLines};
-ghost use Rattle.wording.specs.Text.{verdictLine, roundsLine, answerText, refusalText};
+ghost use Rattle.wording.specs.Text.{verdictLine, verdictLines, roundsLine, answerText, refusalText};
 ghost use Rattle.output.specs.Writing.{Writes, Room};
 use output::put;
 use output::put_decimal;
 use output::put_name;
 use output::put_text;
-use verdict::verdict::Verdict;
 
-// Writes the line of a verdict.
-fn verdict_line(out: &mut [u8], at: usize, v: Verdict) -> usize
+// Writes the line of the verdict with the number v.
+fn verdict_line(out: &mut [u8], at: usize, v: u64) -> usize
     requires { ⌜ Room (verdictLine v) at ⌝ }
     ensures { λ r. ⌜ Writes (verdictLine v) (now (out .entry)) at r (now (out .exit)) ⌝ }
 {
     match v {
-        Verdict::Unexplained => put_text(out, at, b"(verdict unexplained)\n"),
-        Verdict::Follows => put_text(out, at, b"(verdict follows)\n"),
-        Verdict::Denied => put_text(out, at, b"(verdict denied)\n"),
-        Verdict::Open => put_text(out, at, b"(verdict open)\n"),
+        0 => put_text(out, at, b"(verdict unexplained)\n"),
+        1 => put_text(out, at, b"(verdict follows)\n"),
+        2 => put_text(out, at, b"(verdict denied)\n"),
+        _ => put_text(out, at, b"(verdict open)\n"),
     }
+}
+
+// Writes the lines of the verdicts with the numbers in a list.
+fn verdict_lines(out: &mut [u8], at: usize, verdicts: &[u64]) -> usize
+    requires { ⌜ Room (verdictLines (now verdicts)) at ⌝ }
+    ensures { λ r. ⌜ Writes (verdictLines (now (verdicts .entry))) (now (out .entry)) at r (now (out .exit)) ⌝ }
+{
+    let mut place = at;
+    let mut k: usize = 0;
+    while k < verdicts.len() {
+        place = verdict_line(out, place, verdicts[k]);
+        k += 1;
+    }
+    place
 }
 
 // Writes the line of the rounds.
@@ -131,11 +144,11 @@ fn cause_lines(out: &mut [u8], at: usize, names: &[u8], causes: u64, list: &[u16
     place
 }
 
-// Writes the text of an answer from the output's first byte on: verdict, rounds, how many minimal explanations there
+// Writes the text of an answer from the output's first byte on: verdicts, rounds, how many minimal explanations there
 // are, and the settings listed. Answers the text's length.
 pub fn answer_text(
     out: &mut [u8],
-    verdict: Verdict,
+    verdicts: &[u64],
     rounds: u64,
     minimal: u64,
     names: &[u8],
@@ -143,11 +156,12 @@ pub fn answer_text(
     list: &[u16],
 ) -> usize
     requires { ⌜ (nameSize ≤ length (now names))
-        × Room (answerText (nameIn (now names)) causes verdict rounds minimal (now list)) 0 ⌝ }
-    ensures { λ r. ⌜ Writes (answerText (nameIn (now (names .entry))) causes verdict rounds minimal (now (list .entry)))
+        × Room (answerText (nameIn (now names)) causes (now verdicts) rounds minimal (now list)) 0 ⌝ }
+    ensures { λ r. ⌜ Writes (answerText (nameIn (now (names .entry))) causes (now (verdicts .entry)) rounds minimal
+        (now (list .entry)))
         (now (out .entry)) 0 r (now (out .exit)) ⌝ }
 {
-    let second = verdict_line(out, 0, verdict);
+    let second = verdict_lines(out, 0, verdicts);
     let third = rounds_line(out, second, rounds);
     let fourth = pair_line(out, third, b"(minimal ", minimal, list.len() as u64);
     cause_lines(out, fourth, names, causes, list)

@@ -6,6 +6,7 @@
 -- BitWalks: a word without one of its bits, and what a walk over the bits goes by.
 -- LowestBit: a word and the number one less.
 -- Counts: how the count of ones grows with the word.
+-- Lists: a list by its entries.
 pub mod Tests
 pub mod Checks
 pub mod Below
@@ -14,3 +15,4 @@ pub mod Words
 pub mod BitWalks
 pub mod LowestBit
 pub mod Counts
+pub mod Lists

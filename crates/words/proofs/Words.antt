@@ -71,6 +71,23 @@ has-lowest n w i e = ⊎-elim
     q : w ≡ 2 ^ n - 1 - 0
     q = omega arith
 
+pub lowest-word : (n w : ℕ) → w + 1 ≡ 2 ^ n → w ≡ word n (λ i. true)
+lowest-word n w e = is-word n w (λ i. true) (omega arith) (λ i l. has-lowest n w i e ∙ lt-ltb i n l)
+
+-- ---- those bits of a word of k bits that pass a test, among m bits
+pub word-kept : (k m : ℕ) (p q : ℕ → Bool) → k ≤ m → word m (λ i. has (word k p) i && q i) ≡ word k (λ i. p i && q i)
+word-kept k m p q h =
+    has-ext m _ _ (word-lt m _) (lt-of-lt-of-le (word-lt k _) (pow-mono h))
+    (λ i l. has-word m _ i l ∙ ⊎-elim (inside i) (outside i) (lt-or-le i k))
+  where
+    inside : (i : ℕ) → i < k → (has (word k p) i && q i) ≡ has (word k (λ j. p j && q j)) i
+    inside i l = ap (λ (b : Bool). b && q i) (has-word k p i l) ∙ sym (has-word k (λ j. p j && q j) i l)
+
+    outside : (i : ℕ) → k ≤ i → (has (word k p) i && q i) ≡ has (word k (λ j. p j && q j)) i
+    outside i l =
+        ap (λ (b : Bool). b && q i) (has-above k (word k p) i (word-lt k p) l)
+        ∙ sym (has-above k (word k (λ j. p j && q j)) i (word-lt k _) l)
+
 -- ---- a word is zero where it has no bit
 pub zero-any : (k w : ℕ) → w < 2 ^ k → eqb w 0 ≡ not (any k (has w))
 zero-any k w h = go (any k (has w)) refl

@@ -1,25 +1,21 @@
--- `embed::put_words` meets its contract. The invariant: the first i words are stored. Assumes nothing.
+-- `embed::put_words` meets its contract. The loop's invariant: the first i words are in front. Assumes nothing.
 use borrow.Author.Needs.{needs}
-use mathlib.Core.Path.{_≡_, refl, _∙_}
-use Prim.Native.Nat.{_≤_, _-_}
-use native.Mathlib.Nat.{zero-add}
+use mathlib.Core.Path.{refl}
+use Prim.Native.Nat.{_-_}
 use native.Mathlib.Omega.{arith}
-use lib.ListN.{length, take, length-set}
-use lib.Seq.{sets}
-use Rattle.table.proofs.Stores.{stored-more, stored-all}
-use Rattle.output.proofs.Laying.{sets-over}
+use lib.ListN.{length}
+use Rattle.embed.proofs.Putting.{InFront, in-front-none, in-front-more, in-front-all}
 use Rattle.embed.proofs.put_words.Statement.{statement}
 use Rattle.embed.proofs.put_words.Tie as tie
 
 abbrev Inv-loop : tie.InvT-loop
-Inv-loop answer₀ words i₀ answer i =
-    (i ≤ length (words)) × (length answer ≡ length (answer₀)) × (answer ≡ sets (answer₀) 0 (take i (words)))
+Inv-loop answer₀ words i₀ answer i = InFront words answer₀ i answer
 
 abbrev μ-loop : tie.MeasureT-loop
-μ-loop answer₀ words i₀ answer i = length (words) - i
+μ-loop answer₀ words i₀ answer i = length words - i
 
 loop-holds : tie.Need-loop-holds Inv-loop μ-loop
-loop-holds c = (search needs, refl, refl)
+loop-holds c = in-front-none _ _
 
 mul-answer : tie.Need-mul-answer Inv-loop μ-loop
 mul-answer c = search needs
@@ -40,21 +36,13 @@ loop-less : tie.Need-loop-less Inv-loop μ-loop
 loop-less c = search needs
 
 loop-again : tie.Need-loop-again Inv-loop μ-loop
-loop-again c =
-    let a = c .before .before .before .args in
-    let l = c .before .before .loop in
-    let more = stored-more (a .words .now) (l .answer) (a .answer .now) 0 (l .i) (l .inv .2) _ (omega arith) refl in
-    (omega arith, simp length-set (l .inv .1), rw (zero-add (l .i)) at more)
+loop-again c = in-front-more (c .before .before .loop .inv) (omega arith) refl
 
 same-length : tie.Need-same-length Inv-loop μ-loop
 same-length c = search needs
 
 returns : tie.Need-returns Inv-loop μ-loop
-returns c =
-    let a = c .before .before .args in
-    let l = c .before .loop in
-    stored-all (a .words .now) (l .answer) (a .answer .now) 0 (l .i) (l .inv .2) (omega arith)
-    ∙ sets-over (a .words .now) (a .answer .now) (omega arith)
+returns c = in-front-all (c .before .loop .inv) (omega arith) (omega arith)
 
 pub put-words-spec : {M : Type 1} → statement M
 put-words-spec =

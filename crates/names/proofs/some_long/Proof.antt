@@ -1,10 +1,11 @@
--- `names::some_long` meets its contract. The invariant: a name of the line is long if one from place at on is.
--- Assumes nothing.
+-- `names::some_long` meets its contract. The invariant: a name of the line is long if one from place at on is; none is
+-- where at most 16 bytes are left. Assumes nothing.
 use borrow.Author.Needs.{needs}
 use Prim.Native.Nat.{_-_}
 use lib.ListN.{length}
 use Rattle.text.proofs.Names.{name-onward, name-less}
-use Rattle.names.proofs.LineNames.{LongFrom, long-from-none, long-none, long-here, long-later}
+use Rattle.names.proofs.LineNames.{LongFrom, long-from-none, long-short, long-none, long-here}
+use Rattle.names.proofs.LineNames.{long-later}
 use Rattle.names.proofs.some_long.Statement.{statement}
 use Rattle.names.proofs.some_long.Tie as tie
 
@@ -16,6 +17,9 @@ abbrev μ-loop : tie.MeasureT-loop
 
 loop-holds : tie.Need-loop-holds Inv-loop μ-loop
 loop-holds c = search (needs, long-from-none)
+
+add-loop : tie.Need-add-loop Inv-loop μ-loop
+add-loop c = search needs
 
 next-name-requires : tie.Need-next-name-requires Inv-loop μ-loop
 next-name-requires c κs = search needs
@@ -41,6 +45,9 @@ loop-less c = search (needs, name-less)
 loop-again : tie.Need-loop-again Inv-loop μ-loop
 loop-again c = search (needs, long-later)
 
+returns-3 : tie.Need-returns-3 Inv-loop μ-loop
+returns-3 c = search (needs, long-short)
+
 pub some-long-spec : {M : Type 1} → statement M
 some-long-spec =
     tie.close
@@ -48,6 +55,7 @@ some-long-spec =
     Inv-loop
     μ-loop
     loop-holds
+    add-loop
     next-name-requires
     enum-known-a
     enum-told
@@ -55,4 +63,5 @@ some-long-spec =
     sub-if1
     returns-2
     loop-less
-    loop-again)
+    loop-again
+    returns-3)

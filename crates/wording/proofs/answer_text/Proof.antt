@@ -1,4 +1,5 @@
--- `wording::answer_text` meets its contract: three lines, and those of the settings. Assumes nothing.
+-- `wording::answer_text` meets its contract: the lines of the verdicts, two more, and those of the settings.
+-- Assumes nothing.
 use borrow.Author.Needs.{needs}
 use native.Mathlib.Omega.{arith}
 use lib.ListN.{length-append}
@@ -6,8 +7,8 @@ use Rattle.wording.proofs.Listings.{answer-room, answer-written, minima
 use Rattle.wording.proofs.answer_text.Statement.{statement}
 use Rattle.wording.proofs.answer_text.Tie as tie
 
-verdict-line-requires : tie.Need-verdict-line-requires
-verdict-line-requires c κs = omega (arith, answer-room)
+verdict-lines-requires : tie.Need-verdict-lines-requires
+verdict-lines-requires c κs = omega (arith, answer-room)
 
 rounds-line-requires : tie.Need-rounds-line-requires
 rounds-line-requires c κs = omega (arith, answer-room)
@@ -31,7 +32,7 @@ pub answer-text-spec : {M : Type 1} → statement M
 answer-text-spec =
     tie.close
     (tie.spec
-    verdict-line-requires
+    verdict-lines-requires
     rounds-line-requires
     slice-aggregate-pair-line
     pair-line-requires

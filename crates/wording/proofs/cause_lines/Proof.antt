@@ -6,18 +6,26 @@ use native.Mathlib.Omega.{arith}
 use lib.ListN.{length}
 use Rattle.names.specs.Row.{nameIn}
 use Rattle.output.proofs.Laying.{writes-length}
-use Rattle.wording.proofs.Listings.{AtSetting, setting-start, setting-room, setting-more, setting-end}
+use Rattle.wording.specs.Text.{causeLine}
+use Rattle.wording.proofs.Listings.{AtLine, line-start, line-room, line-more, line-end}
 use Rattle.wording.proofs.cause_lines.Statement.{statement}
 use Rattle.wording.proofs.cause_lines.Tie as tie
 
 abbrev Inv-loop : tie.InvT-loop
-Inv-loop out₀ at names causes list place₀ k₀ out place k = AtSetting (nameIn names) causes list out₀ at k place out
+Inv-loop out₀ at names causes list place₀ k₀ out place k =
+    AtLine (causeLine (nameIn names) causes) list out₀ at k place out
 
 abbrev μ-loop : tie.MeasureT-loop
 μ-loop out₀ at names causes list place₀ k₀ out place k = length list - k
 
+abbrev looped : tie.After-shared-slice-known3 Inv-loop μ-loop → tie.At-loop Inv-loop μ-loop
+looped c = c .before .before .before
+
+abbrev entry : tie.At-loop Inv-loop μ-loop → tie.Start Inv-loop μ-loop
+entry c = c .before .before .before .before
+
 loop-holds : tie.Need-loop-holds Inv-loop μ-loop
-loop-holds c = setting-start _ _ _ _ _
+loop-holds c = line-start _ _ _ _
 
 mul-cause-line : tie.Need-mul-cause-line Inv-loop μ-loop
 mul-cause-line c = search needs
@@ -26,10 +34,11 @@ shared-slice-read-cause-line : tie.Need-shared-slice-read-cause-line Inv-loop μ
 shared-slice-read-cause-line c = search needs
 
 cast-cause-line : tie.Need-cast-cause-line Inv-loop μ-loop
-cast-cause-line c = omega (arith, c .shared-slice-known3 .given (c .before .before .before .loop .k))
+cast-cause-line c = omega (arith, c .shared-slice-known3 .given (looped c .loop .k))
 
 cause-line-requires : tie.Need-cause-line-requires Inv-loop μ-loop
-cause-line-requires c κs = search setting-room
+cause-line-requires c κs =
+    (search needs, line-room _ (looped c .loop .inv) (omega arith) (entry (looped c) .pre .1))
 
 add-k : tie.Need-add-k Inv-loop μ-loop
 add-k c = search needs
@@ -38,13 +47,13 @@ loop-less : tie.Need-loop-less Inv-loop μ-loop
 loop-less c = search needs
 
 loop-again : tie.Need-loop-again Inv-loop μ-loop
-loop-again c = search setting-more
+loop-again c = search line-more
 
 same-length : tie.Need-same-length Inv-loop μ-loop
 same-length c = search writes-length
 
 returns : tie.Need-returns Inv-loop μ-loop
-returns c = search setting-end
+returns c = search line-end
 
 pub cause-lines-spec : {M : Type 1} → statement M
 cause-lines-spec =

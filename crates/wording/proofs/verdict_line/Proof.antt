@@ -1,84 +1,67 @@
--- `wording::verdict_line` meets its contract, verdict by verdict. Assumes nothing.
+-- `wording::verdict_line` meets its contract, number by number. Assumes nothing.
 use borrow.Author.Needs.{needs}
-use Rattle.verdict.specs.declared.verdict.Verdict.the-variants.{Unexplained, Follows, Denied, Open}
-use Rattle.wording.proofs.Lines.{verdict-room, verdict-written}
+use Rattle.wording.proofs.Lines.{verdict-room, verdict-written, open-room, open-written}
 use Rattle.wording.proofs.verdict_line.Statement.{statement}
 use Rattle.wording.proofs.verdict_line.Tie as tie
-
-enum-told : tie.Need-enum-told
-enum-told c = search needs
 
 slice-aggregate-put-text : tie.Need-slice-aggregate-put-text
 slice-aggregate-put-text c = search needs
 
 put-text-requires : tie.Need-put-text-requires
-put-text-requires c κs = search (verdict-room Unexplained)
-
-enum-told-2 : tie.Need-enum-told-2
-enum-told-2 c = search needs
+put-text-requires c κs = search (verdict-room 0)
 
 slice-aggregate-put-text-2 : tie.Need-slice-aggregate-put-text-2
 slice-aggregate-put-text-2 c = search needs
 
 put-text-requires-2 : tie.Need-put-text-requires-2
-put-text-requires-2 c κs = search (verdict-room Follows)
-
-enum-told-3 : tie.Need-enum-told-3
-enum-told-3 c = search needs
+put-text-requires-2 c κs = search (verdict-room 1)
 
 slice-aggregate-put-text-3 : tie.Need-slice-aggregate-put-text-3
 slice-aggregate-put-text-3 c = search needs
 
 put-text-requires-3 : tie.Need-put-text-requires-3
-put-text-requires-3 c κs = search (verdict-room Denied)
-
-enum-told-4 : tie.Need-enum-told-4
-enum-told-4 c = search needs
+put-text-requires-3 c κs = search (verdict-room 2)
 
 slice-aggregate-put-text-4 : tie.Need-slice-aggregate-put-text-4
 slice-aggregate-put-text-4 c = search needs
 
 put-text-requires-4 : tie.Need-put-text-requires-4
-put-text-requires-4 c κs = search (verdict-room Open)
+put-text-requires-4 c κs = search open-room
 
 same-length : tie.Need-same-length
 same-length c = search needs
 
 returns : tie.Need-returns
-returns c = search (verdict-written Unexplained)
+returns c = search (verdict-written 0)
 
 same-length-2 : tie.Need-same-length-2
 same-length-2 c = search needs
 
 returns-2 : tie.Need-returns-2
-returns-2 c = search (verdict-written Follows)
+returns-2 c = search (verdict-written 1)
 
 same-length-3 : tie.Need-same-length-3
 same-length-3 c = search needs
 
 returns-3 : tie.Need-returns-3
-returns-3 c = search (verdict-written Denied)
+returns-3 c = search (verdict-written 2)
 
 same-length-4 : tie.Need-same-length-4
 same-length-4 c = search needs
 
 returns-4 : tie.Need-returns-4
-returns-4 c = search (verdict-written Open)
+returns-4 c = search open-written
 
 pub verdict-line-spec : {M : Type 1} → statement M
 verdict-line-spec =
     tie.close
     (tie.spec
-    enum-told
     slice-aggregate-put-text
     put-text-requires
-    enum-told-2
     slice-aggregate-put-text-2
     put-text-requires-2
-    enum-told-3
     slice-aggregate-put-text-3
     put-text-requires-3
-    enum-told-4
     slice-aggregate-put-text-4
     put-text-requires-4
     same-length

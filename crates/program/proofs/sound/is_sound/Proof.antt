@@ -1,13 +1,12 @@
 -- `program::sound::is_sound` meets its contract: a phrase that fails makes the case unsound, and where the others hold
--- the formula decides. Assumes nothing.
+-- the formulas decide. Assumes nothing.
 use mathlib.Core.Path.{_≡_, _∙_}
 use mathlib.Core.Bool.{true}
 use native.Mathlib.Omega.{arith}
-use lib.ListN.{length-take}
 use borrow.Author.Needs.{needs}
 use Rattle.words.proofs.Tests.{gives-false, failed, passed}
 use Rattle.program.specs.Sound.{limitsHold}
-use Rattle.program.proofs.Soundness.{limits-atoms, clauses-held, constraints-held, nodes-held, sound-limits}
+use Rattle.program.proofs.Soundness.{limits-atoms, clauses-held, constraints-held, formulas-held, sound-limits}
 use Rattle.program.proofs.Soundness.{sound-clause-table, sound-constraint-table, sound-within, sound-causes}
 use Rattle.program.proofs.Soundness.{sound-rest}
 use Rattle.program.proofs.sound.is_sound.Statement.{statement}
@@ -23,18 +22,21 @@ limited c = c .before .before .before .before
 abbrev tabled : tie.Else4 → tie.Else3
 tabled c = c .before .before .before .before
 
+abbrev formed : tie.After-nodes → tie.Else5
+formed c = c .before
+
 -- where the limits hold
 limits-are : (c : tie.Else1) → limitsHold (entry c .args .c) ≡ true
 limits-are c = passed (c .before .limits-hold .ensures) (c .if1 .left)
 
 returns-6 : tie.Need-returns-6
 returns-6 c =
-    let o = c .before .before in
+    let o = formed (c .before .before) in
     let w = o .before .before in
     let k = tabled w in
     let l = k .before .before in
     let s = limited k in
-    c .one-formula .ensures
+    c .formulas-sound .ensures
     ∙ sound-rest _ _ _ _ (entry s .pre)
     (limits-are s)
     (passed (l .before .clauses-sound .ensures) (l .if2 .left))
@@ -87,14 +89,10 @@ causes-few-requires c κs =
 returns-5 : tie.Need-returns-5
 returns-5 c = gives-false _ _ (sound-causes _ _ _ _) (failed (c .before .causes-few .ensures) (c .if5 .taken))
 
-slice-aggregate-one-formula : tie.Need-slice-aggregate-one-formula
-slice-aggregate-one-formula c =
-    let s = limited (tabled (c .before .before .before)) in
-    let h = nodes-held _ _ _ _ (entry s .pre) (limits-are s) in
-    simp length-take (omega arith)
-
-one-formula-requires : tie.Need-one-formula-requires
-one-formula-requires c κs = search needs
+formulas-sound-requires : tie.Need-formulas-sound-requires
+formulas-sound-requires c κs =
+    let s = limited (tabled (formed (c .before) .before .before)) in
+    formulas-held _ _ _ _ (entry s .pre) (limits-are s)
 
 pub is-sound-spec : {M : Type 1} → statement M
 is-sound-spec =
@@ -112,6 +110,5 @@ is-sound-spec =
     returns-4
     causes-few-requires
     returns-5
-    slice-aggregate-one-formula
-    one-formula-requires
+    formulas-sound-requires
     returns-6)

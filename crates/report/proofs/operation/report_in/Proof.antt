@@ -5,7 +5,7 @@ use lib.Seq.{length-take-le}
 use borrow.Author.Needs.{needs}
 use Rattle.store.specs.Lent.{Lent, lent}
 use Rattle.report.proofs.Reported.{Accepted, Answered, refused-shown, accepted-report, accepted-held}
-use Rattle.report.proofs.Reported.{accepted-clauses, accepted-constraints, accepted-answered}
+use Rattle.report.proofs.Reported.{accepted-clauses, accepted-constraints, accepted-formula, accepted-answered}
 use Rattle.report.proofs.operation.report_in.Statement.{statement}
 use Rattle.report.proofs.operation.report_in.Tie as tie
 
@@ -44,7 +44,8 @@ accepted c = let q = reading (c .before) in
     accepted-report {u = filled q} (entry q .pre) (q .read .ensures) (c .if1 .left)
 
 answered : (c : tie.After-causes) → let k = asking c in let q = reading (passed k .before) in
-    Answered (entry q .args .file .now) (filled q) (c .causes .result) (k .ask .result) (k .ask .last .1 .1 .1 .1 .0)
+    Answered (entry q .args .file .now) (q .read .result) (filled q) (c .causes .result) (k .ask .result)
+    (k .ask .last .1 .1 .1 .1 .0)
 answered c =
     let k = asking c in
     let s = entry (reading (passed k .before)) .pre in
@@ -99,7 +100,7 @@ slice-aggregate-show-answer : tie.Need-slice-aggregate-show-answer
 slice-aggregate-show-answer c = sym (length-take-le _ _ (answered (c .before .before) .list-fits))
 
 show-answer-requires : tie.Need-show-answer-requires
-show-answer-requires c κs = let a = answered (c .before .before .before) in (a .names-fit, a .text-fits)
+show-answer-requires c κs = let a = answered (c .before .before .before) in (a .queries-fit, a .names-fit, a .text-fits)
 
 same-length-6 : tie.Need-same-length-6
 same-length-6 c =
@@ -112,7 +113,9 @@ same-length-7 c =
     accepted-constraints (accepted k) ∙ sym (entry (reading (k .before)) .pre .constraints-full)
 
 same-length-8 : tie.Need-same-length-8
-same-length-8 c = search needs
+same-length-8 c =
+    let k = read-before c in
+    accepted-formula (accepted k) ∙ sym (entry (reading (k .before)) .pre .formula-full)
 
 same-length-9 : tie.Need-same-length-9
 same-length-9 c = search needs

@@ -2,7 +2,7 @@
 use borrow.Author.Needs.{needs}
 use Rattle.store.proofs.Stored.{clause-kind, head-onward, head-within, clause-room, never-room}
 use Rattle.store.proofs.Stored.{skipped-stored, no-form-stored, clause-stored, never-stored, seen-stored}
-use Rattle.store.proofs.Stored.{query-stored}
+use Rattle.store.proofs.Stored.{query-room, query-stored}
 use Rattle.store.proofs.form.store_form.Statement.{statement}
 use Rattle.store.proofs.form.store_form.Tie as tie
 
@@ -11,6 +11,9 @@ store-clause-requires c κs = search (needs, clause-kind, head-onward, head-with
 
 store-constraint-requires : tie.Need-store-constraint-requires
 store-constraint-requires c κs = search (needs, never-room)
+
+store-query-requires : tie.Need-store-query-requires
+store-query-requires c κs = search (needs, query-room)
 
 returns : tie.Need-returns
 returns c = search (needs, no-form-stored)
@@ -46,7 +49,7 @@ store-form-spec =
     (λ c κs. search needs)
     (λ c κs. search needs)
     (λ c. search needs)
-    (λ c κs. search needs)
+    store-query-requires
     returns
     returns-2
     (λ c. search needs)

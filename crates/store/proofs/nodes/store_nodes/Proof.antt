@@ -16,13 +16,13 @@ use Rattle.store.proofs.nodes.store_nodes.Statement.{statement}
 use Rattle.store.proofs.nodes.store_nodes.Tie as tie
 
 abbrev Inv-loop : tie.InvT-loop
-Inv-loop l at names count nodes₀ len i₀ n₀ opened₀ nodes i n opened =
+Inv-loop l at names count nodes₀ i₀ n₀ opened₀ nodes i n opened =
     (length nodes ≡ length nodes₀)
     × Storing (rowOf names count)
-    (withNodes (nodeTable len nodes₀) (nodesFrom (rowOf names count) false (tokens (drop at l)))) l i opened n nodes
+    (withNodes (nodeTable 0 nodes₀) (nodesFrom (rowOf names count) false (tokens (drop at l)))) l i opened n nodes
 
 abbrev μ-loop : tie.MeasureT-loop
-μ-loop l at names count nodes₀ len i₀ n₀ opened₀ nodes i n opened = length l - i
+μ-loop l at names count nodes₀ i₀ n₀ opened₀ nodes i n opened = length l - i
 
 loop-holds : tie.Need-loop-holds Inv-loop μ-loop
 loop-holds c = search (needs, storing-none)

@@ -1,12 +1,8 @@
 -- `take` meets its contract: a setting that doesn't explain or isn't minimal is marked and passed, a minimal one is
 -- marked, counted and put into the list's free rest. Assumes nothing.
-use mathlib.Core.Path.{ap, _∙_}
-use lib.ListN.{take}
+use native.Mathlib.Omega.{arith}
 use borrow.Author.Needs.{needs}
-use Rattle.logic.specs.declared.interpretation.Interpretation.{Interpretation}
-use Rattle.logic.specs.Formula.{valueOf}
-use Rattle.logic.specs.Nodes.{formulaOf}
-use Rattle.logic.specs.Interpretation.{valueAt}
+use Rattle.planes.specs.Planes.{column}
 use Rattle.verdict.proofs.Taking.{room-passed, room-taken, take-other, take-larger, take-minimal}
 use Rattle.verdict.proofs.visit.take.Statement.{statement}
 use Rattle.verdict.proofs.visit.take.Tie as tie
@@ -18,8 +14,8 @@ entry c = c .before .before .before
 abbrev minimal : tie.After-put → tie.Else2
 minimal c = c .before .before
 
-abbrev listed : tie.After-taken → tie.After-put
-listed c = c .before .before .before .before .before .before
+abbrev listed : tie.After-hold → tie.After-put
+listed c = c .before .before .before .before
 
 slice-write-work : tie.Need-slice-write-work
 slice-write-work c = search needs
@@ -30,8 +26,8 @@ same-length c = search needs
 returns : tie.Need-returns
 returns c =
     let p = entry (c .before) .pre in (
-      λ J cs list₀ work₀ t l v. take-other v (p .4) t l (c .if1 .taken),
-      room-passed (p .5),
+      λ J cs list₀ work₀ t l v. take-other v (p .2) t l (c .if1 .taken),
+      room-passed (p .3),
     )
 
 slice-write-work-2 : tie.Need-slice-write-work-2
@@ -44,8 +40,8 @@ returns-2 : tie.Need-returns-2
 returns-2 c =
     let d = c .before in
     let p = entry (d .before) .pre in (
-      λ J cs list₀ work₀ t l v. take-larger v (p .4) t l (d .if1 .left) (c .if2 .taken),
-      room-passed (p .5),
+      λ J cs list₀ work₀ t l v. take-larger v (p .2) t l (d .if1 .left) (c .if2 .taken),
+      room-passed (p .3),
     )
 
 slice-write-work-3 : tie.Need-slice-write-work-3
@@ -69,17 +65,13 @@ cast-put c = search needs
 put-requires : tie.Need-put-requires
 put-requires c κs = search needs
 
-lane-requires : tie.Need-lane-requires
-lane-requires c κs = search needs
+hold-requires : tie.Need-hold-requires
+hold-requires c κs =
+    let p = entry (minimal (c .before .before .before) .before .before) .pre in
+    (p .0, omega (arith, p .3 .few), p .3 .askable)
 
-query-value-requires : tie.Need-query-value-requires
-query-value-requires c κs = search needs
-
-taken-requires : tie.Need-taken-requires
-taken-requires c κs = search needs
-
-add-t20 : tie.Need-add-t20
-add-t20 c = search needs
+add-t19 : tie.Need-add-t19
+add-t19 c = search needs
 
 same-length-3 : tie.Need-same-length-3
 same-length-3 c = search needs
@@ -91,15 +83,13 @@ returns-3 : tie.Need-returns-3
 returns-3 c =
     let d = listed c in
     let m = minimal d in
-    let a = entry (m .before .before) .args in
     let p = entry (m .before .before) .pre in
-    let query = formulaOf (take (a .c .nodes) (a .formula .now)) in (
+    let a = entry (m .before .before) .args in (
       λ J cs list₀ work₀ t l v.
-          take-minimal v (p .4) t l (m .before .if1 .left) (m .if2 .left) _ _ (c .taken .ensures)
-          (c .before .query-value .ensures (a .c .atoms) (t .is-formula)
-          ∙ ap (λ (i : Interpretation). valueOf (valueAt i) query) (c .before .before .lane .ensures) ∙ t .value-is)
+          take-minimal v (p .2) t l (m .before .if1 .left) (m .if2 .left) _ (c .hold .ensures)
           _ _ (d .put .ensures .0) (d .put .ensures .1),
-      room-taken (p .5) _ _ (c .taken .ensures) _ _ (d .put .ensures .0) (d .put .ensures .1),
+      room-taken (p .3) (column (a .t .now) (a .f .now) (a .j)) _ (c .hold .ensures) _ _ (d .put .ensures .0)
+          (d .put .ensures .1),
     )
 
 pub take-spec : {M : Type 1} → statement M
@@ -119,10 +109,8 @@ take-spec =
     part-put-end
     cast-put
     put-requires
-    lane-requires
-    query-value-requires
-    taken-requires
-    add-t20
+    hold-requires
+    add-t19
     same-length-3
     same-length-4
     returns-3)

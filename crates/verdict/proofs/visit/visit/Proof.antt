@@ -8,11 +8,11 @@ use Rattle.verdict.proofs.visit.visit.Statement.{statement}
 use Rattle.verdict.proofs.visit.visit.Tie as tie
 
 abbrev Inv-loop : tie.InvT-loop
-Inv-loop c formula e larger t f m first list₀ work₀ r₀ j₀ list work r j =
-    Visiting c formula e larger t f m first r₀ list₀ work₀ list work r j
+Inv-loop nodes formula e larger t f m first list₀ work₀ r₀ j₀ list work r j =
+    Visiting nodes formula e larger t f m first r₀ list₀ work₀ list work r j
 
 abbrev μ-loop : tie.MeasureT-loop
-μ-loop c formula e larger t f m first list₀ work₀ r₀ j₀ list work r j = m - j
+μ-loop nodes formula e larger t f m first list₀ work₀ r₀ j₀ list work r j = m - j
 
 -- the places before: the entry, the loop, the second test, and where the setting is taken
 abbrev entry : tie.At-loop Inv-loop μ-loop → tie.Start Inv-loop μ-loop
@@ -28,7 +28,7 @@ abbrev taken : tie.After-slice-known4 Inv-loop μ-loop → tie.After-take Inv-lo
 taken c = c .before .before .before .before
 
 loop-holds : tie.Need-loop-holds Inv-loop μ-loop
-loop-holds c = visiting-start (c .before .before .before .pre .5)
+loop-holds c = visiting-start (c .before .before .before .pre .3)
 
 test-requires : tie.Need-test-requires Inv-loop μ-loop
 test-requires c κs = search needs
@@ -47,7 +47,7 @@ take-requires c κs =
     let d = looped (tested c) in
     let p = entry d .pre in
     let i = d .loop .inv in
-    (p .0, p .1, omega arith, omega arith, omega (arith, i .work-size), i .room)
+    (omega arith, omega arith, omega (arith, i .work-size), i .room)
 
 add-j : tie.Need-add-j Inv-loop μ-loop
 add-j c = search needs

@@ -5,7 +5,8 @@ use Prim.Native.Nat.{_-_}
 use native.Mathlib.Omega.{arith}
 use lib.ListN.{getD-replicate}
 use borrow.Author.Needs.{needs}
-use Rattle.walk.proofs.Bounds.{constraints-fit, nodes-fit}
+use Rattle.program.proofs.Soundness.{sound-formulas}
+use Rattle.walk.proofs.Bounds.{constraints-fit}
 use Rattle.verdict.proofs.Leaving.{list-kept}
 use Rattle.walk.proofs.Blocks.{Walking, walking-start, end-few, weights-few, word-inside, walking-room}
 use Rattle.walk.proofs.Blocks.{walking-work, lanes-planes, rounds-fit, walking-next, walking-end}
@@ -13,13 +14,13 @@ use Rattle.walk.proofs.walk.visit_all.Statement.{statement}
 use Rattle.walk.proofs.walk.visit_all.Tie as tie
 
 abbrev Inv-loop : tie.InvT-loop
-Inv-loop c clauses constraints formula causes opening dependents last prev weights ot of oh end list₀ work₀ row₀ found₀
-    rounds₀ added₀ b₀ s₀ list work row found rounds added b s =
+Inv-loop c clauses constraints formula causes opening dependents last prev weights ot of oh end list₀ work₀ row₀ nodes
+    found₀ rounds₀ added₀ b₀ s₀ list work row found rounds added b s =
     Walking c clauses constraints formula causes end list₀ work₀ list work row found rounds added b s
 
 abbrev μ-loop : tie.MeasureT-loop
-μ-loop c clauses constraints formula causes opening dependents last prev weights ot of oh end list₀ work₀ row₀ found₀
-    rounds₀ added₀ b₀ s₀ list work row found rounds added b s = end - s
+μ-loop c clauses constraints formula causes opening dependents last prev weights ot of oh end list₀ work₀ row₀ nodes
+    found₀ rounds₀ added₀ b₀ s₀ list work row found rounds added b s = end - s
 
 -- ---- the places before, from the last to the first
 abbrev visited : tie.After-slice-known4 Inv-loop μ-loop → tie.After-visit Inv-loop μ-loop
@@ -29,7 +30,7 @@ abbrev lent : tie.After-visit Inv-loop μ-loop → tie.After-visit-arg2 Inv-loop
 lent c = c .before
 
 abbrev covered : tie.After-visit-arg2 Inv-loop μ-loop → tie.After-cover Inv-loop μ-loop
-covered c = c .before .before .before .before
+covered c = c .before .before .before .before .before
 
 abbrev judged : tie.After-y3 Inv-loop μ-loop → tie.After-explaining Inv-loop μ-loop
 judged c = c .before .before .before
@@ -46,8 +47,11 @@ turned c = c .before .before .before .before
 abbrev looped : tie.In-loop Inv-loop μ-loop → tie.At-loop Inv-loop μ-loop
 looped c = c .before
 
+abbrev begun : tie.After-none Inv-loop μ-loop → tie.Start Inv-loop μ-loop
+begun c = c .before .before .before .before .before .before .before
+
 abbrev entry : tie.At-loop Inv-loop μ-loop → tie.Start Inv-loop μ-loop
-entry c = c .before .before .before .before .before .before .before
+entry c = begun (c .before)
 
 -- from one call to the call before
 abbrev explained : tie.After-cover Inv-loop μ-loop → tie.After-explaining Inv-loop μ-loop
@@ -65,11 +69,11 @@ turn c = turned (counted c)
 
 -- ---- the needs
 none-requires : tie.Need-none-requires Inv-loop μ-loop
-none-requires c κs = search needs
+none-requires c κs = sound-formulas _ _ _ _ (c .before .before .before .before .before .before .pre .0 .is-sound)
 
 loop-holds : tie.Need-loop-holds Inv-loop μ-loop
 loop-holds c =
-    let p = c .before .before .before .before .before .before .pre in
+    let p = begun c .pre in
     rw (c .none .ensures) (walking-start (p .0) _ (p .2))
 
 fill-requires : tie.Need-fill-requires Inv-loop μ-loop
@@ -135,10 +139,7 @@ visit-requires c κs =
     let t = turn d in
     let p = entry (looped t) .pre .0 in
     let i = looped t .loop .inv in
-    let n = nodes-fit _ _ _ _ (p .is-sound) in
     let m = counted d .lanes-of .ensures in (
-      n .0,
-      n .1,
       omega (arith, m),
       omega (arith, m, end-few p, t .loop-test .taken),
       omega (arith, m, walking-work p i, p .work-long, t .loop-test .taken),

@@ -1,7 +1,7 @@
--- `embed::verdict_number` meets its contract: each arm is a line of `verdictNumber`. Assumes nothing.
+-- `number` meets its contract: each arm is a line of `verdictNumber`. Assumes nothing.
 use borrow.Author.Needs.{needs}
-use Rattle.embed.proofs.verdict_number.Statement.{statement}
-use Rattle.embed.proofs.verdict_number.Tie as tie
+use Rattle.verdict.proofs.verdict.Verdict.number.Statement.{statement}
+use Rattle.verdict.proofs.verdict.Verdict.number.Tie as tie
 
 enum-told : tie.Need-enum-told
 enum-told c = search needs
@@ -27,6 +27,6 @@ returns-3 c = search needs
 returns-4 : tie.Need-returns-4
 returns-4 c = search needs
 
-pub verdict-number-spec : {M : Type 1} → statement M
-verdict-number-spec =
+pub number-spec : {M : Type 1} → statement M
+number-spec =
     tie.close (tie.spec enum-told enum-told-2 enum-told-3 enum-told-4 returns returns-2 returns-3 returns-4)
