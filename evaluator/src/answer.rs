@@ -1,6 +1,6 @@
 //! The text that `causes` should write for a file.
 //!
-//! From: document 01, The program `causes`.
+//! From: document 01, The program `causes`; document 02, [1].
 
 use crate::file::{read, Refusal};
 use crate::question::{ask, digits, Findings, Verdict};
@@ -8,11 +8,11 @@ use crate::question::{ask, digits, Findings, Verdict};
 /// The slots of the program's list.
 pub const LIST_SLOTS: usize = 1_024;
 
-/// What a file should get: the text, and for the summary of a run the refusal, or the verdict and the number m; how many
+/// What a file should get: the text, and for the summary of a run the refusal, or the verdicts and the number m; how many
 /// settings were settled, and in how many of them every model was gone through.
 pub struct Answer {
     pub text: String,
-    pub result: Result<(Verdict, usize), Refusal>,
+    pub result: Result<(Vec<Verdict>, usize), Refusal>,
     pub settings: usize,
     pub searched: usize,
 }
@@ -27,24 +27,19 @@ pub fn answer(bytes: &[u8]) -> Answer {
         Ok(case) => {
             let names = case.names.clone();
             let findings = ask(case);
-            let result = Ok((findings.verdict, findings.minimal.len()));
+            let text = text(&findings, &names);
             let (settings, searched) = (findings.explains.len(), findings.searched);
-            Answer { text: text(&findings, &names), result, settings, searched }
+            Answer { text, result: Ok((findings.verdicts, findings.minimal.len())), settings, searched }
         }
     }
 }
 
 /// The lines that give `findings`, with atoms named by `names`.
 fn text(findings: &Findings, names: &[String]) -> String {
-    let verdict = match findings.verdict {
-        Verdict::Unexplained => "unexplained",
-        Verdict::Follows => "follows",
-        Verdict::Denied => "denied",
-        Verdict::Open => "open",
-    };
     let found = findings.minimal.len();
     let listed = found.min(LIST_SLOTS);
-    let mut text = format!("(verdict {verdict})\n(rounds {})\n(minimal {found} {listed})\n", findings.rounds);
+    let mut text: String = findings.verdicts.iter().map(|v| format!("(verdict {})\n", v.word())).collect();
+    text.push_str(&format!("(rounds {})\n(minimal {found} {listed})\n", findings.rounds));
     for setting in &findings.minimal[..listed] {
         text.push_str("(cause");
         for (cause, digit) in findings.causes.iter().zip(digits(*setting, 3, findings.causes.len())) {

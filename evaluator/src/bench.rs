@@ -1,10 +1,12 @@
-//! One test: a program's run on a stored or generated file, compared with what is expected.
+//! One test: a program's run on a stored or generated file, or the evaluator's answer to a vector, compared with what is
+//! expected.
 
 use crate::answer::{answer, Answer};
 use crate::compare::{differing, shown, unmeant};
 use crate::run::{bad_end, run, Fault, Input};
 use crate::sample::sample;
-use std::panic::catch_unwind;
+use crate::vectors::Vector;
+use std::panic::{catch_unwind, UnwindSafe};
 use std::path::{Path, PathBuf};
 use std::sync::atomic::{AtomicUsize, Ordering};
 use std::time::Duration;
@@ -15,9 +17,10 @@ const TIMEOUTS: usize = 3;
 /// Of so many generated files one is written to the program in two parts.
 const HALVED: u64 = 500;
 
-/// A test: a stored file, or the generated file of a seed.
+/// A test: a stored file, a vector with the file that gives its operation, or the generated file of a seed.
 pub enum Test {
     Stored(PathBuf),
+    Vector(PathBuf),
     Generated(u64),
 }
 
@@ -38,15 +41,32 @@ impl Test {
     /// The path or the seed.
     pub fn name(&self) -> String {
         match self {
-            Test::Stored(path) => path.display().to_string(),
+            Test::Stored(path) | Test::Vector(path) => path.display().to_string(),
             Test::Generated(seed) => format!("seed {seed}"),
+        }
+    }
+
+    /// The tests among which this one is counted: the folder of a file, and of a vector that it calls an operation.
+    pub fn group(&self) -> String {
+        let folder = |path: &Path| path.parent().unwrap_or(path).display().to_string();
+        match self {
+            Test::Stored(path) => folder(path),
+            Test::Vector(path) => folder(path) + ", operations",
+            Test::Generated(_) => String::from("generated"),
         }
     }
 }
 
-/// The evaluator's answer to `bytes`, or the complaint that a check within it failed.
-fn evaluated(bytes: &[u8]) -> Result<Answer, String> {
-    catch_unwind(|| answer(bytes)).map_err(|_| String::from("the evaluator contradicts itself"))
+/// What `evaluate` gives, or the complaint that a check within it failed.
+fn evaluated<T>(evaluate: impl FnOnce() -> T + UnwindSafe) -> Result<T, String> {
+    catch_unwind(evaluate).map_err(|_| String::from("the evaluator contradicts itself"))
+}
+
+/// Compares the evaluator's answer to the operation in the file `path` with the one that stands beside it.
+fn answered(path: &Path) -> Result<Outcome, String> {
+    let vector = Vector::load(path)?;
+    let own = evaluated(|| vector.answer().text())?;
+    Ok(Outcome { own: None, complaint: differing("stored answer", vector.expected.as_bytes(), own.as_bytes()) })
 }
 
 impl Bench {
@@ -88,7 +108,7 @@ impl Bench {
     fn stored(&self, path: &Path) -> Result<Outcome, String> {
         let bytes = std::fs::read(path).map_err(|e| format!("cannot be read: {e}"))?;
         let kept = std::fs::read(path.with_extension("out")).map_err(|e| format!("no stored answer: {e}"))?;
-        let own = evaluated(&bytes)?;
+        let own = evaluated(|| answer(&bytes))?;
         let expected = [("stored answer", kept.as_slice()), ("evaluator", own.text.as_bytes())];
         let complaint = self.compared(Input::Stored(path.to_path_buf()), &expected).err();
         Ok(Outcome { own: Some(own), complaint })
@@ -97,7 +117,7 @@ impl Bench {
     /// Runs the generated file of `seed`.
     fn generated(&self, seed: u64) -> Result<Outcome, String> {
         let made = sample(seed);
-        let own = evaluated(&made.bytes)?;
+        let own = evaluated(|| answer(&made.bytes))?;
         let input = if seed % HALVED == 2 { Input::Halved(made.bytes) } else { Input::Piped(made.bytes) };
         let expected = [("evaluator", own.text.as_bytes())];
         let complaint = unmeant(made.due, &own).or_else(|| self.compared(input, &expected).err());
@@ -108,6 +128,7 @@ impl Bench {
     pub fn outcome(&self, test: &Test) -> Outcome {
         let outcome = match test {
             Test::Stored(path) => self.stored(path),
+            Test::Vector(path) => answered(path),
             Test::Generated(seed) => self.generated(*seed),
         };
         outcome.unwrap_or_else(|complaint| Outcome { own: None, complaint: Some(complaint) })

@@ -19,14 +19,14 @@ pub struct Clause {
     pub body: Body,
 }
 
-/// A case: names by atom number, clauses, constraints and observations in file order, and the query.
+/// A case: names by atom number; clauses, constraints, observations and queries in file order.
 #[derive(Clone)]
 pub struct Case {
     pub names: Vec<String>,
     pub clauses: Vec<Clause>,
     pub constraints: Vec<Vec<Literal<usize>>>,
     pub observations: Vec<Literal<usize>>,
-    pub query: Formula<usize>,
+    pub queries: Vec<Formula<usize>>,
 }
 
 /// The atoms among the first `atoms` that head none of `clauses`, in atom order.

@@ -13,19 +13,30 @@ use std::time::Duration;
 /// The threads that run tests.
 const THREADS: usize = 2;
 
-/// The case files under `folder` and its folders, sorted by path.
-pub fn case_files(folder: &Path) -> std::io::Result<Vec<PathBuf>> {
+/// The files under `folder` and its folders with the extension `extension`, sorted by path.
+fn files(folder: &Path, extension: &str) -> std::io::Result<Vec<PathBuf>> {
     let mut found = Vec::new();
     for entry in std::fs::read_dir(folder)? {
         let path = entry?.path();
         if path.is_dir() {
-            found.extend(case_files(&path)?);
-        } else if path.extension().is_some_and(|e| e == "case") {
+            found.extend(files(&path, extension)?);
+        } else if path.extension().is_some_and(|e| e == extension) {
             found.push(path);
         }
     }
     found.sort();
     Ok(found)
+}
+
+/// The case files under `folder` and its folders that have their report beside them, sorted by path.
+pub fn case_files(folder: &Path) -> std::io::Result<Vec<PathBuf>> {
+    let all = files(folder, "case")?;
+    Ok(all.into_iter().filter(|path| !path.with_extension("args").exists()).collect())
+}
+
+/// The files under `folder` and its folders that give the operation of a vector, sorted by path.
+pub fn vector_files(folder: &Path) -> std::io::Result<Vec<PathBuf>> {
+    files(folder, "args")
 }
 
 /// The outcomes of `tests` in their order.
@@ -55,37 +66,40 @@ struct Counts {
     searched: usize,
 }
 
-/// The case files under `folders`; a folder without any is a failure.
-fn stored_files(folders: &[&Path], failures: &mut Vec<String>) -> Vec<PathBuf> {
-    let mut stored = Vec::new();
+/// The tests of the files under `folders`; a folder without a case file is a failure.
+fn stored_tests(folders: &[&Path], failures: &mut Vec<String>) -> Vec<Test> {
+    let mut tests = Vec::new();
     for folder in folders {
-        match case_files(folder) {
-            Ok(found) if found.is_empty() => failures.push(format!("{}: no case files", folder.display())),
-            Ok(found) => stored.extend(found),
+        match case_files(folder).and_then(|cases| Ok((cases, vector_files(folder)?))) {
+            Ok((cases, _)) if cases.is_empty() => failures.push(format!("{}: no case files", folder.display())),
+            Ok((cases, vectors)) => {
+                tests.extend(cases.into_iter().map(Test::Stored));
+                tests.extend(vectors.into_iter().map(Test::Vector));
+            }
             Err(e) => failures.push(format!("{}: {e}", folder.display())),
         }
     }
-    stored
+    tests
 }
 
-/// The folders of `files`, each with the number of its files.
-fn by_folder(files: &[PathBuf]) -> BTreeMap<&Path, usize> {
-    let mut counts = BTreeMap::new();
-    for folder in files.iter().filter_map(|file| file.parent()) {
-        *counts.entry(folder).or_insert(0) += 1;
+/// A line for each folder of the files of `tests`, and each kind of them, with their number.
+fn by_folder(tests: &[Test]) -> Vec<String> {
+    let mut counts: BTreeMap<String, usize> = BTreeMap::new();
+    for test in tests {
+        *counts.entry(test.group()).or_insert(0) += 1;
     }
-    counts
+    counts.into_iter().map(|(group, count)| format!("{group}: {count} stored files")).collect()
 }
 
 /// Runs `program` on the case files under `folders` and on the generated files, each for at most `limit`; answers
 /// whether all passed.
 pub fn check(program: &Path, folders: &[&Path], limit: Duration) -> bool {
     let mut failures = Vec::new();
-    let stored = stored_files(folders, &mut failures);
-    for (folder, count) in by_folder(&stored) {
-        println!("{}: {count} stored files", folder.display());
+    let mut tests = stored_tests(folders, &mut failures);
+    for line in by_folder(&tests) {
+        println!("{line}");
     }
-    let tests: Vec<Test> = stored.into_iter().map(Test::Stored).chain((0..SAMPLES).map(Test::Generated)).collect();
+    tests.extend((0..SAMPLES).map(Test::Generated));
     let mut tally = Tally::default();
     let mut counts = Counts::default();
     for (test, outcome) in tests.iter().zip(outcomes(&Bench::new(program, limit), &tests)) {

@@ -25,7 +25,7 @@ pub fn differing(source: &str, expected: &[u8], got: &[u8]) -> Option<String> {
 
 /// The complaint that `answer` is not what the generator meant, none if it is.
 pub fn unmeant(due: Due, answer: &Answer) -> Option<String> {
-    let number = answer.result.err().map(|refusal| refusal.number);
+    let number = answer.result.as_ref().err().map(|refusal| refusal.number);
     let meant = match due {
         Due::Unknown => number,
         Due::Read => None,

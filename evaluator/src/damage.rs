@@ -1,6 +1,6 @@
-//! Damage done to a case file: to its bytes, to its lines, and to what document 01 limits.
+//! Damage done to a case file: to its bytes, to its lines, and to what documents 01 and 02 limit.
 
-use crate::file::{ATOMS, CAUSES, CLAUSES, CONSTRAINTS, DEPTH, FILE_BYTES, LINE_BYTES};
+use crate::file::{ATOMS, CAUSES, CLAUSES, CONSTRAINTS, DEPTH, FILE_BYTES, LINE_BYTES, QUERIES};
 use crate::layout::joined;
 use crate::names::drawn_name;
 use crate::random::Random;
@@ -94,7 +94,7 @@ fn lengthen_word(random: &mut Random, line: &mut Vec<u8>) {
     }
 }
 
-/// `bytes` with lines added, or its query wrapped or left out, so that a limit is met or passed.
+/// `bytes` with lines added, or its queries left out, so that a limit is met or passed.
 fn past_a_limit(random: &mut Random, mut bytes: Vec<u8>) -> Vec<u8> {
     let around = random.below(3);
     let line = |i: usize| match i % 3 {
@@ -107,7 +107,7 @@ fn past_a_limit(random: &mut Random, mut bytes: Vec<u8>) -> Vec<u8> {
         1 => (0..CLAUSES - 20 + 10 * around).map(line).collect(),
         2 => (0..CONSTRAINTS - 2 + around).map(|_| String::from("(never n0 (not n0))\n")).collect(),
         3 => (0..CAUSES - 4 + 3 * around).map(|i| format!("(seen (not y{i}))\n")).collect(),
-        4 => String::from("(query n0)\n"),
+        4 => "(query n0)\n".repeat(QUERIES - 2 + around),
         5 => format!("(query {}n0{})\n", "(not ".repeat(DEPTH - 2 + around), ")".repeat(DEPTH - 2 + around)),
         6 => format!("(never n0 {})\n", drawn_name(random, 15 + around)),
         7 => return without_query(&bytes),

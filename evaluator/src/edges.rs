@@ -1,9 +1,9 @@
-//! Files at the limits of document 01, each limit from both sides.
+//! Files at the limits of documents 01 and 02, each limit from both sides.
 //!
-//! From: document 01, The file; What each operation refuses (Reading); Edges.
+//! From: document 01, The file; What each operation refuses (Reading); Edges; document 02, [1].
 
-use crate::families::{formula, literal};
-use crate::file::{ATOMS, CAUSES, CLAUSES, CONSTRAINTS, DEPTH, FILE_BYTES, LINE_BYTES, NAME_BYTES};
+use crate::families::{formula, literal, queries};
+use crate::file::{ATOMS, CAUSES, CLAUSES, CONSTRAINTS, DEPTH, FILE_BYTES, LINE_BYTES, NAME_BYTES, QUERIES};
 use crate::layout::{file, joined};
 use crate::names::{drawn_name, names};
 use crate::random::Random;
@@ -30,6 +30,12 @@ fn sample(bytes: Vec<u8>, past: usize, number: u32) -> Sample {
     Sample { bytes, due: if past == 0 { Due::Read } else { Due::Refused(number) } }
 }
 
+/// Queries of `name`: at most 15, so that a further one is lawful, or with `past` = 1 at most 16.
+fn asked_before(random: &mut Random, name: &str, past: usize) -> Vec<String> {
+    let count = *random.pick(&[1, 2, QUERIES - 2 + past, QUERIES - 1 + past]);
+    vec![format!("(query {name})"); count]
+}
+
 /// 64 names, or 65.
 fn atom_count(random: &mut Random, past: usize) -> Sample {
     let all = names(random, ATOMS + past);
@@ -44,7 +50,7 @@ fn atom_count(random: &mut Random, past: usize) -> Sample {
         });
     }
     if past == 1 && random.chance(30) {
-        lines.push(format!("(query {})", heads[0]));
+        lines.extend(asked_before(random, &heads[0], past));
         lines.push(format!("(query (or (and {} {}) (then {} {})))", rest[0], rest[1], rest[2], rest[3]));
     } else {
         lines.push(format!("(query {})", heads[1]));
@@ -78,7 +84,7 @@ fn cause_count(random: &mut Random, past: usize) -> Sample {
     let mut lines = vec![format!("(if low {})", all[..cut].join(" "))];
     lines.push(format!("(never {})", all[cut..].join(" ")));
     lines.push(String::from("(seen low)"));
-    lines.push(format!("(query {})", formula(random, &all, 3)));
+    lines.extend(queries(random, &all, 3));
     sample(file(random, &lines), past, 12)
 }
 
@@ -93,10 +99,11 @@ fn formula_depth(random: &mut Random, past: usize) -> Sample {
             _ => format!("(not {deep})"),
         };
     }
-    let mut lines = vec![String::from("(true b)"), format!("(query {deep})")];
-    if past == 1 && random.chance(30) {
-        lines.insert(0, String::from("(query b)"));
+    let mut lines = vec![String::from("(true b)")];
+    if random.chance(40) {
+        lines.extend(asked_before(random, "b", past));
     }
+    lines.push(format!("(query {deep})"));
     sample(file(random, &lines), past, 7)
 }
 
@@ -159,11 +166,12 @@ fn file_length(random: &mut Random, past: usize) -> Sample {
     sample(bytes, past, 2)
 }
 
-/// One query; with `past` = 1 none or a second one.
+/// 16 queries, or 17; with `past` = 1 in half of the draws none.
 fn query_count(random: &mut Random, past: usize) -> Sample {
-    let mut lines = vec![String::from("(if low shut)"), String::from("(seen low)")];
+    let all = [String::from("low"), String::from("shut"), String::from("open")];
+    let mut lines = vec![String::from("(if low shut (not open))"), String::from("(seen low)")];
     if past == 0 || random.chance(50) {
-        lines.extend(vec![String::from("(query shut)"); 1 + past]);
+        lines.extend((0..QUERIES + past).map(|_| format!("(query {})", formula(random, &all, 3))));
         random.shuffle(&mut lines);
         return sample(file(random, &lines), past, 10);
     }

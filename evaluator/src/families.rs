@@ -1,7 +1,7 @@
 //! Families of lawful case files, as lines of forms: scattered and layered programs, diagnoses, wide
 //! programs and chains.
 
-use crate::file::{ATOMS, CLAUSES};
+use crate::file::{ATOMS, CLAUSES, QUERIES};
 use crate::names::names;
 use crate::random::Random;
 
@@ -55,8 +55,19 @@ fn clause(random: &mut Random, head: &str, atoms: &[String]) -> String {
     }
 }
 
-/// Readings, constraints and the query: `heads` are read more often than other atoms.
-fn asked(random: &mut Random, heads: &[String], atoms: &[String]) -> Vec<String> {
+/// The lines of one query in half of the draws, otherwise of up to 16, each over `atoms` and of depth at most `depth`.
+pub fn queries(random: &mut Random, atoms: &[String], depth: usize) -> Vec<String> {
+    let count = match random.below(10) {
+        0..=4 => 1,
+        5..=7 => random.between(2, 4),
+        8 => random.between(5, QUERIES - 1),
+        _ => QUERIES,
+    };
+    (0..count).map(|_| format!("(query {})", formula(random, atoms, depth))).collect()
+}
+
+/// Readings and constraints: `heads` are read more often than other atoms.
+fn readings(random: &mut Random, heads: &[String], atoms: &[String]) -> Vec<String> {
     let mut lines = Vec::new();
     for _ in 0..*random.pick(&[0, 1, 1, 1, 2, 2, 3]) {
         let from = if heads.is_empty() || random.chance(20) { atoms } else { heads };
@@ -66,8 +77,6 @@ fn asked(random: &mut Random, heads: &[String], atoms: &[String]) -> Vec<String>
     for _ in 0..*random.pick(&[0, 0, 0, 1, 1, 2, 3]) {
         lines.push(format!("(never {})", body(random, atoms)));
     }
-    let depth = *random.pick(&[1, 1, 2, 2, 3, 4]);
-    lines.push(format!("(query {})", formula(random, atoms, depth)));
     lines
 }
 
@@ -86,8 +95,7 @@ pub fn program(random: &mut Random, causes: usize, defined: usize, layered: bool
             });
         }
     }
-    lines.extend(asked(random, &atoms[causes..], &atoms));
-    finished(random, lines)
+    asked(random, lines, &atoms[causes..], &atoms)
 }
 
 /// The lines of a diagnosis: `readings` heads, each with rules from one or two causes, or an earlier head, under an
@@ -119,8 +127,8 @@ pub fn diagnosis(random: &mut Random, causes: usize, readings: usize) -> Vec<Str
     }
     let depth = random.between(1, 3);
     let from = if random.chance(60) { &sources[..causes] } else { sources };
-    lines.push(format!("(query {})", formula(random, from, depth)));
-    finished(random, lines)
+    let queries = queries(random, from, depth);
+    finished(random, lines, queries)
 }
 
 /// The lines of a program with many clauses on up to 64 atoms.
@@ -133,8 +141,7 @@ pub fn wide(random: &mut Random, causes: usize) -> Vec<String> {
         let head = if at < defined { &atoms[causes + at] } else { random.pick(&atoms[causes..]) };
         lines.push(clause(random, head, &atoms));
     }
-    lines.extend(asked(random, &atoms[causes..], &atoms));
-    finished(random, lines)
+    asked(random, lines, &atoms[causes..], &atoms)
 }
 
 /// The lines of a chain of `links` rules behind `causes` starts, with assumed abnormalities in some of the links.
@@ -154,17 +161,25 @@ pub fn chain(random: &mut Random, causes: usize, links: usize) -> Vec<String> {
     }
     let end = literal(random, &chain[chain.len() - 1], 30);
     lines.push(format!("(seen {end})"));
-    let asked = if random.chance(50) { formula(random, starts, 3) } else { random.pick(&atoms).clone() };
-    lines.push(format!("(query {asked})"));
-    finished(random, lines)
+    let queries = if random.chance(50) { queries(random, starts, 3) } else { queries(random, &atoms, 1) };
+    finished(random, lines, queries)
 }
 
-/// `lines` with some of the first repeated and, in half of the draws, in a drawn order.
-fn finished(random: &mut Random, mut lines: Vec<String>) -> Vec<String> {
-    if lines.len() > 1 && random.chance(25) {
-        let again = lines[random.below(lines.len() - 1)].clone();
+/// `clauses` with readings, constraints and queries behind them.
+fn asked(random: &mut Random, mut clauses: Vec<String>, heads: &[String], atoms: &[String]) -> Vec<String> {
+    clauses.extend(readings(random, heads, atoms));
+    let depth = *random.pick(&[1, 1, 2, 2, 3, 4]);
+    let queries = queries(random, atoms, depth);
+    finished(random, clauses, queries)
+}
+
+/// `lines`, one of them repeated now and then, with `queries` behind them or, in half of the draws, in a drawn order.
+fn finished(random: &mut Random, mut lines: Vec<String>, queries: Vec<String>) -> Vec<String> {
+    if !lines.is_empty() && random.chance(25) {
+        let again = random.pick(&lines).clone();
         lines.insert(0, again);
     }
+    lines.extend(queries);
     if random.chance(50) {
         random.shuffle(&mut lines);
     }

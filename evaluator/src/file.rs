@@ -1,6 +1,6 @@
 //! Reading a case file: each line is taken through the checks 3 to 10, one after the other over the whole line.
 //!
-//! From: document 01, The file; What each operation refuses (Reading).
+//! From: document 01, The file; What each operation refuses (Reading); document 02, [1].
 
 use crate::case::{causes, Body, Case, Clause};
 use crate::form::{form, Form};
@@ -15,6 +15,7 @@ pub const ATOMS: usize = 64;
 pub const CLAUSES: usize = 256;
 pub const CONSTRAINTS: usize = 32;
 pub const CAUSES: usize = 10;
+pub const QUERIES: usize = 16;
 
 /// A refusal: its number and the line, 0 where no line is at fault.
 #[derive(Clone, Copy)]
@@ -30,7 +31,7 @@ struct Reading {
     clauses: Vec<Clause>,
     constraints: Vec<Vec<Literal<usize>>>,
     observations: Vec<Literal<usize>>,
-    query: Option<Formula<usize>>,
+    queries: Vec<Formula<usize>>,
 }
 
 /// The case that `bytes` describes, or the refusal.
@@ -97,7 +98,7 @@ impl Reading {
         if self.is_full_for(&said) {
             return Err(9);
         }
-        if matches!(said, Form::Query(_)) && self.query.is_some() {
+        if matches!(said, Form::Query(_)) && self.queries.len() == QUERIES {
             return Err(10);
         }
         self.add(said);
@@ -132,13 +133,15 @@ impl Reading {
             Form::Rule(n, body) => self.clauses.push(clause(self.atom(&n), Body::All(self.numbered(&body)))),
             Form::Never(body) => self.constraints.push(self.numbered(&body)),
             Form::Seen(l) => self.observations.extend(self.numbered(&[l])),
-            Form::Query(f) => self.query = Some(f.map(&|n| self.atom(n))),
+            Form::Query(f) => self.queries.push(f.map(&|n| self.atom(n))),
         }
     }
 
     /// The case that all lines give, or the number of the check at the end of the file that fails.
     fn close(self) -> Result<Case, u32> {
-        let query = self.query.ok_or(11u32)?;
+        if self.queries.is_empty() {
+            return Err(11);
+        }
         if causes(self.names.len(), &self.clauses).len() > CAUSES {
             return Err(12);
         }
@@ -147,7 +150,7 @@ impl Reading {
             clauses: self.clauses,
             constraints: self.constraints,
             observations: self.observations,
-            query,
+            queries: self.queries,
         })
     }
 }

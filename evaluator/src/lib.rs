@@ -5,7 +5,8 @@
 //! | formula, case | values and formulas; what a case file says |
 //! | tree, form, file | a line as a tree, the form of a tree, the checks of a file |
 //! | model, completion | the step and its iterates; models of the weak completion |
-//! | question, answer | minimal explanations and the verdict, the text of the answer |
+//! | verdict, question, answer | the verdict on a query, minimal explanations, the text of the answer |
+//! | held, plain, vectors | the record and the tables of a case, the plain form, the vectors of operations |
 //! | random, names, layout, families | drawn lawful files |
 //! | edges, lists, damage, sample | files at the limits, damaged files, the file of a seed |
 //! | run, compare, tally, bench, check | the driver |
@@ -23,10 +24,12 @@ pub mod families;
 pub mod file;
 pub mod form;
 pub mod formula;
+pub mod held;
 pub mod layout;
 pub mod lists;
 pub mod model;
 pub mod names;
+pub mod plain;
 pub mod question;
 pub mod random;
 pub mod run;
@@ -34,3 +37,5 @@ pub mod sample;
 pub mod tables;
 pub mod tally;
 pub mod tree;
+pub mod vectors;
+pub mod verdict;

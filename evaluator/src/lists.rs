@@ -3,7 +3,7 @@
 //! Ten causes, each with an atom that is true where the cause is decided. A reading that needs nine or all ten of these
 //! atoms has one minimal setting for each way to decide so many causes.
 
-use crate::families::formula;
+use crate::families::queries;
 use crate::file::CAUSES;
 use crate::layout::file;
 use crate::random::Random;
@@ -44,6 +44,6 @@ pub fn list_edge(random: &mut Random, kind: usize) -> Sample {
     random.shuffle(&mut lines);
     let causes: Vec<String> = (0..CAUSES).map(|i| format!("c{i}")).collect();
     lines.push(String::from("(seen low)"));
-    lines.push(format!("(query {})", formula(random, &causes, 3)));
+    lines.extend(queries(random, &causes, 3));
     Sample { bytes: file(random, &lines), due: Due::Read }
 }

@@ -1,6 +1,7 @@
 //! The program `evaluator`: answers a file, checks a program, writes a generated file or a table of the manual.
 
 use evaluator::case::Case;
+use evaluator::vectors::Vector;
 use evaluator::{answer, check, file, sample, tables};
 use std::io::{Read, Write};
 use std::path::Path;
@@ -9,6 +10,7 @@ use std::time::Duration;
 
 /// How the program is called.
 const USAGE: &str = "evaluator answer < FILE
+evaluator operation NAME.args
 evaluator check PROGRAM SECONDS FOLDER..
 evaluator sample SEED
 evaluator settings NAME.. < FILE
@@ -20,6 +22,12 @@ fn answer_input() -> std::io::Result<()> {
     let mut bytes = Vec::new();
     std::io::stdin().read_to_end(&mut bytes)?;
     std::io::stdout().write_all(answer::answer(&bytes).text.as_bytes())
+}
+
+/// Writes what the operation in the file `path` should answer; whether that can be done.
+fn operation(path: &str) -> bool {
+    let vector = Vector::load(Path::new(path)).inspect_err(|e| eprintln!("{path}: {e}"));
+    vector.is_ok_and(|v| std::io::stdout().write_all(v.answer().text().as_bytes()).is_ok())
 }
 
 /// Writes the rows that `table` makes of the case on standard input, which is lawful.
@@ -45,6 +53,7 @@ fn main() -> ExitCode {
     let words: Vec<&str> = arguments.iter().map(String::as_str).collect();
     let done = match words.as_slice() {
         ["answer"] => answer_input().is_ok(),
+        ["operation", path] => operation(path),
         ["check", program, seconds, folders @ ..] => seconds.parse().is_ok_and(|s| check(program, s, folders)),
         ["sample", seed] => seed.parse().is_ok_and(|s| std::io::stdout().write_all(&sample::sample(s).bytes).is_ok()),
         ["settings", shown @ ..] => rows(|case| tables::settings(case, shown)),

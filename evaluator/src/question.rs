@@ -1,18 +1,20 @@
-//! The question: which settings explain, which of these are minimal, and the verdict.
+//! The question: which settings explain, which of these are minimal, and the verdict on each query.
 //!
-//! From: document 01, Causes, settings, explanations; The question.
+//! From: document 01, Causes, settings, explanations; The question; document 02, [1].
 //!
 //! | name | meaning |
 //! |---|---|
 //! | `Choice` | what a set gives a cause |
 //! | `Judged` | what is found of a set |
 //! | `Engine` | a case ready to have sets added |
-//! | `Verdict`, `Findings` | the question's answer |
+//! | `Findings` | the question's answer |
+//! | `ask` | the answer, by one walk for all queries and by one for each |
 
 use crate::case::{causes, Body, Case};
 use crate::completion::{search_order, Completion, SearchOrder};
-use crate::formula::{Formula, Literal, Value, FALSE, TRUE};
+use crate::formula::{Formula, Literal, Value, TRUE};
 use crate::model::Program;
+pub use crate::verdict::Verdict;
 
 /// The values tried in the search for the models of a setting: so many over all settings of a case, and no fewer than
 /// `LEAST_TRIES` for each.
@@ -34,46 +36,39 @@ enum Choice {
 /// The choices by digit: the first three are those of a setting.
 const CHOICES: [Choice; 4] = [Choice::Nothing, Choice::Fact, Choice::Assumption, Choice::Both];
 
-/// What is found of a set: whether it explains, the query's value and the round count.
+/// What is found of a set: whether it explains, the value of each query and the round count.
 struct Judged {
     explains: bool,
-    query: Value,
+    queries: Vec<Value>,
     rounds: u64,
 }
 
-/// The verdict on a query.
-#[derive(Clone, Copy, PartialEq, Debug)]
-pub enum Verdict {
-    Unexplained,
-    Follows,
-    Denied,
-    Open,
-}
-
 /// The question's answer: whether each setting explains, every minimal one in rising order, the rounds over all
-/// settings, and the verdict; and in how many of the settings every model was gone through.
+/// settings, and the verdict on each query; and in how many of the settings every model was gone through.
 pub struct Findings {
     pub causes: Vec<usize>,
     pub explains: Vec<bool>,
     pub minimal: Vec<usize>,
     pub rounds: u64,
-    pub verdict: Verdict,
+    pub verdicts: Vec<Verdict>,
     pub searched: usize,
 }
 
 /// A case taken apart: its program, its weak completion, its causes, what is asked of it, and in how many of the
-/// settled sets every model was gone through. A cap on the rounds is for showing what goes wrong with one.
+/// settled sets every model was gone through. A cap on the rounds is for showing what goes wrong with one; what is
+/// settled is not held to the definition where another walk has done so.
 pub struct Engine {
     program: Program,
     completion: Completion,
     order: SearchOrder,
     tries: usize,
     cap: Option<u64>,
+    held: bool,
     pub searched: usize,
     pub causes: Vec<usize>,
     constraints: Vec<Vec<Literal<usize>>>,
     observations: Vec<Literal<usize>>,
-    query: Formula<usize>,
+    queries: Vec<Formula<usize>>,
 }
 
 impl Choice {
@@ -109,14 +104,12 @@ impl Engine {
         let order = search_order(&equivalences);
         let completion = Completion { equivalences };
         let tries = LEAST_TRIES.max(TRIES / 3usize.pow(causes.len() as u32));
-        let Case { constraints, observations, query, .. } = case;
-        Engine { program, completion, order, tries, cap: None, searched: 0, causes, constraints, observations, query }
+        let Case { constraints, observations, queries, .. } = case;
+        let (cap, held, searched) = (None, true, 0);
+        Engine { program, completion, order, tries, cap, held, searched, causes, constraints, observations, queries }
     }
 
     /// The least model and the round count of the program with the choices `set` added.
-    ///
-    /// Panics if the settled interpretation is no model of the weak completion, or has a decided atom that can be made
-    /// unknown, or is not contained in another model that is found.
     fn settle(&mut self, set: &[Choice]) -> (Vec<Value>, u64) {
         for (cause, choice) in self.causes.iter().zip(set) {
             self.program.bodies[*cause] = choice.bodies();
@@ -126,12 +119,22 @@ impl Engine {
             return (self.program.after(cap), cap);
         }
         let (settled, rounds) = self.program.settle();
-        assert!(self.completion.is_model(&settled), "the settled interpretation is no model");
-        assert!(self.completion.loosened(&settled).is_none(), "a decided atom can be made unknown");
-        let least = self.completion.contained_in_all(&settled, &self.order, self.tries);
+        if self.held {
+            self.hold(&settled);
+        }
+        (settled, rounds)
+    }
+
+    /// Holds the settled interpretation to the definition of the least model.
+    ///
+    /// Panics if it is no model of the weak completion, or has a decided atom that can be made unknown, or is not
+    /// contained in another model that is found.
+    fn hold(&mut self, settled: &[Value]) {
+        assert!(self.completion.is_model(settled), "the settled interpretation is no model");
+        assert!(self.completion.loosened(settled).is_none(), "a decided atom can be made unknown");
+        let least = self.completion.contained_in_all(settled, &self.order, self.tries);
         assert!(least != Some(false), "the settled model is not the least");
         self.searched += usize::from(least.is_some());
-        (settled, rounds)
     }
 
     /// The least model and the round count of the setting `s`.
@@ -145,7 +148,8 @@ impl Engine {
         let (model, rounds) = self.settle(set);
         let observed = self.observations.iter().all(|l| l.value(&model) == TRUE);
         let broken = self.constraints.iter().any(|body| body.iter().all(|l| l.value(&model) == TRUE));
-        Judged { explains: observed && !broken, query: self.query.value(&model), rounds }
+        let queries = self.queries.iter().map(|query| query.value(&model)).collect();
+        Judged { explains: observed && !broken, queries, rounds }
     }
 
     /// What is found of every set made of the first `base` choices, by number.
@@ -170,24 +174,27 @@ fn has_explaining_subset(s: usize, count: usize, judged: &[Judged]) -> bool {
     })
 }
 
-/// The verdict where the query has the values `values` under the minimal explanations.
-fn verdict(values: &[Value]) -> Verdict {
-    if values.is_empty() {
-        Verdict::Unexplained
-    } else if values.iter().all(|v| *v == TRUE) {
-        Verdict::Follows
-    } else if values.iter().all(|v| *v == FALSE) {
-        Verdict::Denied
-    } else {
-        Verdict::Open
-    }
-}
-
 /// The answer to the question on `case`.
 ///
-/// Panics if nothing is found to explain where a set with both a fact and an assumption does.
+/// Panics if nothing is found to explain where a set with both a fact and an assumption does, or if a query gets another
+/// answer in a case of its own.
 pub fn ask(case: Case) -> Findings {
-    findings(Engine::new(case))
+    let found = findings(Engine::new(case.clone()));
+    if case.queries.len() > 1 {
+        for (query, verdict) in case.queries.iter().zip(&found.verdicts) {
+            let own = ask_alone(&case, query);
+            assert!(own.verdicts == [*verdict], "a query gets another verdict in a case of its own");
+            assert!(own.rounds == found.rounds, "the rounds are others in a case with one of the queries");
+            assert!(own.minimal == found.minimal, "the minimal settings are others in a case with one of the queries");
+        }
+    }
+    found
+}
+
+/// The answer to the question on `case` with `query` as its one query, all atoms kept.
+fn ask_alone(case: &Case, query: &Formula<usize>) -> Findings {
+    let own = Case { queries: vec![query.clone()], ..case.clone() };
+    findings(Engine { held: false, ..Engine::new(own) })
 }
 
 /// The wrong answer of a walk that ends each setting after `cap` rounds; its own count of rounds says nothing.
@@ -205,8 +212,9 @@ fn findings(mut engine: Engine) -> Findings {
     if minimal.is_empty() && count <= TRIED_CAUSES {
         assert!(engine.judge_all(4).iter().all(|j| !j.explains), "a set explains and no setting does");
     }
-    let values: Vec<Value> = minimal.iter().map(|s| judged[*s].query).collect();
+    let values = |query: usize| minimal.iter().map(|s| judged[*s].queries[query]).collect::<Vec<_>>();
+    let verdicts = (0..engine.queries.len()).map(|query| Verdict::of(&values(query))).collect();
     let rounds = judged.iter().map(|j| j.rounds).sum();
     let explains = judged.iter().map(|j| j.explains).collect();
-    Findings { causes: engine.causes, explains, minimal, rounds, verdict: verdict(&values), searched }
+    Findings { causes: engine.causes, explains, minimal, rounds, verdicts, searched }
 }

@@ -3,7 +3,7 @@
 use crate::answer::{answer, LIST_SLOTS};
 use crate::case::Case;
 use crate::edges::EDGES;
-use crate::file::{ATOMS, CAUSES, CLAUSES, CONSTRAINTS, DEPTH, FILE_BYTES, LINE_BYTES, NAME_BYTES};
+use crate::file::{ATOMS, CAUSES, CLAUSES, CONSTRAINTS, DEPTH, FILE_BYTES, LINE_BYTES, NAME_BYTES, QUERIES};
 use crate::formula::{Value, FALSE, TRUE};
 use crate::question::{ask, ask_capped, digits, Engine, Findings};
 use crate::random::Random;
@@ -16,7 +16,7 @@ const LIMITS: [(&str, usize, usize); 8] = [
     ("constraints, that is `never` lines", CONSTRAINTS, 6),
     ("bytes of a line without its LF", LINE_BYTES, 4),
     ("bytes of a file", FILE_BYTES, 7),
-    ("depth of the query's formula", DEPTH, 3),
+    ("depth of a query's formula", DEPTH, 3),
     ("causes", CAUSES, 2),
 ];
 
@@ -68,8 +68,8 @@ pub fn settings(case: Case, shown: &[&str]) -> Vec<String> {
     (0..found.explains.len()).map(&mut row).collect()
 }
 
-/// For each cap from 1 to the number of names and no cap: the cap, the verdict, and the settings found minimal, each as
-/// the names of its causes joined by `+`.
+/// For each cap from 1 to the number of names and no cap: the cap, the verdicts joined by `,`, and the settings found
+/// minimal, each as the names of its causes joined by `+`.
 pub fn caps(case: Case) -> Vec<String> {
     let line = |cap: &str, found: Findings| {
         let explanation = |s: &usize| {
@@ -77,7 +77,8 @@ pub fn caps(case: Case) -> Vec<String> {
             chosen.map(|(c, _)| case.names[*c].as_str()).collect::<Vec<_>>().join("+")
         };
         let explanations: Vec<String> = found.minimal.iter().map(explanation).collect();
-        format!("{cap} {:?} {}", found.verdict, explanations.join(" ")).to_lowercase()
+        let verdicts: Vec<&str> = found.verdicts.iter().map(|v| v.word()).collect();
+        format!("{cap} {} {}", verdicts.join(","), explanations.join(" "))
     };
     let capped = (1..=case.names.len() as u64).map(|cap| line(&cap.to_string(), ask_capped(case.clone(), cap)));
     capped.chain([line("none", ask(case.clone()))]).collect()
@@ -94,9 +95,10 @@ pub fn limits() -> Vec<String> {
         let past = EDGES[*at](&mut Random::new(0), 1);
         format!("| {what} | {} | {} |", grouped(*most), refusal(&past.bytes))
     };
-    let queries = [refusal(b"(query a)\n(query a)\n"), refusal(b"")];
+    let queries = [refusal(&b"(query a)\n".repeat(QUERIES + 1)), refusal(b"")];
     let mut rows: Vec<String> = LIMITS.iter().map(row).collect();
-    rows.insert(LIMITS.len() - 1, format!("| queries | 1, and no fewer | {}, {} |", queries[0], queries[1]));
+    let asked = format!("| queries | {QUERIES}, and no fewer than 1 | {}, {} |", queries[0], queries[1]);
+    rows.insert(LIMITS.len() - 1, asked);
     let listed = grouped(LIST_SLOTS);
     rows.push(format!(
         "| `cause` lines in a report | {listed} | no refusal: m tells how many explanations there are |"

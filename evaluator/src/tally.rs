@@ -1,24 +1,20 @@
 //! What occurred among the generated files, by the evaluator's answers.
 
 use crate::answer::{Answer, LIST_SLOTS};
-use crate::question::Verdict;
+use crate::file::QUERIES;
+use crate::verdict::VERDICTS;
 
 /// The refusals that a file can meet.
 const REFUSALS: std::ops::RangeInclusive<usize> = 2..=12;
 
-/// The verdicts with their words.
-const VERDICTS: [(Verdict, &str); 4] = [
-    (Verdict::Unexplained, "unexplained"),
-    (Verdict::Follows, "follows"),
-    (Verdict::Denied, "denied"),
-    (Verdict::Open, "open"),
-];
-
-/// Counts of answers by refusal number, by verdict, and of long lists.
+/// Counts of answers by refusal number, by verdict, of several queries, and of long lists.
 #[derive(Default)]
 pub struct Tally {
     refusals: [usize; 13],
     verdicts: [usize; 4],
+    several_queries: usize,
+    most_queries: usize,
+    several_verdicts: usize,
     several: usize,
     overflowing: usize,
 }
@@ -26,13 +22,17 @@ pub struct Tally {
 impl Tally {
     /// Counts `answer`.
     pub fn count(&mut self, answer: &Answer) {
-        match answer.result {
+        match &answer.result {
             Err(refusal) => self.refusals[refusal.number as usize] += 1,
-            Ok((verdict, found)) => {
-                let at = VERDICTS.iter().position(|(v, _)| *v == verdict).expect("a verdict");
-                self.verdicts[at] += 1;
-                self.several += usize::from(found > 1);
-                self.overflowing += usize::from(found > LIST_SLOTS);
+            Ok((verdicts, found)) => {
+                for verdict in verdicts {
+                    self.verdicts[verdict.number() as usize] += 1;
+                }
+                self.several_queries += usize::from(verdicts.len() > 1);
+                self.most_queries += usize::from(verdicts.len() == QUERIES);
+                self.several_verdicts += usize::from(verdicts.iter().any(|v| *v != verdicts[0]));
+                self.several += usize::from(*found > 1);
+                self.overflowing += usize::from(*found > LIST_SLOTS);
             }
         }
     }
@@ -40,9 +40,15 @@ impl Tally {
     /// Each thing to be met, with its count.
     fn rows(&self) -> Vec<(String, usize)> {
         let refusals = REFUSALS.map(|n| (format!("refusal {n}"), self.refusals[n]));
-        let verdicts = VERDICTS.iter().zip(self.verdicts).map(|((_, word), n)| (format!("verdict {word}"), n));
-        let lists = [(String::from("m > 1"), self.several), (String::from("w < m"), self.overflowing)];
-        refusals.chain(verdicts).chain(lists).collect()
+        let verdicts = VERDICTS.iter().zip(self.verdicts).map(|(v, n)| (format!("verdict {}", v.word()), n));
+        let files = [
+            ("several queries", self.several_queries),
+            ("16 queries", self.most_queries),
+            ("several verdicts", self.several_verdicts),
+            ("m > 1", self.several),
+            ("w < m", self.overflowing),
+        ];
+        refusals.chain(verdicts).chain(files.map(|(what, n)| (String::from(what), n))).collect()
     }
 
     /// One line with every count.

@@ -1,0 +1,90 @@
+//! The vectors of document 02's requests that call an operation: `NAME.args` gives it, `NAME.case` or `NAME.tables` what
+//! it runs on, `NAME.out` its answer.
+
+use crate::case::{causes, Case};
+use crate::file;
+use crate::formula::{Value, FALSE, TRUE};
+use crate::held::Held;
+use crate::plain::{tables, Answered, Operation};
+use crate::question::{ask, Engine};
+use std::path::Path;
+
+/// What an operation runs on: a case file that is read first, or a record and tables.
+pub enum Subject {
+    File(Vec<u8>),
+    Tables(Box<Held>),
+}
+
+/// A vector: an operation, what it runs on, and the text of its answer.
+pub struct Vector {
+    pub operation: Operation,
+    pub subject: Subject,
+    pub expected: String,
+}
+
+/// The atoms with the value `value` in `model`, bit i for atom i.
+fn mask(model: &[Value], value: Value) -> u64 {
+    model.iter().enumerate().filter(|(_, v)| **v == value).fold(0, |m, (i, _)| m | 1 << i)
+}
+
+/// The number of settings of `case`.
+fn settings(case: &Case) -> usize {
+    3usize.pow(causes(case.names.len(), &case.clauses).len() as u32)
+}
+
+/// What settling the setting `setting` of `case` answers.
+fn settled(case: Case, setting: u64) -> Answered {
+    if setting >= settings(&case) as u64 {
+        return Answered::Refused(14);
+    }
+    let (model, rounds) = Engine::new(case).settle_setting(setting as usize);
+    Answered::Settled { truths: mask(&model, TRUE), falsehoods: mask(&model, FALSE), rounds }
+}
+
+/// What the question on `case` answers with a list of `slots` slots and a work area of `bytes` zeros.
+fn asked(case: Case, slots: usize, bytes: usize) -> Answered {
+    if bytes < settings(&case) {
+        return Answered::Refused(15);
+    }
+    let found = ask(case);
+    let mut work = vec![0; bytes];
+    for (byte, explains) in work.iter_mut().zip(&found.explains) {
+        *byte = u8::from(*explains);
+    }
+    for setting in &found.minimal {
+        work[*setting] = 2;
+    }
+    let list = found.minimal.iter().take(slots).map(|s| *s as u16).collect();
+    let verdicts = found.verdicts.iter().map(|v| v.number()).collect();
+    Answered::Asked { verdicts, minimal: found.minimal.len(), rounds: found.rounds, list, work }
+}
+
+impl Vector {
+    /// The vector whose operation is in the file `path`.
+    pub fn load(path: &Path) -> Result<Vector, String> {
+        let bytes = |extension| std::fs::read(path.with_extension(extension)).map_err(|e| format!(".{extension}: {e}"));
+        let text = |extension| String::from_utf8(bytes(extension)?).map_err(|e| format!(".{extension}: {e}"));
+        let operation = Operation::of(&text("args")?)?;
+        let given = !matches!(operation, Operation::Read) && path.with_extension("tables").exists();
+        let subject =
+            if given { Subject::Tables(Box::new(tables(&text("tables")?)?)) } else { Subject::File(bytes("case")?) };
+        Ok(Vector { operation, subject, expected: text("out")? })
+    }
+
+    /// What the operation should answer.
+    pub fn answer(&self) -> Answered {
+        let held = match &self.subject {
+            Subject::Tables(held) => Held::clone(held),
+            Subject::File(bytes) => match file::read(bytes) {
+                Ok(case) => Held::of(&case),
+                Err(refusal) => return Answered::Unread(refusal),
+            },
+        };
+        match (self.operation, held.case()) {
+            (Operation::Read, _) => Answered::Read(held),
+            (_, None) => Answered::Refused(13),
+            (Operation::Settle { setting }, Some(case)) => settled(case, setting),
+            (Operation::Question { slots, bytes }, Some(case)) => asked(case, slots, bytes),
+        }
+    }
+}
