@@ -15,7 +15,7 @@ pub fn mend(refusal: Refusal) -> &'static str {
         Refusal::DeepFormula { .. } => "Name a part of the query by a rule, and ask for that name.",
         Refusal::ManyNames { .. } => "Leave out the names that no reading and no query needs.",
         Refusal::ManyClauses { .. } => "Name what several rules share, or leave out rules that no reading needs.",
-        Refusal::SecondQuery { .. } => "Join the queries by `and` or `or`, or write a file for each.",
+        Refusal::ManyQueries { .. } => "Join two queries by `and` or `or`, or write a second file.",
         Refusal::NoQuery => "Add a line such as `(query damper-shut)`.",
         Refusal::ManyCauses => "Give some of the causes a line `(false N)` or `(true N)`, abnormality atoms first.",
         _ => "See the manual's section on refusals.",

@@ -23,13 +23,14 @@ extern "C" {
 #endif
 
 /* The version of this header and of the Rust module beside it. */
-#define CAUSES_VERSION "0.1.0"
+#define CAUSES_VERSION "0.2.0"
 
 /* Sizes of the lent tables, in elements. A longer table is lawful; what is past its size keeps its contents. */
 enum {
     CAUSES_CLAUSE_WORDS = 768,    /* 3 a clause: head + 64 * kind, plain atoms, negated atoms */
     CAUSES_CONSTRAINT_WORDS = 64, /* 2 a constraint: plain atoms, negated atoms */
-    CAUSES_FORMULA_BYTES = 128,   /* prefix order: 0 to 63 an atom, then CAUSES_NOT to CAUSES_SAME */
+    CAUSES_FORMULA_BYTES = 2048,  /* 16 parts: formula q at the front of part q */
+    CAUSES_PART_BYTES = 128,      /* nodes in prefix order: 0 to 63 an atom, then CAUSES_NOT to CAUSES_SAME */
     CAUSES_NAMES_BYTES = 1024,    /* 16 an atom, zero-filled at the end */
     CAUSES_NAME_BYTES = 16
 };
@@ -40,10 +41,11 @@ enum { CAUSES_NOT = 64, CAUSES_AND = 65, CAUSES_OR = 66, CAUSES_THEN = 67, CAUSE
 
 /* Bounds: sizes that are enough for every file and every case. */
 enum {
+    CAUSES_QUERIES = 16,         /* the most queries of a file, and formulas of a case */
     CAUSES_FILE_BYTES = 32768,   /* the longest file that is read */
     CAUSES_SETTINGS = 59049,     /* 3^10, the most settings: bytes of a work area */
     CAUSES_MINIMAL = 15360,      /* the most minimal explanations: slots of a list */
-    CAUSES_REPORT_BYTES = 264252 /* the longest report */
+    CAUSES_REPORT_BYTES = 264582 /* the longest report */
 };
 
 /* Sizes of a thread's stack, in bytes, with which an operation ends; each has room to spare. */
@@ -54,16 +56,17 @@ enum {
     CAUSES_REPORT_STACK = 131072
 };
 
-/* Words of a case record: the counts of atoms, clauses, constraints and formula nodes, the plain and the negated
- * observed atoms, bit i for atom i. */
-enum { CAUSES_RECORD_WORDS = 6 };
+/* Words of a case record: the counts of atoms, clauses, constraints and formulas, the plain and the negated observed
+ * atoms, bit i for atom i; then for each part of the formula table its number of nodes, which for parts past the
+ * formulas is zero when read and not looked at when lent. */
+enum { CAUSES_RECORD_WORDS = 22 };
 
 /* Words of the answers. */
 enum {
-    CAUSES_READ_WORDS = 7,     /* line of the refusal or 0, then the case record */
-    CAUSES_SETTLE_WORDS = 3,   /* true atoms, false atoms, rounds */
-    CAUSES_QUESTION_WORDS = 4, /* verdict, number of minimal explanations, how many are listed, rounds */
-    CAUSES_REPORT_WORDS = 1    /* length of the text */
+    CAUSES_READ_WORDS = 23,     /* line of the refusal or 0, then the case record */
+    CAUSES_SETTLE_WORDS = 3,    /* true atoms, false atoms, rounds */
+    CAUSES_QUESTION_WORDS = 19, /* 16 verdicts, 0 past the formulas; minimal explanations, how many listed, rounds */
+    CAUSES_REPORT_WORDS = 1     /* length of the text */
 };
 
 /* Verdicts. */
@@ -80,7 +83,7 @@ enum {
     CAUSES_DEEP_FORMULA = 7,  /* deeper than 16 */
     CAUSES_MANY_NAMES = 8,    /* a 65th name */
     CAUSES_MANY_CLAUSES = 9,  /* a 257th clause or a 33rd constraint */
-    CAUSES_SECOND_QUERY = 10,
+    CAUSES_MANY_QUERIES = 10, /* a 17th query */
     CAUSES_NO_QUERY = 11,
     CAUSES_MANY_CAUSES = 12,  /* more than 10 */
     CAUSES_UNSOUND = 13,      /* the record and the tables are no sound case */
@@ -108,10 +111,10 @@ uint32_t causes_settle(const uint64_t *record, size_t record_words,
                        uint64_t setting,
                        uint64_t *answer, size_t answer_words);
 
-/* Answers the question of a case. The minimal settings go to the list in rising order, as many as it has slots for, and
- * byte s of the work area becomes 0 (setting s doesn't explain), 1 (explains, not minimal) or 2 (minimal); slots and
- * bytes behind these keep their contents. Refuses with 1, 13, 15, in this order, and then touches neither.
- * answer: CAUSES_QUESTION_WORDS. */
+/* Answers the question of a case, with a verdict for each formula. The minimal settings go to the list in rising order,
+ * as many as it has slots for, and byte s of the work area becomes 0 (setting s doesn't explain), 1 (explains, not
+ * minimal) or 2 (minimal); slots and bytes behind these keep their contents. Refuses with 1, 13, 15, in this order, and
+ * then touches neither. answer: CAUSES_QUESTION_WORDS. */
 uint32_t causes_question(const uint64_t *record, size_t record_words,
                          const uint64_t *clauses, size_t clause_words,
                          const uint64_t *constraints, size_t constraint_words,
@@ -147,7 +150,7 @@ static inline const char *causes_refusal_text(uint32_t number)
     case CAUSES_DEEP_FORMULA: return "the query is deeper than 16";
     case CAUSES_MANY_NAMES: return "the line brings a 65th name";
     case CAUSES_MANY_CLAUSES: return "the line is the 257th clause, or the 33rd constraint";
-    case CAUSES_SECOND_QUERY: return "the line is a second query";
+    case CAUSES_MANY_QUERIES: return "the line is a 17th query";
     case CAUSES_NO_QUERY: return "the file has no query";
     case CAUSES_MANY_CAUSES: return "the file has more than 10 causes";
     case CAUSES_UNSOUND: return "the case handed in is not sound";

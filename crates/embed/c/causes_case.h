@@ -1,6 +1,6 @@
 /* A case with its tables in one struct, over the calls of causes.h: the sizes go with it, and a name is a text.
  *
- * A struct is 7,856 bytes. Calls on different structs are independent; settling and the question only read theirs.
+ * A struct is 9,904 bytes. Calls on different structs are independent; settling and the question only read theirs.
  */
 #ifndef CAUSES_CASE_H
 #define CAUSES_CASE_H
@@ -27,9 +27,10 @@ struct causes_settled {
     uint64_t trues, falses, rounds;
 };
 
-/* The question's answer: one of the verdicts, the number of minimal explanations, how many are listed, the rounds. */
+/* The question's answer: how many queries there are, a verdict for each in file order, zeros behind, the number of
+ * minimal explanations, how many are listed, the rounds. */
 struct causes_answer {
-    uint64_t verdict, minimal, listed, rounds;
+    uint64_t queries, verdicts[CAUSES_QUERIES], minimal, listed, rounds;
 };
 
 /* Reads a file into a case. Refuses with 2 to 12; then the line, 0 where no line is at fault, is put to *line unless
@@ -68,10 +69,11 @@ static inline uint32_t causes_case_question(const struct causes_case *c, uint16_
     uint32_t refusal = causes_question(c->record, CAUSES_RECORD_WORDS, c->clauses, CAUSES_CLAUSE_WORDS,
                                        c->constraints, CAUSES_CONSTRAINT_WORDS, c->formula, CAUSES_FORMULA_BYTES,
                                        list, list_slots, work, work_bytes, words, CAUSES_QUESTION_WORDS);
-    answer->verdict = words[0];
-    answer->minimal = words[1];
-    answer->listed = words[2];
-    answer->rounds = words[3];
+    answer->queries = refusal == 0 ? c->record[3] : 0;
+    memcpy(answer->verdicts, words, sizeof answer->verdicts);
+    answer->minimal = words[CAUSES_QUERIES];
+    answer->listed = words[CAUSES_QUERIES + 1];
+    answer->rounds = words[CAUSES_QUERIES + 2];
     return refusal;
 }
 

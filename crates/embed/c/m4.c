@@ -42,9 +42,9 @@ static int question_answered(void)
     printf("list:");
     for (i = 0; i < answer.listed; i++)
         printf(" %u", (unsigned)list[i]);
-    printf("\nrounds: %lu\nverdict: %s\n", (unsigned long)answer.rounds, verdicts[answer.verdict]);
-    return answer.verdict == CAUSES_OPEN && answer.minimal == 2 && answer.listed == 2 && answer.rounds == 15
-        && list[0] == 1 && list[1] == 3;
+    printf("\nrounds: %lu\nverdict: %s\n", (unsigned long)answer.rounds, verdicts[answer.verdicts[0]]);
+    return answer.queries == 1 && answer.verdicts[0] == CAUSES_OPEN && answer.minimal == 2 && answer.listed == 2
+        && answer.rounds == 15 && list[0] == 1 && list[1] == 3;
 }
 
 /* Prints the file's report; whether it is document 01's. */

@@ -1,8 +1,9 @@
-/* Prints the minimal explanations of a case file from standard input, by name. */
+/* Prints the verdicts and the minimal explanations of a case file from standard input, by name. */
 #include "causes_case.h"
 
 #include <stdio.h>
 
+static const char *const verdicts[] = {"unexplained", "follows", "denied", "open"};
 static struct causes_case c;
 static uint8_t file[CAUSES_FILE_BYTES + 1], work[CAUSES_SETTINGS];
 static uint16_t list[CAUSES_MINIMAL];
@@ -21,6 +22,8 @@ int main(void)
         fprintf(stderr, "line %lu: %s\n", (unsigned long)line, causes_refusal_text(refusal));
         return 1;
     }
+    for (i = 0; i < answer.queries; i++)
+        printf("(verdict %s)\n", verdicts[answer.verdicts[i]]);
     count = causes_case_causes(&c, causes);
     for (i = 0; i < answer.listed; i++) {
         printf("(cause");

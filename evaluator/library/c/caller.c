@@ -40,6 +40,16 @@ static void print_bytes(const char *name, const uint8_t *bytes, size_t count)
     printf("\n");
 }
 
+/* The names of verdicts behind a refusal's name. */
+static void print_verdicts(uint32_t refusal, const uint64_t *verdicts, size_t count)
+{
+    size_t i;
+    printf("question %s", refusal_name(refusal));
+    for (i = 0; i < count; i++)
+        printf(" %s", verdict_name(verdicts[i]));
+    printf("\n");
+}
+
 static void print_list(size_t slots)
 {
     size_t i;
@@ -88,7 +98,7 @@ static void plain_calls(uint64_t setting, size_t slots, size_t bytes, size_t out
     refusal = causes_question(found + 1, CAUSES_RECORD_WORDS, lent.clauses, CAUSES_CLAUSE_WORDS,
                               lent.constraints, CAUSES_CONSTRAINT_WORDS, lent.formula, CAUSES_FORMULA_BYTES,
                               list, slots, work, bytes, answer, CAUSES_QUESTION_WORDS);
-    printf("question %s %s\n", refusal_name(refusal), verdict_name(answer[0]));
+    print_verdicts(refusal, answer, CAUSES_QUERIES);
     print_words("answer", answer, CAUSES_QUESTION_WORDS);
     print_list(slots);
     print_bytes("work", work, bytes);
@@ -123,8 +133,9 @@ static void struct_calls(uint64_t setting, size_t slots, size_t bytes)
            settled.rounds);
     blank();
     refusal = causes_case_question(&lent, list, slots, work, bytes, &answer);
-    printf("question %s %s %" PRIu64 " %" PRIu64 " %" PRIu64 "\n", refusal_name(refusal), verdict_name(answer.verdict),
-           answer.minimal, answer.listed, answer.rounds);
+    print_verdicts(refusal, answer.verdicts, (size_t)answer.queries);
+    print_words("verdicts", answer.verdicts, CAUSES_QUERIES);
+    printf("counts %" PRIu64 " %" PRIu64 " %" PRIu64 "\n", answer.minimal, answer.listed, answer.rounds);
     print_list(slots);
     print_bytes("work", work, bytes);
     printf("read %s\n", refusal_name(causes_case_read(&lent, file, file_bytes, NULL)));

@@ -1,6 +1,6 @@
 //! Families of the question: stored, generated and drawn cases, with lists and work areas around what is needed.
 
-use crate::calls::{question, Room};
+use crate::calls::{question, Room, ASKED_WORDS};
 use crate::corpus::{folders, generated, some_accepted, Input};
 use crate::drawn::{drawn, small, strewn};
 use crate::due::{unasked, Asking};
@@ -18,11 +18,32 @@ const SEEDS: u64 = 2_400;
 /// The drawn cases.
 const DRAWN: u64 = 1_200;
 
-/// The verdicts met, and whether more than one minimal explanation was.
+/// The verdicts met, and how often more than one minimal explanation, verdicts that differ, and 16 queries.
 #[derive(Default)]
 struct Met {
     verdicts: [usize; 4],
     several: usize,
+    differing: usize,
+    sixteen: usize,
+}
+
+impl Met {
+    /// Counts what `asking` meets.
+    fn count(&mut self, asking: &Asking) {
+        let verdicts = asking.verdicts();
+        for verdict in &verdicts {
+            self.verdicts[*verdict as usize] += 1;
+        }
+        self.several += usize::from(asking.minimal() > 1);
+        self.differing += usize::from(verdicts.iter().any(|verdict| *verdict != verdicts[0]));
+        self.sixteen += usize::from(verdicts.len() == 16);
+    }
+
+    /// Fails the family under way unless all was met.
+    fn require(&self, tests: &mut Tests) {
+        tests.require("each verdict and m > 1", self.verdicts.iter().all(|n| *n > 0) && self.several > 0);
+        tests.require("verdicts that differ, and 16 queries", self.differing > 0 && self.sixteen > 0);
+    }
 }
 
 /// Asks the question of `case`, which `held` holds: lists of 0, 1, m − 1, m and m + 1 slots, work areas of 3^k − 1
@@ -30,16 +51,15 @@ struct Met {
 fn asked(tests: &mut Tests, name: &str, case: Case, held: &Held, met: &mut Met) {
     let asking = Asking::of(case);
     let (settings, found) = (asking.settings(), asking.minimal());
-    met.verdicts[asking.verdict() as usize] += 1;
-    met.several += usize::from(found > 1);
+    met.count(&asking);
     let mut lists = vec![0, 1, found.saturating_sub(1), found, found + 1];
     lists.dedup();
     for list in lists {
         for more in [0, 7] {
-            let room = Room { list, work: settings + more, answer: 4 + more % 2 };
+            let room = Room { list, work: settings + more, answer: ASKED_WORDS + more % 2 };
             tests.call(|| format!("{name}, {room:?}"), question(held, room, &asking.due(list)));
         }
-        let room = Room { list, work: settings - 1, answer: 4 };
+        let room = Room { list, work: settings - 1, answer: ASKED_WORDS };
         tests.call(|| format!("{name}, {room:?}"), question(held, room, &unasked(15)));
     }
 }
@@ -67,8 +87,8 @@ fn load(tests: &mut Tests, name: &str, inputs: &[Input]) {
         let held = strewn(&mut Random::new(1), &Held::of(&case));
         let asking = Asking::of(case);
         let due = asking.due(LIST_SLOTS);
-        most = most.max(due.answer[3]);
-        let room = Room { list: LIST_SLOTS, work: asking.settings(), answer: 4 };
+        most = most.max(due.answer[ASKED_WORDS - 1]);
+        let room = Room { list: LIST_SLOTS, work: asking.settings(), answer: ASKED_WORDS };
         tests.call(|| format!("{}, {room:?}", input.name), question(&held, room, &due));
     }
     tests.require("rounds past 2^20", most > 1 << 20);
@@ -97,7 +117,7 @@ fn every_length(tests: &mut Tests) {
         let case = drawn(&mut random, shape);
         let held = Held::of(&case);
         for work in 0..Asking::of(case).settings() {
-            let room = Room { list: seed as usize, work, answer: 4 };
+            let room = Room { list: seed as usize, work, answer: ASKED_WORDS };
             tests.call(|| format!("seed {seed}, {room:?}"), question(&held, room, &unasked(15)));
         }
     }
@@ -109,7 +129,7 @@ fn every_length(tests: &mut Tests) {
         let asking = Asking::of(case);
         tests.require("2^k minimal explanations", asking.minimal() == 1 << causes);
         for list in 0..asking.minimal() + 9 {
-            let room = Room { list, work: asking.settings(), answer: 4 };
+            let room = Room { list, work: asking.settings(), answer: ASKED_WORDS };
             tests.call(|| format!("{file:?}, {room:?}"), question(&held, room, &asking.due(list)));
         }
     }
@@ -132,9 +152,7 @@ pub fn run(tests: &mut Tests, folder: &Path) {
             files(tests, &family, &inputs);
         }
     }
-    let met = files(tests, "question: generated files", &generated(SEEDS, |s| s % 2 == 0 && s % 20 != 0));
-    tests.require("each verdict and m > 1", met.verdicts.iter().all(|n| *n > 0) && met.several > 0);
-    let met = drawn_cases(tests);
-    tests.require("each verdict and m > 1", met.verdicts.iter().all(|n| *n > 0) && met.several > 0);
+    files(tests, "question: generated files", &generated(SEEDS, |s| s % 2 == 0 && s % 20 != 0)).require(tests);
+    drawn_cases(tests).require(tests);
     every_length(tests);
 }

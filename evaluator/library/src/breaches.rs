@@ -1,13 +1,43 @@
-//! Breaches of one phrase of "A case is sound if .." in the entries of a rich case.
+//! Breaches of one phrase of "A case is sound if .." in the counts and the entries of a rich case.
 //!
-//! Each takes a sound case, in which it changes one word or byte at a drawn place.
+//! Each takes a sound case and breaks the phrase at a drawn place; those in entries change one word or byte.
 
-use crate::held::Held;
+use crate::drawn::{deep, sized};
+use crate::held::{nodes, Held, FORMULAS, NODES, PART_BYTES};
 use crate::sound::Phrase;
 use evaluator::random::Random;
 
 /// A breach: its name, the phrase that it breaks, and how.
 pub type Breach = (&'static str, Phrase, fn(&mut Random, &mut Held));
+
+/// The breaches of the limits on counts and depth.
+pub const COUNTS: [Breach; 8] = [
+    ("65 to 74 atoms", Phrase::AtomCount, |r, h| h.record[0] = r.between(65, 74) as u64),
+    ("a 257th clause", Phrase::ClauseCount, |r, h| {
+        let count = r.between(257, 300);
+        let (row, used) = (h.clauses[..3].to_vec(), h.record[1] as usize);
+        h.clauses.truncate(3 * used);
+        h.clauses.extend(row.repeat(count - used));
+        h.record[1] = count as u64;
+    }),
+    ("a 33rd constraint", Phrase::ConstraintCount, |r, h| {
+        let count = r.between(33, 60);
+        let (row, used) = (h.constraints[..2].to_vec(), h.record[2] as usize);
+        h.constraints.truncate(2 * used);
+        h.constraints.extend(row.repeat(count - used));
+        h.record[2] = count as u64;
+    }),
+    ("no formula", Phrase::FormulaCount, |_, h| h.record[FORMULAS] = 0),
+    ("a 17th formula", Phrase::FormulaCount, |r, h| h.record[FORMULAS] = *r.pick(&[17, 17, 18, 32, 40])),
+    ("a 129th node", Phrase::NodeCount, long_formula),
+    ("an 11th cause", Phrase::CauseCount, |r, h| h.record[0] += r.between(11, 40) as u64),
+    ("a formula of depth 17 and more", Phrase::Depth, |r, h| {
+        let depth = *r.pick(&[17, 17, 18, 20, 33, 60]);
+        let deep = nodes(&deep(r, h.record[0] as usize, depth));
+        let q = r.below(h.formulas());
+        put_formula(h, q, &deep);
+    }),
+];
 
 /// The breaches in clauses, constraints and observations.
 pub const ENTRIES: [Breach; 16] = [
@@ -32,8 +62,8 @@ pub const ENTRIES: [Breach; 16] = [
     ("a bit above head and kind", Phrase::KindListed, high_bit),
 ];
 
-/// The breaches in the formula.
-pub const NODES: [Breach; 6] = [
+/// The breaches in a formula.
+pub const FORMULA: [Breach; 6] = [
     ("a formula atom names no atom", Phrase::FormulaAtomNamesAtom, |r, h| {
         let node = strange(r, h) as u8;
         leaf(r, h, node)
@@ -42,13 +72,20 @@ pub const NODES: [Breach; 6] = [
         let node = *r.pick(&[69, 70, 96, 127, 128, 129, 192, 255]);
         leaf(r, h, node)
     }),
-    ("no node", Phrase::OneFormula, |_, h| h.record[3] = 0),
-    ("a formula cut short", Phrase::OneFormula, |r, h| h.record[3] = r.between(1, h.record[3] as usize - 1) as u64),
+    ("no node", Phrase::OneFormula, |r, h| {
+        let q = r.below(h.formulas());
+        h.record[NODES + q] = 0;
+    }),
+    ("a formula cut short", Phrase::OneFormula, |r, h| {
+        let forms: Vec<usize> = (0..h.formulas()).filter(|q| h.nodes(*q) > 1).collect();
+        let q = *r.pick(&forms);
+        h.record[NODES + q] = r.between(1, h.nodes(q) - 1) as u64;
+    }),
     ("nodes behind the formula", Phrase::OneFormula, behind),
     ("an operand is missing", Phrase::OneFormula, |r, h| {
-        let node = r.between(64, 68) as u8;
-        let last = h.record[3] as usize - 1;
-        h.formula[last] = node;
+        let q = r.below(h.formulas());
+        let last = q * PART_BYTES + h.nodes(q) - 1;
+        h.formula[last] = r.between(64, 68) as u8;
     }),
 ];
 
@@ -121,18 +158,41 @@ fn high_bit(random: &mut Random, held: &mut Held) {
     held.clauses[at] |= 1 << random.between(8, 63);
 }
 
-/// Puts `node` for an atom of the formula.
+/// Puts `node` for an atom of a formula.
 fn leaf(random: &mut Random, held: &mut Held, node: u8) {
-    let leaves: Vec<usize> = (0..held.record[3] as usize).filter(|i| held.formula[*i] < 64).collect();
+    let q = random.below(held.formulas());
+    let places = q * PART_BYTES..q * PART_BYTES + held.nodes(q);
+    let leaves: Vec<usize> = places.filter(|i| held.formula[*i] < 64).collect();
     held.formula[*random.pick(&leaves)] = node;
 }
 
-/// Puts listed nodes behind the formula and counts them; the first is an atom.
+/// Puts atoms behind a formula and counts them.
 fn behind(random: &mut Random, held: &mut Held) {
-    let nodes = held.record[3] as usize;
+    let q = random.below(held.formulas());
+    let nodes = held.nodes(q);
     let more = random.between(1, 5);
     for at in nodes..nodes + more {
-        held.formula[at] = random.below(held.record[0] as usize) as u8;
+        held.formula[q * PART_BYTES + at] = random.below(held.record[0] as usize) as u8;
     }
-    held.record[3] += more as u64;
+    held.record[NODES + q] += more as u64;
+}
+
+/// Puts `nodes` for the formula `q`; those past its part go on in what is behind.
+fn put_formula(held: &mut Held, q: usize, nodes: &[u8]) {
+    let end = q * PART_BYTES + nodes.len();
+    held.formula.resize(held.formula.len().max(end), 0);
+    held.formula[q * PART_BYTES..end].copy_from_slice(nodes);
+    held.record[NODES + q] = nodes.len() as u64;
+}
+
+/// Puts a formula of more than 128 nodes: for the last one any number, for another 129, whose last is the next formula.
+fn long_formula(random: &mut Random, held: &mut Held) {
+    let q = random.below(held.formulas());
+    let last = q + 1 == held.formulas();
+    let count = if last { random.between(129, 200) } else { 129 };
+    let long = nodes(&sized(random, held.record[0] as usize, count));
+    put_formula(held, q, &long);
+    if !last {
+        held.record[NODES + q + 1] = 1;
+    }
 }

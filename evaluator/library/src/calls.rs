@@ -3,10 +3,11 @@
 //! | name | meaning |
 //! |---|---|
 //! | `Sizes` | how many entries are lent to reading |
+//! | `ASKED_WORDS` | how many words the question answers |
 //! | `ReadDue`, `QuestionDue` | the number, the answer's words and what is written; empty where nothing is touched |
 //! | `read`, `settle`, `question` | make the call and give the complaints |
 
-use crate::held::{Held, CLAUSE_WORDS, CONSTRAINT_WORDS, FORMULA_BYTES, NAMES_BYTES};
+use crate::held::{Held, CLAUSE_WORDS, CONSTRAINT_WORDS, FORMULA_BYTES, NAMES_BYTES, QUERIES, RECORD_WORDS};
 use crate::lent::{Entry, Lent};
 use crate::tests::Complaints;
 use causes::raw;
@@ -22,15 +23,18 @@ pub struct Sizes {
 }
 
 impl Sizes {
-    /// The sizes of document 01, and seven words for the answer.
+    /// The sizes of documents 01 and 02, and the words of the answer.
     pub const FULL: Sizes = Sizes {
         clauses: CLAUSE_WORDS,
         constraints: CONSTRAINT_WORDS,
         formula: FORMULA_BYTES,
         names: NAMES_BYTES,
-        answer: 7,
+        answer: 1 + RECORD_WORDS,
     };
 }
+
+/// The words of the question's answer: the verdicts, m, w and the rounds.
+pub const ASKED_WORDS: usize = QUERIES + 3;
 
 /// What a reading should answer and leave in the tables, none where they are not touched.
 #[derive(Clone, PartialEq)]

@@ -1,9 +1,9 @@
 //! Families of settling and the question with records, tables and answers of every size, and the order of refusals.
 
-use crate::calls::{question, settle, Room};
+use crate::calls::{question, settle, Room, ASKED_WORDS};
 use crate::drawn::{drawn, rich, strewn, word};
 use crate::due::{unanswered, unasked, Asking, Settling};
-use crate::held::{Held, CLAUSE_WORDS, CONSTRAINT_WORDS, FORMULA_BYTES};
+use crate::held::{Held, CLAUSE_WORDS, CONSTRAINT_WORDS, FORMULAS, FORMULA_BYTES, RECORD_WORDS};
 use crate::tests::Tests;
 use evaluator::random::Random;
 
@@ -11,7 +11,7 @@ use evaluator::random::Random;
 const CASES: u64 = 2;
 
 /// Memory with which the question of a rich case is asked.
-const ROOM: Room = Room { list: 5, work: 81, answer: 4 };
+const ROOM: Room = Room { list: 5, work: 81, answer: ASKED_WORDS };
 
 /// A sound case with what is due: its settling, and its asking.
 struct Known {
@@ -74,11 +74,11 @@ fn tables(tests: &mut Tests) {
     }
 }
 
-/// Records of 0 to 5 words, where nothing is touched, and of more than 6.
+/// Records of 0 to 21 words, where nothing is touched, and of more than 22.
 fn records(tests: &mut Tests) {
-    tests.family("settle and question: records of 0 to 5 words");
+    tests.family("settle and question: records of 0 to 21 words");
     for known in (0..20).map(Known::of) {
-        for length in 0..6 {
+        for length in 0..RECORD_WORDS {
             for held in [known.held.clone(), resized(&known.held, "clauses", 767)] {
                 let short = resized(&held, "record", length);
                 tests.call(|| format!("settle, {length}"), settle(&short, 0, 3, (1, &[])));
@@ -86,9 +86,9 @@ fn records(tests: &mut Tests) {
             }
         }
     }
-    tests.family("settle and question: records of more than 6 words");
+    tests.family("settle and question: records of more than 22 words");
     for known in (0..20).map(Known::of) {
-        for length in 7..20 {
+        for length in RECORD_WORDS + 1..RECORD_WORDS + 14 {
             known.accepted(tests, &length.to_string(), &resized(&known.held, "record", length));
         }
     }
@@ -98,12 +98,12 @@ fn records(tests: &mut Tests) {
 fn answers(tests: &mut Tests) {
     tests.family("settle and question: answers with too few words");
     for known in (0..20).map(Known::of) {
-        for held in [known.held.clone(), resized(&known.held, "formula", 127)] {
+        for held in [known.held.clone(), resized(&known.held, "formula", 2_047)] {
             for words in 0..3 {
                 tests.call(|| format!("settle, {words}"), settle(&held, 0, words, (1, &[])));
                 tests.call(|| format!("settle, {words}"), settle(&held, u64::MAX, words, (1, &[])));
             }
-            for answer in 0..4 {
+            for answer in 0..ASKED_WORDS {
                 let room = Room { answer, ..ROOM };
                 tests.call(|| format!("question, {room:?}"), question(&held, room, &unanswered()));
             }
@@ -111,9 +111,9 @@ fn answers(tests: &mut Tests) {
     }
     tests.family("settle and question: answers with words to spare");
     for known in (0..20).map(Known::of) {
-        for answer in 4..20 {
-            let room = Room { answer, ..ROOM };
-            tests.call(|| format!("settle, {answer}"), settle(&known.held, 0, answer, (0, &known.settled)));
+        for more in 0..16 {
+            let room = Room { answer: ASKED_WORDS + more, ..ROOM };
+            tests.call(|| format!("settle, {}", 3 + more), settle(&known.held, 0, 3 + more, (0, &known.settled)));
             tests.call(|| format!("question, {room:?}"), question(&known.held, room, &known.asking.due(ROOM.list)));
         }
     }
@@ -125,7 +125,7 @@ fn order(tests: &mut Tests) {
     let room = Room { work: 0, ..ROOM };
     for known in (0..40).map(Known::of) {
         let mut unsound = known.held.clone();
-        unsound.record[3] = 0;
+        unsound.record[FORMULAS] = 0;
         for (held, number) in [(&unsound, 1), (&known.held, 1)] {
             let short = resized(held, "constraints", 63);
             tests.call(|| String::from("settle, 1"), settle(&short, u64::MAX, 3, (number, &[0; 3])));

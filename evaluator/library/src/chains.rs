@@ -38,7 +38,7 @@ impl Chain {
             clauses: first.into_iter().chain((1..self.atoms).map(rule)).collect(),
             constraints: Vec::new(),
             observations: Vec::new(),
-            query: Formula::Atom(0),
+            queries: vec![Formula::Atom(0)],
         }
     }
 

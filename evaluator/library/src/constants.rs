@@ -13,7 +13,7 @@ use crate::held::{Held, FORMULA_BYTES};
 use crate::tests::{differing, Tests};
 use causes::{sizes, stack};
 use evaluator::answer::LIST_SLOTS;
-use evaluator::file::{self, ATOMS, CAUSES, CLAUSES, CONSTRAINTS, FILE_BYTES, NAME_BYTES};
+use evaluator::file::{self, ATOMS, CAUSES, CLAUSES, CONSTRAINTS, FILE_BYTES, NAME_BYTES, QUERIES};
 use std::path::Path;
 
 /// Document 01's refusals.
@@ -27,7 +27,7 @@ pub const REFUSALS: [(&str, u32); 16] = [
     ("DEEP_FORMULA", 7),
     ("MANY_NAMES", 8),
     ("MANY_CLAUSES", 9),
-    ("SECOND_QUERY", 10),
+    ("MANY_QUERIES", 10),
     ("NO_QUERY", 11),
     ("MANY_CAUSES", 12),
     ("UNSOUND", 13),
@@ -46,9 +46,9 @@ fn held(file: &str) -> Held {
     Held::of(&file::read(file.as_bytes()).unwrap_or_else(|r| panic!("refused with {}", r.number)))
 }
 
-/// The verdict's number of `file`.
+/// The verdict's number of `file`, which has one query.
 fn verdict(file: &str) -> u64 {
-    Asking::of(file::read(file.as_bytes()).unwrap_or_else(|r| panic!("refused with {}", r.number))).verdict()
+    Asking::of(file::read(file.as_bytes()).unwrap_or_else(|r| panic!("refused with {}", r.number))).verdicts()[0]
 }
 
 /// The most minimal explanations: settings with j causes decided, for the j that has the most of them.
@@ -65,7 +65,8 @@ fn most_minimal() -> u64 {
 /// The bytes of a report that has the longest of each line.
 fn longest_report() -> u64 {
     let rounds = 3u64.pow(CAUSES as u32) * ATOMS as u64;
-    let head = format!("(verdict unexplained)\n(rounds {rounds})\n(minimal {} {LIST_SLOTS})\n", most_minimal());
+    let verdicts = "(verdict unexplained)\n".repeat(QUERIES);
+    let head = format!("{verdicts}(rounds {rounds})\n(minimal {} {LIST_SLOTS})\n", most_minimal());
     let cause = format!("(cause{})\n", format!(" (false {})", "n".repeat(NAME_BYTES)).repeat(CAUSES));
     (head.len() + LIST_SLOTS * cause.len()) as u64
 }
@@ -79,6 +80,8 @@ pub fn due() -> Vec<(&'static str, u64)> {
         ("CLAUSE_WORDS", 3 * CLAUSES as u64),
         ("CONSTRAINT_WORDS", 2 * CONSTRAINTS as u64),
         ("FORMULA_BYTES", FORMULA_BYTES as u64),
+        ("PART_BYTES", (FORMULA_BYTES / QUERIES) as u64),
+        ("QUERIES", QUERIES as u64),
         ("NAMES_BYTES", (ATOMS * NAME_BYTES) as u64),
         ("NAME_BYTES", NAME_BYTES as u64),
         ("ATOMS", ATOMS as u64),
@@ -113,12 +116,15 @@ pub fn due() -> Vec<(&'static str, u64)> {
 }
 
 /// The constants of the Rust module's sizes.
-const SIZES: [(&str, usize); 9] = [
+const SIZES: [(&str, usize); 12] = [
     ("CLAUSE_WORDS", sizes::CLAUSE_WORDS),
     ("CONSTRAINT_WORDS", sizes::CONSTRAINT_WORDS),
     ("FORMULA_BYTES", sizes::FORMULA_BYTES),
+    ("PART_BYTES", sizes::PART_BYTES),
     ("NAMES_BYTES", sizes::NAMES_BYTES),
     ("NAME_BYTES", sizes::NAME_BYTES),
+    ("RECORD_WORDS", sizes::RECORD_WORDS),
+    ("QUERIES", sizes::QUERIES),
     ("FILE_BYTES", sizes::FILE_BYTES),
     ("SETTINGS", sizes::SETTINGS),
     ("MINIMAL", sizes::MINIMAL),

@@ -3,7 +3,8 @@
 use evaluator::check::case_files;
 use evaluator::file;
 use evaluator::sample::sample;
-use std::path::{Path, PathBuf};
+use std::collections::BTreeMap;
+use std::path::Path;
 
 /// A file with its name and, for a stored one, its report.
 pub struct Input {
@@ -12,29 +13,32 @@ pub struct Input {
     pub report: Option<Vec<u8>>,
 }
 
-/// The case files under `folder`.
-fn case_inputs(folder: &Path) -> Vec<Input> {
-    let paths = case_files(folder).unwrap_or_default();
-    let input = |path: &PathBuf| Input {
+/// The case file `path` with its report.
+fn stored_input(path: &Path) -> Input {
+    Input {
         name: path.display().to_string(),
         bytes: std::fs::read(path).expect("a readable case file"),
         report: Some(std::fs::read(path.with_extension("out")).expect("a stored report")),
-    };
-    paths.iter().map(input).collect()
+    }
 }
 
-/// The case files of the folder `folder` of `tests`.
+/// The case files of the folder `folder` of `tests`, and of the folders in it.
 pub fn stored(tests: &Path, folder: &str) -> Vec<Input> {
-    case_inputs(&tests.join(folder))
+    let paths = case_files(&tests.join(folder)).unwrap_or_default();
+    paths.iter().map(|path| stored_input(path)).collect()
 }
 
-/// Every folder of `tests` with case files, by name, and the folder `examples` beside `tests`.
-pub fn folders(tests: &Path) -> Vec<(String, Vec<Input>)> {
-    let entries = std::fs::read_dir(tests).into_iter().flatten().flatten();
-    let mut paths: Vec<PathBuf> = entries.map(|entry| entry.path()).chain([tests.with_file_name("examples")]).collect();
-    paths.sort();
-    let named = |path: &PathBuf| (path.file_name().expect("a name").to_string_lossy().into_owned(), case_inputs(path));
-    paths.iter().map(named).filter(|(_, inputs)| !inputs.is_empty()).collect()
+/// Every folder under `tests` with case files, by its name there, and the folder `examples` beside `tests`.
+pub fn folders(tests: &Path) -> BTreeMap<String, Vec<Input>> {
+    let root = tests.parent().expect("a repository");
+    let mut found: BTreeMap<String, Vec<Input>> = BTreeMap::new();
+    for (folder, front) in [(tests, tests), (&root.join("examples"), root)] {
+        for path in case_files(folder).unwrap_or_default() {
+            let name = path.parent().and_then(|parent| parent.strip_prefix(front).ok()).expect("a folder");
+            found.entry(name.display().to_string()).or_default().push(stored_input(&path));
+        }
+    }
+    found
 }
 
 /// Whether the evaluator accepts some of `inputs`.
@@ -61,6 +65,7 @@ pub const EACH: &[u8] = b"; each table
 (seen (not low))
 (seen fan)
 (query (then (or shut low) (same stopped (not ab))))
+(query (not fan))
 ";
 
 /// `count` lines `line`, the number of each put for `#`.
@@ -85,7 +90,8 @@ pub fn refused_files() -> Vec<(u32, u64, Vec<u8>)> {
         (8, 65, lines(65, "(true n#)") + "(query n0)\n"),
         (9, 257, lines(300, "(true low)") + &query),
         (9, 34, query.clone() + &lines(40, "(never low)")),
-        (10, 2, query.clone() + &query),
+        (10, 17, query.repeat(17)),
+        (10, 20, query.repeat(16) + ";\n\n(true low)\n" + &query + "(\n"),
         (11, 0, String::new()),
         (11, 0, lines(20, "(seen c#)")),
         (12, 0, query.clone() + &lines(10, "(seen c#)")),

@@ -2,25 +2,37 @@
 //!
 //! | name | meaning |
 //! |---|---|
-//! | `Shape` | how many of each thing a case has |
+//! | `Shape` | how many of each thing a case has, and the most nodes of a query |
 //! | `small`, `rich` | shapes for many cases; a rich one has each kind of entry |
 //! | `drawn` | a case of a shape |
 //! | `strewn` | a case's tables with garbage in the entries past the counts |
 //! | `sized`, `deep` | a formula of so many nodes; one of so great a depth |
 
-use crate::held::Held;
+use crate::held::{Held, NODES, PART_BYTES, QUERIES};
 use evaluator::case::{Body, Case, Clause};
 use evaluator::formula::{Connective, Formula, Literal};
 use evaluator::random::Random;
 
-/// The counts of a drawn case; the atoms from `causes` on head clauses, the others none.
+/// The counts of a drawn case; the atoms from `causes` on head clauses, the others none. The last query has `nodes`
+/// nodes, the others have no more.
 #[derive(Clone, Copy)]
 pub struct Shape {
     pub atoms: usize,
     pub causes: usize,
     pub clauses: usize,
     pub constraints: usize,
+    pub queries: usize,
     pub nodes: usize,
+}
+
+/// A number of queries: often one, now and then 16.
+fn some_queries(random: &mut Random) -> usize {
+    match random.below(12) {
+        0..=5 => 1,
+        6..=9 => random.between(2, 5),
+        10 => random.between(6, QUERIES - 1),
+        _ => QUERIES,
+    }
 }
 
 /// A shape with few atoms and at most four causes.
@@ -28,16 +40,17 @@ pub fn small(random: &mut Random) -> Shape {
     let causes = random.between(0, 4);
     let atoms = (causes + *random.pick(&[0, 1, 2, 3, 4, 6, 9])).max(1);
     let clauses = if atoms > causes { atoms - causes + random.below(6) } else { 0 };
-    Shape { atoms, causes, clauses, constraints: random.below(3), nodes: random.between(1, 9) }
+    let (queries, nodes) = (some_queries(random), random.between(1, 9));
+    Shape { atoms, causes, clauses, constraints: random.below(3), queries, nodes }
 }
 
-/// A shape with a fact, an assumption, a rule, a constraint, a form in its query, and numbers that name no atom.
+/// A shape with a fact, an assumption, a rule, a constraint, a form in its last query, and numbers that name no atom.
 pub fn rich(random: &mut Random) -> Shape {
     let causes = random.between(0, 4);
     let defined = random.between(2, 6);
     let clauses = defined.max(4) + random.below(6);
-    let nodes = random.between(2, 12);
-    Shape { atoms: causes + defined, causes, clauses, constraints: random.between(1, 4), nodes }
+    let (queries, nodes) = (some_queries(random), random.between(2, 12));
+    Shape { atoms: causes + defined, causes, clauses, constraints: random.between(1, 4), queries, nodes }
 }
 
 /// A drawn literal of the first `atoms` atoms.
@@ -104,7 +117,12 @@ pub fn drawn(random: &mut Random, shape: Shape) -> Case {
     let constraints = (0..shape.constraints).map(|_| body(random, atoms)).collect();
     let observations = (0..*random.pick(&[0, 1, 1, 1, 2])).map(|_| literal(random, atoms)).collect();
     let names = (0..atoms).map(|i| format!("n{i}")).collect();
-    Case { names, clauses, constraints, observations, query: sized(random, atoms, shape.nodes) }
+    let mut queries: Vec<Formula<usize>> = Vec::new();
+    for left in (0..shape.queries).rev() {
+        let nodes = if left == 0 { shape.nodes } else { random.between(1, shape.nodes) };
+        queries.push(sized(random, atoms, nodes));
+    }
+    Case { names, clauses, constraints, observations, queries }
 }
 
 /// A word of drawn bits, now and then a small number or all ones.
@@ -116,12 +134,17 @@ pub fn word(random: &mut Random) -> u64 {
     }
 }
 
-/// `held` with drawn entries past its counts.
+/// `held` with drawn entries past its counts: in each part of the formula table behind its nodes, and in the parts and
+/// the node counts past the formulas.
 pub fn strewn(random: &mut Random, held: &Held) -> Held {
     let mut other = held.clone();
-    let [_, clauses, constraints, nodes, ..] = held.record[..] else { panic!("six words") };
+    let [_, clauses, constraints, ..] = held.record[..] else { panic!("a record") };
     other.clauses[3 * clauses as usize..].fill_with(|| word(random));
     other.constraints[2 * constraints as usize..].fill_with(|| word(random));
-    other.formula[nodes as usize..].fill_with(|| word(random) as u8);
+    other.record[NODES + held.formulas()..].fill_with(|| word(random));
+    for (q, part) in other.formula.chunks_exact_mut(PART_BYTES).enumerate() {
+        let nodes = if q < held.formulas() { held.nodes(q) } else { 0 };
+        part[nodes..].fill_with(|| word(random) as u8);
+    }
     other
 }

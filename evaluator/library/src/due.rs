@@ -1,11 +1,12 @@
 //! What is due by the evaluator: of a reading, of a settled setting, of a question.
 
-use crate::calls::{QuestionDue, ReadDue};
-use crate::held::Held;
+use crate::calls::{QuestionDue, ReadDue, ASKED_WORDS};
+use crate::held::{padded, Held, QUERIES, RECORD_WORDS};
 use evaluator::case::Case;
 use evaluator::file;
 use evaluator::formula::{Value, FALSE, TRUE};
-use evaluator::question::{ask, Engine, Findings, Verdict};
+use evaluator::question::{ask, Engine, Findings};
+use evaluator::verdict::Verdict;
 
 /// What reading `bytes` is due, with tables and an answer of at least their sizes.
 pub fn read(bytes: &[u8]) -> ReadDue {
@@ -22,7 +23,7 @@ pub fn read(bytes: &[u8]) -> ReadDue {
 /// What a reading refused with `number` at `line` is due: 1 and 2 touch no table.
 pub fn refused(number: u32, line: u64) -> ReadDue {
     let tables = (number > 2).then(Held::zeros);
-    ReadDue { refusal: number, answer: vec![line, 0, 0, 0, 0, 0, 0], tables }
+    ReadDue { refusal: number, answer: padded(vec![line], 1 + RECORD_WORDS), tables }
 }
 
 /// The atoms with the value `value` in `model`, bit i for atom i.
@@ -79,14 +80,15 @@ impl Asking {
         self.findings.minimal.len()
     }
 
-    /// Document 01's number of the verdict.
-    pub fn verdict(&self) -> u64 {
-        match self.findings.verdict {
+    /// Document 01's numbers of the verdicts, in file order.
+    pub fn verdicts(&self) -> Vec<u64> {
+        let number = |verdict: &Verdict| match verdict {
             Verdict::Unexplained => 0,
             Verdict::Follows => 1,
             Verdict::Denied => 2,
             Verdict::Open => 3,
-        }
+        };
+        self.findings.verdicts.iter().map(number).collect()
     }
 
     /// What is due with a list of `slots` slots and a work area that is long enough.
@@ -96,9 +98,10 @@ impl Asking {
         for s in &self.findings.minimal {
             work[*s] = 2;
         }
+        let counts = [self.minimal() as u64, listed as u64, self.findings.rounds];
         QuestionDue {
             refusal: 0,
-            answer: vec![self.verdict(), self.minimal() as u64, listed as u64, self.findings.rounds],
+            answer: padded(self.verdicts(), QUERIES).into_iter().chain(counts).collect(),
             list: self.findings.minimal[..listed].iter().map(|s| *s as u16).collect(),
             work,
         }
@@ -107,7 +110,7 @@ impl Asking {
 
 /// What a question refused with `number` is due: zeros as the answer.
 pub fn unasked(number: u32) -> QuestionDue {
-    QuestionDue { refusal: number, answer: vec![0; 4], list: Vec::new(), work: Vec::new() }
+    QuestionDue { refusal: number, answer: vec![0; ASKED_WORDS], list: Vec::new(), work: Vec::new() }
 }
 
 /// What a question with too short a record or answer is due: nothing is touched.

@@ -1,7 +1,7 @@
 //! Families of calls whose memory begins where a page ends that can't be touched; in all others it ends where one
 //! begins.
 
-use crate::calls::{question, read, settle, Room, Sizes};
+use crate::calls::{question, read, settle, Room, Sizes, ASKED_WORDS};
 use crate::corpus::{generated, refused_files, stored, Input, EACH, M4};
 use crate::drawn::strewn;
 use crate::due::{self, Asking, Settling};
@@ -38,7 +38,7 @@ fn cases(tests: &mut Tests, inputs: &[Input]) {
             tests.call(|| format!("{}, setting {s}", input.name), settle(&held, s, 3, (0, &due)));
         }
         let asking = Asking::of(case);
-        let room = Room { list: 2, work: asking.settings(), answer: 4 };
+        let room = Room { list: 2, work: asking.settings(), answer: ASKED_WORDS };
         tests.call(|| format!("{}, {room:?}", input.name), question(&held, room, &asking.due(2)));
     }
 }
@@ -58,6 +58,7 @@ pub fn run(tests: &mut Tests, folder: &Path) {
     let mut inputs = vec![made(M4), made(EACH)];
     inputs.extend(stored(folder, "marked"));
     inputs.extend(stored(folder, "vectors"));
+    inputs.extend(stored(folder, "requests"));
     inputs.extend(generated(200, |s| s % 20 != 0));
     inputs.extend(refused_files().iter().map(|(_, _, file)| made(file)));
     fenced_in_front(|| {

@@ -4,7 +4,7 @@
 use crate::constants::{due as constants, refusal};
 use crate::corpus::{refused_files, stored, Input, EACH, M4};
 use crate::due::{self, unasked, Asking, Settling};
-use crate::held::Held;
+use crate::held::{Held, QUERIES};
 use crate::meanings::{meaning, section};
 use crate::tests::{differing, Complaints, Tests};
 use evaluator::answer::answer;
@@ -113,6 +113,12 @@ fn left(due: &crate::calls::ReadDue) -> Held {
     due.tables.clone().unwrap_or(untouched)
 }
 
+/// The line with the names of the first `count` verdicts of a question's answer.
+fn question_line((number, words): &(u32, Vec<u64>), count: usize) -> String {
+    let names = words[..count].iter().map(|verdict| VERDICTS[*verdict as usize]);
+    line("question", [refusal(*number)].into_iter().chain(names))
+}
+
 /// What the plain calls print for `bytes`.
 fn plain(bytes: &[u8], lent: &Lent) -> Vec<u8> {
     let read = due::read(bytes);
@@ -123,10 +129,9 @@ fn plain(bytes: &[u8], lent: &Lent) -> Vec<u8> {
     if !short {
         out[..text.len()].copy_from_slice(text.as_bytes());
     }
-    let verdict = VERDICTS[answers.question.1[0] as usize];
     let mut lines = line("read", [refusal(read.refusal)]) + &line("found", &read.answer) + &table_lines(&left(&read));
     lines += &(line("settle", [refusal(answers.settled.0)]) + &line("settled", answers.settled.1));
-    lines += &(line("question", [refusal(answers.question.0), verdict]) + &line("answer", &answers.question.1));
+    lines += &(question_line(&answers.question, QUERIES) + &line("answer", &answers.question.1));
     lines += &(line("list", &answers.list) + &line("work", &answers.work));
     lines += &line("report", [refusal(if short { 19 } else { 0 })]);
     lines += &line("length", [if short { 0 } else { text.len() }]);
@@ -138,9 +143,9 @@ fn by_struct(bytes: &[u8], lent: &Lent) -> Vec<u8> {
     let read = due::read(bytes);
     let answers = answers(bytes, lent);
     let tables = left(&read);
-    let (names, found) = match file::read(bytes) {
-        Ok(case) => (case.names.clone(), causes(case.names.len(), &case.clauses)),
-        Err(_) => (Vec::new(), Vec::new()),
+    let (names, found, queries) = match file::read(bytes) {
+        Ok(case) => (case.names.clone(), causes(case.names.len(), &case.clauses), case.queries.len()),
+        Err(_) => (Vec::new(), Vec::new(), 0),
     };
     let mut lines = line("read", [refusal(read.refusal).to_owned(), read.answer[0].to_string()]);
     lines += &(line("record", &read.answer[1..]) + &table_lines(&tables) + &line("causes", found));
@@ -151,9 +156,10 @@ fn by_struct(bytes: &[u8], lent: &Lent) -> Vec<u8> {
         rows.push([b"name ".as_slice(), &name, b"\n"].concat());
     }
     let [trues, falses, rounds] = answers.settled.1;
-    let verdict = VERDICTS[answers.question.1[0] as usize];
+    let (verdicts, counts) = answers.question.1.split_at(QUERIES);
+    let answered = if answers.question.0 == 0 { queries } else { 0 };
     let mut rest = format!("settle {} {trues} {falses} {rounds}\n", refusal(answers.settled.0));
-    rest += &line(&format!("question {} {verdict}", refusal(answers.question.0)), &answers.question.1[1..]);
+    rest += &(question_line(&answers.question, answered) + &line("verdicts", verdicts) + &line("counts", counts));
     rest += &(line("list", &answers.list) + &line("work", &answers.work));
     rest += &line("read", [refusal(read.refusal)]);
     [lines.into_bytes(), rows.concat(), rest.into_bytes()].concat()
@@ -228,7 +234,7 @@ pub fn run(tests: &mut Tests, root: &Path, program: &Path) {
     let folder = root.join("tests");
     let made = |bytes: Vec<u8>| Input { name: String::from("made here"), bytes, report: None };
     let mut inputs = vec![made(EACH.to_vec())];
-    for part in ["marked", "vectors", "edges"] {
+    for part in ["marked", "vectors", "edges", "requests"] {
         inputs.extend(stored(&folder, part));
     }
     inputs.extend(refused_files().into_iter().map(|(_, _, file)| made(file)));

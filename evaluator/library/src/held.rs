@@ -1,22 +1,31 @@
 //! The record and the tables that hold a case, made from the evaluator's case and read back.
 //!
-//! From: document 01, Case tables and sound cases.
+//! From: document 01, Case tables and sound cases; document 02, [1].
 //!
 //! | name | meaning |
 //! |---|---|
 //! | `Held` | a case record and tables, of any sizes and contents |
+//! | `FORMULAS`, `NODES` | the record's word with the number of formulas, and the first with a number of nodes |
 //! | `Held::of` | the record and the full tables that hold a case, zeros in unused entries |
 //! | `Held::case` | the case that a sound record and its tables hold |
+//! | `Held::full` | the same in the evaluator's form, which says apart from `sound` whether it is sound |
 
 use evaluator::case::{Body, Case, Clause};
 use evaluator::formula::{Connective, Formula, Literal};
 
 pub const CLAUSE_WORDS: usize = 768;
 pub const CONSTRAINT_WORDS: usize = 64;
-pub const FORMULA_BYTES: usize = 128;
+pub const QUERIES: usize = 16;
+pub const PART_BYTES: usize = 128;
+pub const FORMULA_BYTES: usize = QUERIES * PART_BYTES;
 pub const NAMES_BYTES: usize = 1_024;
+pub const RECORD_WORDS: usize = 22;
 
-/// A case record of six words, and the tables.
+pub const FORMULAS: usize = 3;
+pub const NODES: usize = 6;
+
+/// A case record of 22 words, and the tables: atoms, clauses, constraints, formulas, plain and negated observed atoms,
+/// and the nodes in each of the 16 parts of the formula table.
 #[derive(Clone, PartialEq)]
 pub struct Held {
     pub record: Vec<u64>,
@@ -89,7 +98,7 @@ fn formula(nodes: &[u8]) -> (Formula<usize>, &[u8]) {
 }
 
 /// `entries`, with zeros behind them up to `size`.
-fn padded<T: Copy + Default>(mut entries: Vec<T>, size: usize) -> Vec<T> {
+pub fn padded<T: Copy + Default>(mut entries: Vec<T>, size: usize) -> Vec<T> {
     entries.resize(size.max(entries.len()), T::default());
     entries
 }
@@ -104,15 +113,17 @@ fn row(name: &String) -> [u8; 16] {
 impl Held {
     /// The record and the tables that hold `case`.
     pub fn of(case: &Case) -> Held {
-        let query = nodes(&case.query);
+        let queries: Vec<Vec<u8>> = case.queries.iter().map(nodes).collect();
         let [plain, negated] = masks(&case.observations);
-        let counts = [case.names.len(), case.clauses.len(), case.constraints.len(), query.len()];
-        let record = counts.iter().map(|n| *n as u64).chain([plain, negated]).collect();
+        let counts = [case.names.len(), case.clauses.len(), case.constraints.len(), queries.len()];
+        let counts = counts.iter().map(|n| *n as u64).chain([plain, negated]);
+        let record = counts.chain(queries.iter().map(|query| query.len() as u64)).collect();
+        let parts = queries.into_iter().flat_map(|query| padded(query, PART_BYTES)).collect();
         Held {
-            record,
+            record: padded(record, RECORD_WORDS),
             clauses: padded(case.clauses.iter().flat_map(clause_words).collect(), CLAUSE_WORDS),
             constraints: padded(case.constraints.iter().flat_map(|c| masks(c)).collect(), CONSTRAINT_WORDS),
-            formula: padded(query, FORMULA_BYTES),
+            formula: padded(parts, FORMULA_BYTES),
             names: padded(case.names.iter().flat_map(row).collect(), NAMES_BYTES),
         }
     }
@@ -120,12 +131,37 @@ impl Held {
     /// Tables of zeros in their sizes, and a record of zeros.
     pub fn zeros() -> Held {
         Held {
-            record: vec![0; 6],
+            record: vec![0; RECORD_WORDS],
             clauses: vec![0; CLAUSE_WORDS],
             constraints: vec![0; CONSTRAINT_WORDS],
             formula: vec![0; FORMULA_BYTES],
             names: vec![0; NAMES_BYTES],
         }
+    }
+
+    /// The evaluator's record and tables with the same contents, of their full sizes.
+    pub fn full(&self) -> evaluator::held::Held {
+        let [atoms, clauses, constraints, formulas, plain, negated, ref nodes @ ..] = self.record[..] else {
+            panic!("a record")
+        };
+        let nodes = nodes[..QUERIES].try_into().expect("a count for each part");
+        evaluator::held::Held {
+            record: evaluator::held::Record { atoms, clauses, constraints, formulas, nodes, plain, negated },
+            clauses: self.clauses.clone(),
+            constraints: self.constraints.clone(),
+            formulas: self.formula.clone(),
+            names: self.names.clone(),
+        }
+    }
+
+    /// The number of formulas.
+    pub fn formulas(&self) -> usize {
+        self.record[FORMULAS] as usize
+    }
+
+    /// The number of nodes of the formula `q`.
+    pub fn nodes(&self, q: usize) -> usize {
+        self.record[NODES + q] as usize
     }
 
     /// The case that this record and these tables hold, which are sound; names are made up.
@@ -144,7 +180,9 @@ impl Held {
             clauses: self.clauses.chunks_exact(3).take(count(1)).map(clause).collect(),
             constraints: self.constraints.chunks_exact(2).take(count(2)).map(|w| literals(w[0], w[1])).collect(),
             observations: literals(self.record[4], self.record[5]),
-            query: formula(&self.formula[..count(3)]).0,
+            queries: (0..self.formulas())
+                .map(|q| formula(&self.formula[q * PART_BYTES..][..self.nodes(q)]).0)
+                .collect(),
         }
     }
 }

@@ -9,7 +9,8 @@
 //! | reading, read_sizes | reading |
 //! | settling, asking, case_sizes | settling and the question |
 //! | marked, chains | M1 to M10 with their tables, and chains of atoms, worked out by hand |
-//! | breaches, unsound | each phrase of soundness broken alone, and each limit met |
+//! | vectors | operations that stand in files with their answers |
+//! | breaches, unsound, limits | each phrase of soundness broken alone, and each limit met |
 //! | fences | calls with the fence in front |
 //! | reports, threads | the report, calls from several threads |
 //! | wrappers, owned | the safe calls of the Rust module, and its case |
@@ -29,6 +30,7 @@ mod fences;
 mod from_c;
 mod held;
 mod lent;
+mod limits;
 mod marked;
 mod meanings;
 mod outside;
@@ -43,6 +45,7 @@ mod sound;
 mod tests;
 mod threads;
 mod unsound;
+mod vectors;
 mod wrappers;
 
 use std::path::PathBuf;
@@ -66,8 +69,10 @@ fn main() -> ExitCode {
     asking::run(&mut tests, &folder);
     case_sizes::run(&mut tests);
     unsound::run(&mut tests);
+    limits::run(&mut tests);
     reports::run(&mut tests, &folder);
     fences::run(&mut tests, &folder);
+    vectors::run(&mut tests, &folder);
     wrappers::run(&mut tests, &folder);
     owned::run(&mut tests, &folder);
     constants::run(&mut tests, &root.join("crates/embed/rust"));

@@ -5,12 +5,12 @@
 use crate::calls::{read, settle, ReadDue, Sizes};
 use crate::corpus::stored;
 use crate::due::{self, Settling};
-use crate::held::Held;
+use crate::held::{Held, NODES};
 use crate::tests::Tests;
 use std::path::Path;
 
-/// A marked file's name, its record, the used entries of clauses, constraints and formula, its names, and the rounds
-/// over all settings that document 01 gives.
+/// A marked file's name, the record in front of the nodes, the used entries of clauses, constraints and formula, its
+/// names, and the rounds over all settings that document 01 gives.
 type Marked = (&'static str, [u64; 6], &'static [u64], &'static [u64], &'static [u8], &'static [&'static str], u64);
 
 /// M1 to M10.
@@ -19,10 +19,10 @@ const MARKED: [Marked; 10] = [
     ("m02", [1, 0, 0, 1, 0, 0], &[], &[], &[0], &["a"], 2),
     ("m03", [2, 2, 0, 1, 1, 0], &[128, 2, 0, 129, 1, 0], &[], &[1], &["p", "q"], 0),
     ("m04", [5, 4, 0, 1, 1, 0], &M4_CLAUSES, &[], &[1], &M4_NAMES, 15),
-    ("m05", [5, 4, 0, 2, 0, 1], &M4_CLAUSES, &[], &[64, 1], &M4_NAMES, 15),
+    ("m05", [5, 4, 0, 1, 0, 1], &M4_CLAUSES, &[], &[64, 1], &M4_NAMES, 15),
     ("m06", [5, 4, 1, 1, 1, 0], &M4_CLAUSES, &[8, 0], &[1], &M4_NAMES, 15),
     ("m07", [1, 0, 0, 1, 1, 1], &[], &[], &[0], &["a"], 2),
-    ("m08", [1, 0, 0, 3, 0, 0], &[], &[], &[67, 0, 0], &["a"], 2),
+    ("m08", [1, 0, 0, 1, 0, 0], &[], &[], &[67, 0, 0], &["a"], 2),
     ("m09", [2, 1, 0, 1, 0, 1], &[128, 2, 2], &[], &[0], &["b", "a"], 4),
     ("m10", [1, 2, 0, 1, 0, 0], &[0, 0, 0, 64, 0, 0], &[], &[0], &["a"], 1),
 ];
@@ -33,7 +33,8 @@ const M4_NAMES: [&str; 5] = ["low", "shut", "ab1", "stopped", "ab2"];
 /// The record and the tables of a marked file.
 fn held((_, record, clauses, constraints, formula, names, _): Marked) -> Held {
     let mut held = Held::zeros();
-    held.record.copy_from_slice(&record);
+    held.record[..NODES].copy_from_slice(&record);
+    held.record[NODES] = formula.len() as u64;
     held.clauses[..clauses.len()].copy_from_slice(clauses);
     held.constraints[..constraints.len()].copy_from_slice(constraints);
     held.formula[..formula.len()].copy_from_slice(formula);

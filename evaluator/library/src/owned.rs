@@ -1,5 +1,6 @@
 //! Families of the Rust module's case, which owns its record and tables, and of its report.
 
+use crate::calls::ASKED_WORDS;
 use crate::corpus::{stored, Input};
 use crate::due::{Asking, Settling};
 use crate::held::Held;
@@ -85,9 +86,11 @@ fn asked(said: &evaluator::case::Case, case: &Case) -> Complaints {
     let settings: Vec<u64> = got.explanations.iter().map(|e| e.setting).collect();
     let lines: Vec<String> = got.explanations.iter().map(|e| e.to_string()).collect();
     let due_lines: Vec<String> = due.list.iter().map(|s| line(said, usize::from(*s))).collect();
+    let verdicts: Vec<u64> = got.verdicts.iter().map(|verdict| *verdict as u64).collect();
     let named = got.explanations.iter().all(|e| e.causes.iter().all(|c| said.names.iter().any(|n| n == c.name)));
     [
-        differing((due.answer[0], due.answer[3]), (got.verdict as u64, got.rounds)),
+        differing(asking.verdicts(), verdicts),
+        differing((due.answer[0], due.answer[ASKED_WORDS - 1]), (got.verdict() as u64, got.rounds)),
         differing(due.list.iter().map(|s| u64::from(*s)).collect(), settings),
         differing(due_lines, lines),
         differing(true, named),

@@ -50,20 +50,20 @@ fn one_table(tests: &mut Tests) {
     }
 }
 
-/// Answers of 0 to 40 words, with full tables and with a short one.
+/// Answers of 0 to 55 words, with full tables and with a short one.
 fn answers(tests: &mut Tests) {
-    tests.family("read: answers of 0 to 6 words");
+    tests.family("read: answers of 0 to 22 words");
     for file in files() {
-        for answer in 0..7 {
+        for answer in 0..23 {
             for clauses in [0, 767, 768, 769] {
                 let sizes = Sizes { clauses, answer, ..Sizes::FULL };
                 tests.call(|| format!("{sizes:?}"), read(&file, sizes, true, &untouched()));
             }
         }
     }
-    tests.family("read: answers of 7 and more words");
+    tests.family("read: answers of 23 and more words");
     for file in files() {
-        for answer in 7..40 {
+        for answer in 23..56 {
             let sizes = Sizes { answer, ..Sizes::FULL };
             tests.call(|| format!("{sizes:?}"), read(&file, sizes, true, &due::read(&file)));
             let short = Sizes { names: 1_023, ..sizes };
@@ -95,7 +95,7 @@ fn drawn_sizes(tests: &mut Tests) {
             && sizes.constraints >= Sizes::FULL.constraints
             && sizes.formula >= Sizes::FULL.formula
             && sizes.names >= Sizes::FULL.names;
-        let due = match (sizes.answer < 7, full) {
+        let due = match (sizes.answer < Sizes::FULL.answer, full) {
             (true, _) => untouched(),
             (false, false) => due::refused(1, 0),
             (false, true) => due::read(file),

@@ -1,8 +1,10 @@
-//! Families of reading: stored and generated files, files cut and changed byte by byte, each refusal.
+//! Families of reading: stored and generated files, files cut and changed byte by byte, each number of queries, each
+//! refusal.
 
-use crate::calls::{read, Sizes};
+use crate::calls::{read, ReadDue, Sizes};
 use crate::corpus::{folders, generated, refused_files, Input, EACH, M4};
 use crate::due;
+use crate::held::{Held, FORMULAS, NODES, PART_BYTES, QUERIES};
 use crate::tests::Tests;
 use std::path::Path;
 
@@ -58,6 +60,36 @@ fn bytewise(tests: &mut Tests) {
     }
 }
 
+/// What reading `count` queries is due, of which query q has the name `a` below q words `not`.
+fn queries_due(count: usize) -> ReadDue {
+    if count > QUERIES {
+        return due::refused(10, 17);
+    }
+    let mut held = Held::zeros();
+    held.record[0] = 1;
+    held.record[FORMULAS] = count as u64;
+    held.names[0] = b'a';
+    for q in 0..count {
+        held.record[NODES + q] = q as u64 + 1;
+        held.formula[q * PART_BYTES..][..q].fill(64);
+    }
+    ReadDue { refusal: 0, answer: [&[0], held.record.as_slice()].concat(), tables: Some(held) }
+}
+
+/// Files with 1 to 20 queries, tables worked out by hand: up to 16 are read, a 17th is refused in its line.
+fn queries(tests: &mut Tests) {
+    tests.family("read: 1 to 20 queries, tables by hand");
+    for count in 1..=20 {
+        let deep = |q: usize| format!("(query {}a{})\n", "(not ".repeat(q), ")".repeat(q));
+        let file: String = (0..count).map(|q| deep(q % QUERIES)).collect();
+        let due = queries_due(count);
+        tests.require(&format!("{count} queries: the evaluator's tables"), due::read(file.as_bytes()) == due);
+        for bytes in [file.as_bytes(), file.trim_end().as_bytes()] {
+            tests.call(|| format!("{count} queries"), read(bytes, Sizes::FULL, false, &due));
+        }
+    }
+}
+
 /// For each refusal from 2 on the files that get it, with the line worked out by hand.
 fn refusals(tests: &mut Tests) {
     for number in 2..=12 {
@@ -84,5 +116,6 @@ fn refusals(tests: &mut Tests) {
 pub fn run(tests: &mut Tests, folder: &Path) {
     corpus(tests, folder);
     bytewise(tests);
+    queries(tests);
     refusals(tests);
 }

@@ -19,7 +19,7 @@ fn named(name: &str) -> Refusal {
         "DEEP_FORMULA" => Refusal::DeepFormula { line },
         "MANY_NAMES" => Refusal::ManyNames { line },
         "MANY_CLAUSES" => Refusal::ManyClauses { line },
-        "SECOND_QUERY" => Refusal::SecondQuery { line },
+        "MANY_QUERIES" => Refusal::ManyQueries { line },
         "NO_QUERY" => Refusal::NoQuery,
         "MANY_CAUSES" => Refusal::ManyCauses,
         "UNSOUND" => Refusal::Unsound,

@@ -94,7 +94,8 @@ fn past_the_last(tests: &mut Tests) {
         tests.family(&format!("settle: settings of {causes} causes and past the last"));
         for seed in 0..12 {
             let mut random = Random::new(seed);
-            let shape = crate::drawn::Shape { atoms: causes + 3, causes, clauses: 5, constraints: 1, nodes: 3 };
+            let shape =
+                crate::drawn::Shape { atoms: causes + 3, causes, clauses: 5, constraints: 1, queries: 2, nodes: 3 };
             let case = drawn(&mut random, shape);
             let held = Held::of(&case);
             let mut settling = Settling::of(case);

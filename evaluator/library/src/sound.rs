@@ -1,9 +1,11 @@
 //! Which phrases of "A case is sound if .." a record and its tables break.
 //!
-//! From: document 01, Case tables and sound cases. Counts, and bits held against them, are compared as they stand; a
-//! formula is read from its end, with the depths of what was read on a stack.
+//! From: document 01, Case tables and sound cases; document 02, [1].
+//!
+//! Counts, and bits held against them, are compared as they stand; a formula is read from its end, with the depths of
+//! what was read on a stack.
 
-use crate::held::{Held, CLAUSE_WORDS, CONSTRAINT_WORDS, FORMULA_BYTES};
+use crate::held::{Held, CLAUSE_WORDS, CONSTRAINT_WORDS, FORMULA_BYTES, NODES, PART_BYTES, QUERIES};
 
 /// A phrase that can be broken.
 #[derive(Clone, Copy, Debug, PartialEq)]
@@ -12,6 +14,7 @@ pub enum Phrase {
     AtomCount,
     ClauseCount,
     ConstraintCount,
+    FormulaCount,
     NodeCount,
     CauseCount,
     HeadNamesAtom,
@@ -68,11 +71,14 @@ fn depths(nodes: &[u8]) -> Option<Vec<usize>> {
     Some(stack)
 }
 
-/// The phrases that the formula's nodes break.
-fn broken_by_formula(nodes: &[u8], atoms: u64) -> Vec<Phrase> {
+/// The phrases that the formula `q` breaks; one with too many nodes goes on behind its part.
+fn broken_by_formula(held: &Held, q: usize, atoms: u64) -> Vec<Phrase> {
+    let count = held.record[NODES + q];
+    let nodes = entries(held.formula.get(q * PART_BYTES..).unwrap_or_default(), count, 1);
     let read = depths(nodes);
     let one = read.as_ref().is_some_and(|d| d.len() == 1);
     let rows = [
+        (Phrase::NodeCount, count > PART_BYTES as u64),
         (Phrase::FormulaAtomNamesAtom, nodes.iter().any(|n| *n < 64 && u64::from(*n) >= atoms)),
         (Phrase::NodeListed, nodes.iter().any(|n| *n > 68)),
         (Phrase::OneFormula, !one),
@@ -95,7 +101,7 @@ fn entries<T>(table: &[T], n: u64, width: usize) -> &[T] {
 
 /// The phrases that `held` breaks, each once.
 pub fn broken(held: &Held) -> Vec<Phrase> {
-    let [atoms, clauses, constraints, nodes, plain, negated] = held.record[..6] else { panic!("six words") };
+    let [atoms, clauses, constraints, formulas, plain, negated] = held.record[..NODES] else { panic!("a record") };
     let used = entries(&held.clauses, clauses, 3);
     let bodies = entries(&held.constraints, constraints, 2);
     let short = held.clauses.len() < CLAUSE_WORDS
@@ -107,7 +113,7 @@ pub fn broken(held: &Held) -> Vec<Phrase> {
         (Phrase::AtomCount, !(1..=64).contains(&atoms)),
         (Phrase::ClauseCount, clauses > 256),
         (Phrase::ConstraintCount, constraints > 32),
-        (Phrase::NodeCount, nodes > 128),
+        (Phrase::FormulaCount, !(1..=16).contains(&formulas)),
         (Phrase::CauseCount, causes(used, atoms) > 10),
         (Phrase::ConstraintBitNamesAtom, bodies.chunks_exact(2).any(strange)),
         (Phrase::ObservedBitNamesAtom, strange(&[plain, negated])),
@@ -115,7 +121,8 @@ pub fn broken(held: &Held) -> Vec<Phrase> {
     ];
     let mut found = broken_of(&rows);
     found.extend(used.chunks_exact(3).flat_map(|w| broken_by_clause(w, atoms)));
-    found.extend(broken_by_formula(entries(&held.formula, nodes, 1), atoms));
+    let parts = 0..held.formulas().min(QUERIES);
+    found.extend(parts.flat_map(|q| broken_by_formula(held, q, atoms)));
     let mut each: Vec<Phrase> = Vec::new();
     for phrase in found {
         if !each.contains(&phrase) {

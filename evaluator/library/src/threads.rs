@@ -1,6 +1,6 @@
 //! A family of calls from several threads at once: each gets what it gets alone.
 
-use crate::calls::{question, read, settle, Room, Sizes};
+use crate::calls::{question, read, settle, Room, Sizes, ASKED_WORDS};
 use crate::corpus::{generated, Input};
 use crate::due::{self, Asking, Settling};
 use crate::held::Held;
@@ -20,7 +20,7 @@ fn calls(input: &Input) -> Vec<Complaints> {
         let due = Settling::of(case.clone()).words(0);
         found.push(settle(&held, 0, 3, (0, &due)));
         let asking = Asking::of(case);
-        let room = Room { list: 2, work: asking.settings(), answer: 4 };
+        let room = Room { list: 2, work: asking.settings(), answer: ASKED_WORDS };
         found.push(question(&held, room, &asking.due(2)));
     }
     found

@@ -1,13 +1,12 @@
 //! Families of cases that are not sound: each phrase of document 01 broken alone, refused with 13 by settling and by
-//! the question; and cases at each limit, which are sound.
+//! the question; counts far past the limits; and drawn changes.
 
-use crate::breaches::{Breach, ENTRIES, NODES};
-use crate::calls::{question, settle, Room};
+use crate::breaches::{Breach, COUNTS, ENTRIES, FORMULA};
 use crate::case_sizes::refused;
-use crate::drawn::{deep, drawn, rich, sized, small, strewn, word, Shape};
-use crate::due::{Asking, Settling};
-use crate::held::{nodes, Held};
-use crate::sound::{broken, Phrase};
+use crate::drawn::{drawn, rich, small, strewn, word, Shape};
+use crate::held::{Held, NODES, PART_BYTES, QUERIES};
+use crate::limits::accepted;
+use crate::sound::broken;
 use crate::tests::Tests;
 use evaluator::case::Case;
 use evaluator::random::Random;
@@ -18,41 +17,11 @@ const ROUNDS: u64 = 150;
 /// Counts that are past every limit and small when cut to fewer bits.
 const FAR: [u64; 8] = [1 << 8, 1 << 16, 1 << 31, 1 << 32, (1 << 32) + 1, 1 << 62, 1 << 63, u64::MAX - 1];
 
-/// The breaches of the limits on counts and depth.
-const COUNTS: [Breach; 6] = [
-    ("65 to 74 atoms", Phrase::AtomCount, |r, h| h.record[0] = r.between(65, 74) as u64),
-    ("a 257th clause", Phrase::ClauseCount, |r, h| {
-        let count = r.between(257, 300);
-        let (row, used) = (h.clauses[..3].to_vec(), h.record[1] as usize);
-        h.clauses.truncate(3 * used);
-        h.clauses.extend(row.repeat(count - used));
-        h.record[1] = count as u64;
-    }),
-    ("a 33rd constraint", Phrase::ConstraintCount, |r, h| {
-        let count = r.between(33, 60);
-        let (row, used) = (h.constraints[..2].to_vec(), h.record[2] as usize);
-        h.constraints.truncate(2 * used);
-        h.constraints.extend(row.repeat(count - used));
-        h.record[2] = count as u64;
-    }),
-    ("a 129th node", Phrase::NodeCount, |r, h| {
-        let count = r.between(129, 200);
-        h.formula = nodes(&sized(r, h.record[0] as usize, count));
-        h.record[3] = count as u64;
-    }),
-    ("an 11th cause", Phrase::CauseCount, |r, h| h.record[0] += r.between(11, 40) as u64),
-    ("a formula of depth 17 and more", Phrase::Depth, |r, h| {
-        let depth = *r.pick(&[17, 17, 18, 20, 33, 60]);
-        let deep = nodes(&deep(r, h.record[0] as usize, depth));
-        h.record[3] = deep.len() as u64;
-        h.formula[..deep.len()].copy_from_slice(&deep);
-    }),
-];
-
 /// The sound case that the breach `name` starts from.
 fn base(random: &mut Random, name: &str) -> Case {
     let shape = match name {
-        "65 to 74 atoms" => Shape { atoms: 64, causes: 0, clauses: 70, constraints: 2, nodes: 5 },
+        "65 to 74 atoms" => Shape { atoms: 64, causes: 0, clauses: 70, constraints: 2, queries: 2, nodes: 5 },
+        "a 17th formula" => Shape { queries: QUERIES, ..rich(random) },
         _ => rich(random),
     };
     drawn(random, shape)
@@ -68,18 +37,20 @@ fn breach(tests: &mut Tests, (name, phrase, breaks): Breach) {
         tests.require(&format!("seed {seed}: sound before"), broken(&held).is_empty());
         breaks(&mut random, &mut held);
         tests.require(&format!("seed {seed}: {:?} alone", broken(&held)), broken(&held) == [phrase]);
+        tests.require(&format!("seed {seed}: not sound by the evaluator"), held.full().case().is_none());
         refused(tests, &format!("seed {seed}"), &held, 13);
     }
 }
 
 /// Counts of 0 atoms and far past the limits, where other phrases break too.
 fn far_counts(tests: &mut Tests) {
-    for (at, name) in ["atoms", "clauses", "constraints", "nodes"].into_iter().enumerate() {
+    for (at, name) in ["atoms", "clauses", "constraints", "formulas", "nodes"].into_iter().enumerate() {
         tests.family(&format!("unsound: {name} far past the limit"));
         for seed in 0..ROUNDS {
             let mut random = Random::new(seed);
             let shape = rich(&mut random);
             let mut held = Held::of(&drawn(&mut random, shape));
+            let at = if name == "nodes" { NODES + random.below(held.formulas()) } else { at };
             held.record[at] = held.record[at].wrapping_add(*random.pick(&FAR)).max(257);
             refused(tests, &format!("seed {seed}, {}", held.record[at]), &held, 13);
         }
@@ -107,48 +78,6 @@ fn zeros(tests: &mut Tests) {
     }
 }
 
-/// Settles and asks `case`, held by `held`, as the evaluator does.
-fn accepted(tests: &mut Tests, what: &str, case: Case, held: &Held) {
-    let mut settling = Settling::of(case.clone());
-    for s in [0, settling.settings() - 1, settling.settings() / 2] {
-        let due = settling.words(s);
-        tests.call(|| format!("{what}, settle {s}"), settle(held, s, 3, (0, &due)));
-    }
-    let asking = Asking::of(case);
-    let room = Room { list: 3, work: asking.settings(), answer: 4 };
-    tests.call(|| format!("{what}, question"), question(held, room, &asking.due(3)));
-}
-
-/// Cases at each limit.
-fn limits(tests: &mut Tests) {
-    let shape = Shape { atoms: 12, causes: 3, clauses: 14, constraints: 2, nodes: 5 };
-    let rows: [(&str, Shape, u64); 6] = [
-        ("64 atoms", Shape { atoms: 64, clauses: 80, ..shape }, 40),
-        ("256 clauses", Shape { clauses: 256, ..shape }, 40),
-        ("32 constraints", Shape { constraints: 32, ..shape }, 40),
-        ("128 nodes", Shape { nodes: 128, ..shape }, 40),
-        ("10 causes", Shape { causes: 10, clauses: 3, ..shape }, 2),
-        ("1 atom", Shape { atoms: 1, causes: 1, clauses: 0, constraints: 0, nodes: 2 }, 40),
-    ];
-    for (name, shape, rounds) in rows {
-        tests.family(&format!("sound: {name}"));
-        for seed in 0..rounds {
-            let mut random = Random::new(seed);
-            let case = drawn(&mut random, shape);
-            let held = strewn(&mut random, &Held::of(&case));
-            accepted(tests, &format!("seed {seed}"), case, &held);
-        }
-    }
-    tests.family("sound: a formula of depth 16");
-    for seed in 0..40 {
-        let mut random = Random::new(seed);
-        let mut case = drawn(&mut random, shape);
-        case.query = deep(&mut random, shape.atoms, 16);
-        let held = strewn(&mut random, &Held::of(&case));
-        accepted(tests, &format!("seed {seed}"), case, &held);
-    }
-}
-
 /// Drawn changes to drawn cases: refused with 13 where a phrase is broken, else answered as the evaluator does.
 fn changed(tests: &mut Tests) {
     tests.family("sound or not: drawn changes");
@@ -161,6 +90,7 @@ fn changed(tests: &mut Tests) {
             change(&mut random, &mut held);
         }
         let sound = broken(&held).is_empty();
+        tests.require(&format!("seed {seed}: sound or not by the evaluator"), held.full().case().is_some() == sound);
         met[usize::from(sound)] += 1;
         if sound {
             accepted(tests, &format!("seed {seed}"), held.case(), &held);
@@ -179,10 +109,11 @@ fn change(random: &mut Random, held: &mut Held) {
         2 => word.wrapping_sub(1),
         _ => self::word(random),
     };
-    let [_, clauses, constraints, nodes, ..] = held.record[..] else { panic!("six words") };
+    let [_, clauses, constraints, ..] = held.record[..] else { panic!("a record") };
+    let formulas = held.formulas().min(QUERIES - 1);
     match random.below(8) {
         0 | 1 => {
-            let at = random.below(6);
+            let at = random.below(NODES + formulas + 1);
             held.record[at] = near(random, held.record[at]);
         }
         2..=4 => {
@@ -194,7 +125,8 @@ fn change(random: &mut Random, held: &mut Held) {
             held.constraints[at] = near(random, held.constraints[at]);
         }
         _ => {
-            let at = random.below(nodes.min(127) as usize + 1);
+            let q = random.below(formulas + 1);
+            let at = q * PART_BYTES + random.below(held.nodes(q).min(PART_BYTES - 1) + 1);
             held.formula[at] = near(random, u64::from(held.formula[at])) as u8;
         }
     }
@@ -202,11 +134,10 @@ fn change(random: &mut Random, held: &mut Held) {
 
 /// All families of soundness.
 pub fn run(tests: &mut Tests) {
-    for row in COUNTS.into_iter().chain(ENTRIES).chain(NODES) {
+    for row in COUNTS.into_iter().chain(ENTRIES).chain(FORMULA) {
         breach(tests, row);
     }
     far_counts(tests);
     zeros(tests);
-    limits(tests);
     changed(tests);
 }

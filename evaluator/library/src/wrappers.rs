@@ -2,7 +2,7 @@
 
 use crate::corpus::{generated, refused_files, stored, Input};
 use crate::due::{self, mask, Asking, Settling};
-use crate::held::{masks, Held};
+use crate::held::{masks, padded, Held, NODES, QUERIES, RECORD_WORDS};
 use crate::tests::{differing, Complaints, Tests};
 use causes::lent::{self, Record, Tables};
 use causes::Refusal;
@@ -28,15 +28,16 @@ pub fn record(case: &Case, held: &Held) -> Record {
     record.atoms = case.names.len() as u64;
     record.clauses = case.clauses.len() as u64;
     record.constraints = case.constraints.len() as u64;
-    record.nodes = held.record[3];
+    record.formulas = case.queries.len() as u64;
     record.plain = plain;
     record.negated = negated;
+    record.nodes.copy_from_slice(&held.record[NODES..]);
     record
 }
 
 /// The complaints on a record's words, and on the record in these words.
 fn words(record: &Record, held: &Held) -> Complaints {
-    let words: [u64; 6] = held.record.as_slice().try_into().expect("six words");
+    let words: [u64; RECORD_WORDS] = held.record.as_slice().try_into().expect("a record");
     [differing(words, record.words()), differing(record, &Record::from_words(words))].concat()
 }
 
@@ -93,7 +94,11 @@ fn cases(tests: &mut Tests, inputs: &[Input]) {
         several |= asking.minimal() > 1;
         let (mut list, mut work) = (vec![0; 1], vec![0; end as usize]);
         let got = lent::question(&record, &tables, &mut list, &mut work);
-        let shown = got.map(|a| vec![a.verdict as u64, a.minimal, a.listed as u64, a.rounds]);
+        let shown = got.map(|a| {
+            let verdicts: Vec<u64> = a.verdicts().iter().map(|verdict| *verdict as u64).collect();
+            [padded(verdicts, QUERIES), vec![a.minimal, a.listed as u64, a.rounds]].concat()
+        });
+        tests.call(name, differing(Ok(asking.verdicts().len()), got.map(|a| a.verdicts().len())));
         let listed = due.list.len();
         tests.call(
             name,
@@ -143,6 +148,7 @@ fn reports(tests: &mut Tests, inputs: &[Input]) {
 pub fn inputs(folder: &Path) -> Vec<Input> {
     let mut inputs = stored(folder, "marked");
     inputs.extend(stored(folder, "vectors"));
+    inputs.extend(stored(folder, "requests"));
     inputs.extend(generated(400, |s| s % 20 != 0));
     let refused = |(number, _, bytes)| Input { name: format!("refusal {number}"), bytes, report: None };
     inputs.extend(refused_files().into_iter().map(refused));

@@ -33,7 +33,7 @@ pub fn finder(words: &[&str], input: &[u8]) -> Run {
 
 /// The stored case files, by their names in the repository.
 pub fn stored() -> Vec<String> {
-    let folders = ["marked", "vectors", "manual", "edges", "sources"];
+    let folders = ["marked", "vectors", "manual", "edges", "sources", "requests"];
     let files = folders.iter().flat_map(|folder| case_files(&Path::new(ROOT).join("tests").join(folder)));
     let name = |path: PathBuf| path.strip_prefix(ROOT).expect("a file of the repository").display().to_string();
     files.map(name).collect()

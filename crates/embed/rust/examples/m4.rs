@@ -24,8 +24,8 @@ fn question_answered() -> Result<bool, Refusal> {
     let case = Case::read(FILE)?;
     let answer = case.question();
     let list: Vec<u64> = answer.explanations.iter().map(|explanation| explanation.setting).collect();
-    println!("list: {list:?}\nrounds: {}\nverdict: {}", answer.rounds, answer.verdict);
-    Ok(answer.verdict == Verdict::Open && answer.rounds == 15 && list == [1, 3])
+    println!("list: {list:?}\nrounds: {}\nverdict: {}", answer.rounds, answer.verdict());
+    Ok(answer.verdicts == [Verdict::Open] && answer.rounds == 15 && list == [1, 3])
 }
 
 /// Prints the file's report; whether it is document 01's.

@@ -7,12 +7,19 @@ use std::fmt;
 #[derive(Clone, Debug, PartialEq, Eq)]
 #[non_exhaustive]
 pub struct Answer<'a> {
-    /// The verdict on the query.
-    pub verdict: Verdict,
+    /// The verdict on each query, in file order; there is at least one.
+    pub verdicts: Vec<Verdict>,
     /// The rounds over all settings.
     pub rounds: u64,
     /// All minimal explanations, by rising number of their setting.
     pub explanations: Vec<Explanation<'a>>,
+}
+
+impl Answer<'_> {
+    /// The verdict on the first query, the only one of most files.
+    pub fn verdict(&self) -> Verdict {
+        self.verdicts[0]
+    }
 }
 
 /// A setting by name: what it adds for its causes, in atom order. Causes that it doesn't name are left unknown.

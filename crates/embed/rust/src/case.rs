@@ -69,7 +69,7 @@ impl Case {
         lent::settle(&self.record, &self.tables, setting)
     }
 
-    /// Answers the question, with all minimal explanations.
+    /// Answers the question, with a verdict for each query and all minimal explanations.
     pub fn question(&self) -> Answer<'_> {
         let mut list = vec![0; MINIMAL];
         let mut work = vec![0; self.settings() as usize];
@@ -78,7 +78,7 @@ impl Case {
         let causes = self.causes();
         let explanations =
             list[..answer.listed].iter().map(|setting| self.named(&causes, u64::from(*setting))).collect();
-        Answer { verdict: answer.verdict, rounds: answer.rounds, explanations }
+        Answer { verdicts: answer.verdicts().to_vec(), rounds: answer.rounds, explanations }
     }
 
     /// What the setting `setting` adds, by name. Refuses with 14 one that the case doesn't have.

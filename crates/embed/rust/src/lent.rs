@@ -6,10 +6,10 @@
 //! use causes::lent::{question, read, Tables};
 //!
 //! let mut tables = Tables::new();
-//! let record = read(b"(query (then a a))", &mut tables)?;
+//! let record = read(b"(query (then a a))\n(query a)", &mut tables)?;
 //! let (mut list, mut work) = ([0; 16], vec![0; causes::sizes::SETTINGS]);
 //! let answer = question(&record, &tables, &mut list, &mut work)?;
-//! assert_eq!(answer.verdict, causes::Verdict::Follows);
+//! assert_eq!(answer.verdicts(), [causes::Verdict::Follows, causes::Verdict::Open]);
 //! assert_eq!(list[..answer.listed], [0]);
 //! # Ok::<(), causes::Refusal>(())
 //! ```

@@ -22,10 +22,20 @@
 //! ";
 //! let case = causes::Case::read(file)?;
 //! let answer = case.question();
-//! assert_eq!(answer.verdict, causes::Verdict::Open);
+//! assert_eq!(answer.verdict(), causes::Verdict::Open);
 //! assert_eq!(answer.rounds, 15);
 //! let lines: Vec<String> = answer.explanations.iter().map(|e| e.to_string()).collect();
 //! assert_eq!(lines, ["(cause (true shut))", "(cause (true stopped))"]);
+//! # Ok::<(), causes::Refusal>(())
+//! ```
+//!
+//! A file may put up to 16 queries; each has its verdict, in file order:
+//!
+//! ```
+//! use causes::Verdict::{Denied, Follows, Open};
+//!
+//! let case = causes::Case::read(b"(true a)\n(query a)\n(query (not a))\n(query b)\n")?;
+//! assert_eq!(case.question().verdicts, [Follows, Denied, Open]);
 //! # Ok::<(), causes::Refusal>(())
 //! ```
 //!

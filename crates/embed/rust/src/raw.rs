@@ -8,7 +8,7 @@
 
 #[allow(clippy::too_many_arguments)]
 extern "C" {
-    /// Reads a case file into four tables; answer: line, then the six words of the case record.
+    /// Reads a case file into four tables; answer: line, then the 22 words of the case record.
     pub fn causes_read(
         file: *const u8,
         file_bytes: usize,
@@ -39,7 +39,7 @@ extern "C" {
         answer_words: usize,
     ) -> u32;
 
-    /// Answers the question of a case; answer: verdict, number of minimal explanations, how many are listed, rounds.
+    /// Answers the question of a case; answer: 16 verdicts, number of minimal explanations, how many are listed, rounds.
     pub fn causes_question(
         record: *const u64,
         record_words: usize,

@@ -33,7 +33,7 @@ pub enum Refusal {
     ManyClauses {
         line: u64,
     },
-    SecondQuery {
+    ManyQueries {
         line: u64,
     },
     NoQuery,
@@ -62,7 +62,7 @@ impl Refusal {
             7 => Refusal::DeepFormula { line },
             8 => Refusal::ManyNames { line },
             9 => Refusal::ManyClauses { line },
-            10 => Refusal::SecondQuery { line },
+            10 => Refusal::ManyQueries { line },
             11 => Refusal::NoQuery,
             12 => Refusal::ManyCauses,
             13 => Refusal::Unsound,
@@ -87,7 +87,7 @@ impl Refusal {
             Refusal::DeepFormula { line } => (7, Some(line), "the query is deeper than 16"),
             Refusal::ManyNames { line } => (8, Some(line), "the line brings a 65th name"),
             Refusal::ManyClauses { line } => (9, Some(line), "the line is the 257th clause, or the 33rd constraint"),
-            Refusal::SecondQuery { line } => (10, Some(line), "the line is a second query"),
+            Refusal::ManyQueries { line } => (10, Some(line), "the line is a 17th query"),
             Refusal::NoQuery => (11, None, "the file has no query"),
             Refusal::ManyCauses => (12, None, "the file has more than 10 causes"),
             Refusal::Unsound => (13, None, "the case handed in is not sound"),

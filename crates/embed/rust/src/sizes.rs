@@ -8,14 +8,23 @@ pub const CLAUSE_WORDS: usize = 768;
 /// Words of the constraint table, two a constraint.
 pub const CONSTRAINT_WORDS: usize = 64;
 
-/// Bytes of the formula table, one a node.
-pub const FORMULA_BYTES: usize = 128;
+/// Bytes of the formula table: a part for each query.
+pub const FORMULA_BYTES: usize = QUERIES * PART_BYTES;
+
+/// Bytes of a part of the formula table, one a node.
+pub const PART_BYTES: usize = 128;
 
 /// Bytes of the table of names.
 pub const NAMES_BYTES: usize = 1_024;
 
 /// Bytes of a name's row.
 pub const NAME_BYTES: usize = 16;
+
+/// Words of a case record.
+pub const RECORD_WORDS: usize = 6 + QUERIES;
+
+/// The most queries of a file, and formulas of a case.
+pub const QUERIES: usize = 16;
 
 /// The longest file that is read.
 pub const FILE_BYTES: usize = 32_768;
@@ -27,4 +36,4 @@ pub const SETTINGS: usize = 59_049;
 pub const MINIMAL: usize = 15_360;
 
 /// The longest report: an output of so many bytes is long enough for each.
-pub const REPORT_BYTES: usize = 264_252;
+pub const REPORT_BYTES: usize = 264_582;

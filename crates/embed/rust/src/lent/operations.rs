@@ -4,6 +4,7 @@
 //! that the exported functions ask.
 
 use super::tables::{Record, Tables};
+use crate::sizes::{QUERIES, RECORD_WORDS};
 use crate::{raw, Refusal, Verdict};
 
 /// A settled setting: its least model and its round count.
@@ -34,14 +35,21 @@ impl Settled {
 #[derive(Clone, Copy, Debug, PartialEq, Eq)]
 #[non_exhaustive]
 pub struct Answer {
-    /// The verdict on the query.
-    pub verdict: Verdict,
+    formulas: usize,
+    verdicts: [Verdict; QUERIES],
     /// The number of minimal explanations.
     pub minimal: u64,
     /// How many of them the list got.
     pub listed: usize,
     /// The rounds over all settings.
     pub rounds: u64,
+}
+
+impl Answer {
+    /// The verdict on each formula, in the order of the parts of the formula table.
+    pub fn verdicts(&self) -> &[Verdict] {
+        &self.verdicts[..self.formulas]
+    }
 }
 
 /// Nothing for the number 0, else the refusal in `line`.
@@ -54,7 +62,7 @@ fn accepted(number: u32, line: u64) -> Result<(), Refusal> {
 
 /// Reads a case file into `tables`. Refuses with 2 to 12; 2 leaves the tables as they were, the others zero them.
 pub fn read(file: &[u8], tables: &mut Tables) -> Result<Record, Refusal> {
-    let mut words = [0; 7];
+    let mut words = [0; 1 + RECORD_WORDS];
     // SAFETY: each pointer comes with the length of its slice, and the tables are borrowed for writing.
     let number = unsafe {
         raw::causes_read(
@@ -104,8 +112,9 @@ pub fn settle(record: &Record, tables: &Tables, setting: u64) -> Result<Settled,
 /// byte s of `work` becomes 0 (setting s doesn't explain), 1 (explains, not minimal) or 2 (minimal). Refuses with 13
 /// and 15, and then touches neither.
 pub fn question(record: &Record, tables: &Tables, list: &mut [u16], work: &mut [u8]) -> Result<Answer, Refusal> {
+    let formulas = record.formulas as usize;
     let record = record.words();
-    let mut words = [0; 4];
+    let mut words = [0; QUERIES + 3];
     // SAFETY: each pointer comes with the length of its slice; list and work area are borrowed for writing.
     let number = unsafe {
         raw::causes_question(
@@ -125,9 +134,9 @@ pub fn question(record: &Record, tables: &Tables, list: &mut [u16], work: &mut [
             words.len(),
         )
     };
-    let [verdict, minimal, listed, rounds] = words;
-    let verdict = Verdict::from_number(verdict).expect("a verdict of document 01");
-    accepted(number, 0).map(|()| Answer { verdict, minimal, listed: listed as usize, rounds })
+    let [verdicts @ .., minimal, listed, rounds] = words;
+    let verdicts = verdicts.map(|number| Verdict::from_number(number).expect("a verdict of document 01"));
+    accepted(number, 0).map(|()| Answer { formulas, verdicts, minimal, listed: listed as usize, rounds })
 }
 
 /// Writes the report of a case file to the front of `out` and answers its length. Refuses with 19 an output that is

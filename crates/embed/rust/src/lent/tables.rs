@@ -2,7 +2,7 @@
 //!
 //! From: document 01, Case tables and sound cases.
 
-use crate::sizes::{CLAUSE_WORDS, CONSTRAINT_WORDS, FORMULA_BYTES, NAMES_BYTES, NAME_BYTES};
+use crate::sizes::{CLAUSE_WORDS, CONSTRAINT_WORDS, FORMULA_BYTES, NAMES_BYTES, NAME_BYTES, QUERIES, RECORD_WORDS};
 
 /// Clauses: three words each, head + 64 × kind (0 fact, 1 assumption, 2 rule), plain atoms, negated atoms.
 pub type Clauses = [u64; CLAUSE_WORDS];
@@ -10,7 +10,7 @@ pub type Clauses = [u64; CLAUSE_WORDS];
 /// Constraints: two words each, plain atoms, negated atoms.
 pub type Constraints = [u64; CONSTRAINT_WORDS];
 
-/// The query in prefix order: 0 to 63 an atom, 64 not, 65 and, 66 or, 67 then, 68 same.
+/// Formulas: 128 bytes each, in prefix order, 0 to 63 an atom, 64 not, 65 and, 66 or, 67 then, 68 same.
 pub type Formula = [u8; FORMULA_BYTES];
 
 /// Names: 16 bytes an atom, zero-filled at the end.
@@ -24,7 +24,7 @@ pub struct Tables {
     pub clauses: Clauses,
     /// The constraints.
     pub constraints: Constraints,
-    /// The query.
+    /// The queries, in file order.
     pub formula: Formula,
     /// The names.
     pub names: Names,
@@ -55,7 +55,8 @@ impl Default for Tables {
     }
 }
 
-/// A case record: how many entries of the tables are in use, and the observed atoms, bit i for atom i.
+/// A case record: how many entries of the tables are in use, and the observed atoms, bit i for atom i. The node counts
+/// of parts past the formulas are zero when read, and not looked at when lent.
 #[derive(Clone, Copy, Debug, Default, PartialEq, Eq)]
 #[non_exhaustive]
 pub struct Record {
@@ -65,23 +66,29 @@ pub struct Record {
     pub clauses: u64,
     /// The constraints.
     pub constraints: u64,
-    /// The nodes of the formula.
-    pub nodes: u64,
+    /// The formulas.
+    pub formulas: u64,
     /// The atoms observed as true.
     pub plain: u64,
     /// The atoms observed as false.
     pub negated: u64,
+    /// The nodes of each formula.
+    pub nodes: [u64; QUERIES],
 }
 
 impl Record {
     /// The record's words.
-    pub fn words(&self) -> [u64; 6] {
-        [self.atoms, self.clauses, self.constraints, self.nodes, self.plain, self.negated]
+    pub fn words(&self) -> [u64; RECORD_WORDS] {
+        let mut words = [0; RECORD_WORDS];
+        let (counts, nodes) = words.split_at_mut(RECORD_WORDS - QUERIES);
+        counts.copy_from_slice(&[self.atoms, self.clauses, self.constraints, self.formulas, self.plain, self.negated]);
+        nodes.copy_from_slice(&self.nodes);
+        words
     }
 
     /// The record in these words.
-    pub fn from_words(words: [u64; 6]) -> Record {
-        let [atoms, clauses, constraints, nodes, plain, negated] = words;
-        Record { atoms, clauses, constraints, nodes, plain, negated }
+    pub fn from_words(words: [u64; RECORD_WORDS]) -> Record {
+        let [atoms, clauses, constraints, formulas, plain, negated, nodes @ ..] = words;
+        Record { atoms, clauses, constraints, formulas, plain, negated, nodes }
     }
 }

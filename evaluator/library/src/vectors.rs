@@ -1,0 +1,110 @@
+//! Families of the operations that stand in files: what the library answers by the safe calls, in the plain form of the
+//! answers beside them.
+//!
+//! From: tests/README.md.
+
+use crate::tests::{differing, Tests};
+use causes::lent::{self, Record, Tables};
+use causes::Refusal;
+use evaluator::check::vector_files;
+use evaluator::file;
+use evaluator::held::{self, Held};
+use evaluator::plain::{Answered, Operation};
+use evaluator::vectors::{Subject, Vector};
+use std::collections::BTreeMap;
+use std::path::{Path, PathBuf};
+
+/// A record and tables as the safe calls have them.
+struct Lent {
+    record: Record,
+    tables: Tables,
+}
+
+impl Lent {
+    /// The record and the tables of `held`.
+    fn of(held: &Held) -> Lent {
+        let from = &held.record;
+        let mut record = Record::default();
+        (record.atoms, record.clauses, record.constraints) = (from.atoms, from.clauses, from.constraints);
+        (record.formulas, record.plain, record.negated) = (from.formulas, from.plain, from.negated);
+        record.nodes = from.nodes;
+        let mut tables = Tables::new();
+        tables.clauses.copy_from_slice(&held.clauses);
+        tables.constraints.copy_from_slice(&held.constraints);
+        tables.formula.copy_from_slice(&held.formulas);
+        tables.names.copy_from_slice(&held.names);
+        Lent { record, tables }
+    }
+
+    /// What reading `file` gives.
+    fn read(file: &[u8]) -> Result<Lent, Refusal> {
+        let mut tables = Tables::new();
+        lent::read(file, &mut tables).map(|record| Lent { record, tables })
+    }
+
+    /// This record and these tables in the evaluator's form.
+    fn held(&self) -> Held {
+        let Record { atoms, clauses, constraints, formulas, plain, negated, nodes, .. } = self.record;
+        Held {
+            record: held::Record { atoms, clauses, constraints, formulas, nodes, plain, negated },
+            clauses: self.tables.clauses.to_vec(),
+            constraints: self.tables.constraints.to_vec(),
+            formulas: self.tables.formula.to_vec(),
+            names: self.tables.names.to_vec(),
+        }
+    }
+
+    /// The answer of settling `setting`.
+    fn settled(&self, setting: u64) -> Result<Answered, Refusal> {
+        let a = lent::settle(&self.record, &self.tables, setting)?;
+        Ok(Answered::Settled { truths: a.trues, falsehoods: a.falses, rounds: a.rounds })
+    }
+
+    /// The answer of the question, with a list of `slots` slots and a work area of `bytes` bytes.
+    fn asked(&self, slots: usize, bytes: usize) -> Result<Answered, Refusal> {
+        let (mut list, mut work) = (vec![0; slots], vec![0; bytes]);
+        let a = lent::question(&self.record, &self.tables, &mut list, &mut work)?;
+        list.truncate(a.listed);
+        let verdicts = a.verdicts().iter().map(|verdict| *verdict as u64).collect();
+        Ok(Answered::Asked { verdicts, minimal: a.minimal as usize, rounds: a.rounds, list, work })
+    }
+}
+
+/// What the library answers to `vector`.
+fn answered(vector: &Vector) -> Answered {
+    let lent = match &vector.subject {
+        Subject::Tables(held) => Lent::of(held),
+        Subject::File(bytes) => match Lent::read(bytes) {
+            Ok(lent) => lent,
+            Err(refusal) => {
+                let line = refusal.line().unwrap_or(0) as usize;
+                return Answered::Unread(file::Refusal { number: refusal.number(), line });
+            }
+        },
+    };
+    let answer = match vector.operation {
+        Operation::Read => Ok(Answered::Read(lent.held())),
+        Operation::Settle { setting } => lent.settled(setting),
+        Operation::Question { slots, bytes } => lent.asked(slots, bytes),
+    };
+    answer.unwrap_or_else(|refusal| Answered::Refused(refusal.number()))
+}
+
+/// The families of the operations under `folder`, one for each folder.
+pub fn run(tests: &mut Tests, folder: &Path) {
+    let mut folders: BTreeMap<PathBuf, Vec<PathBuf>> = BTreeMap::new();
+    for path in vector_files(folder).unwrap_or_default() {
+        let parent = path.strip_prefix(folder).ok().and_then(Path::parent).expect("a file in a folder");
+        folders.entry(parent.to_path_buf()).or_default().push(path);
+    }
+    for (name, paths) in folders {
+        tests.family(&format!("operations: {}", name.display()));
+        for path in paths {
+            let complaints = match Vector::load(&path) {
+                Ok(vector) => differing(vector.expected.as_str(), &answered(&vector).text()),
+                Err(fault) => vec![fault],
+            };
+            tests.call(|| path.display().to_string(), complaints);
+        }
+    }
+}
