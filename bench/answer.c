@@ -1,4 +1,4 @@
-// The query's value, the verdict, and the report.
+// The queries' values, the verdicts, and the report.
 #include "answer.h"
 
 #include <stdio.h>
@@ -28,19 +28,24 @@ static Value value(const uint8_t **nodes, Interpretation i) {
     }
 }
 
-void take_minimal(Answer *answer, const Case *c, int setting, Interpretation model) {
-    const uint8_t *nodes = c->formula;
-    Value v = value(&nodes, model);
+void take_minimal(Answer *answer, int setting) {
     if (answer->minimal < LISTED) answer->list[answer->minimal] = (uint16_t)setting;
     answer->minimal++;
-    answer->followed += v == TRUE;
-    answer->denied += v == FALSE;
 }
 
-static const char *verdict(const Answer *answer) {
+void take_model(Answer *answer, const Case *c, Interpretation model) {
+    for (uint64_t left = unsettled(answer, c); left != 0; left &= left - 1) {
+        const uint8_t *nodes = c->formula[lowest(left)];
+        Value v = value(&nodes, model);
+        if (v != TRUE) answer->untrue |= left & -left;
+        if (v != FALSE) answer->unfalse |= left & -left;
+    }
+}
+
+static const char *verdict(const Answer *answer, int query) {
     if (answer->minimal == 0) return "unexplained";
-    if (answer->followed == answer->minimal) return "follows";
-    return answer->denied == answer->minimal ? "denied" : "open";
+    if (!(answer->untrue & bit(query))) return "follows";
+    return answer->unfalse & bit(query) ? "open" : "denied";
 }
 
 // Writes the line of one setting; answers the end of the text.
@@ -58,8 +63,9 @@ static char *put_setting(char *end, int setting, const Case *c, const Program *p
 void report(const Answer *answer, const Case *c, const Program *p) {
     static char text[MOST_TEXT];
     int listed = answer->minimal < LISTED ? answer->minimal : LISTED;
-    char *end = text + sprintf(text, "(verdict %s)\n(rounds %ld)\n(minimal %d %d)\n", verdict(answer), answer->rounds,
-                               answer->minimal, listed);
+    char *end = text;
+    for (int q = 0; q < c->queries; q++) end += sprintf(end, "(verdict %s)\n", verdict(answer, q));
+    end += sprintf(end, "(rounds %ld)\n(minimal %d %d)\n", answer->rounds, answer->minimal, listed);
     for (int k = 0; k < listed; k++) end = put_setting(end, answer->list[k], c, p);
     size_t length = (size_t)(end - text);
     if (fwrite(text, 1, length, stdout) != length || fflush(stdout) != 0) fail("the report cannot be written");

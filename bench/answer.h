@@ -9,17 +9,26 @@ enum { MOST_SETTINGS = 59049, LISTED = 1024 };
 // What the bytes of the work area say of a setting.
 enum { NO, EXPLAINS, MINIMAL };
 
-// What a walk answers: minimal explanations, those of them with the query true and false, rounds, the list, and the
-// work area with a byte for each setting.
+// What a walk answers: minimal explanations, the queries that one of them doesn't make true and those that one doesn't
+// make false, bit q for query q, rounds, the list, and the work area with a byte for each setting. It starts as zeros.
 typedef struct {
-    int minimal, followed, denied;
+    int minimal;
+    uint64_t untrue, unfalse;
     long rounds;
     uint16_t list[LISTED];
     uint8_t work[MOST_SETTINGS];
 } Answer;
 
-// Counts and lists a minimal explanation whose least model is given.
-void take_minimal(Answer *answer, const Case *c, int setting, Interpretation model);
+// The queries that are not open yet, so that a further minimal explanation can change them.
+static inline uint64_t unsettled(const Answer *answer, const Case *c) {
+    return (bit(c->queries) - 1) & ~(answer->untrue & answer->unfalse);
+}
+
+// Counts and lists a minimal explanation.
+void take_minimal(Answer *answer, int setting);
+
+// Evaluates the queries that are not open yet in the least model of a minimal explanation.
+void take_model(Answer *answer, const Case *c, Interpretation model);
 
 // Writes the report to standard output.
 void report(const Answer *answer, const Case *c, const Program *p);

@@ -7,9 +7,10 @@
 
 enum { MOST_BYTES = 32768 };
 
-// The place in the file, and the case being read.
+// The place in the file, the case being read, and the place of the next node of its last query.
 static const char *at;
 static Case *reading;
+static uint8_t *next_node, *past_nodes;
 
 void fail(const char *why) {
     fprintf(stderr, "baseline: %s\n", why);
@@ -68,8 +69,8 @@ static void literals(Body *b) {
 }
 
 static void node(int n) {
-    if (reading->nodes == MOST_NODES) fail("too many nodes");
-    reading->formula[reading->nodes++] = (uint8_t)n;
+    if (next_node == past_nodes) fail("too many nodes");
+    *next_node++ = (uint8_t)n;
 }
 
 // The node of a form's word, told by its first letter.
@@ -98,6 +99,13 @@ static void formula(void) {
     bracket(')');
 }
 
+static void query(void) {
+    if (reading->queries == MOST_QUERIES) fail("too many queries");
+    next_node = reading->formula[reading->queries++];
+    past_nodes = next_node + MOST_NODES;
+    formula();
+}
+
 static void clause(Kind kind) {
     if (reading->clauses == MOST_CLAUSES) fail("too many clauses");
     Clause *c = &reading->clause[reading->clauses++];
@@ -121,7 +129,7 @@ static void form(void) {
     case 'i': clause(RULE); break;
     case 'n': constraint(); break;
     case 's': literals(&reading->observed); break;
-    case 'q': formula(); break;
+    case 'q': query(); break;
     default: fail("a line that is no form");
     }
 }

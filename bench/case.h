@@ -4,7 +4,8 @@
 
 #include <stdint.h>
 
-enum { MOST_ATOMS = 64, MOST_CLAUSES = 256, MOST_CONSTRAINTS = 32, MOST_NODES = 128, MOST_CAUSES = 10, MOST_NAME = 16 };
+enum { MOST_ATOMS = 64, MOST_CLAUSES = 256, MOST_CONSTRAINTS = 32, MOST_QUERIES = 16, MOST_NODES = 128 };
+enum { MOST_CAUSES = 10, MOST_NAME = 16 };
 
 // The nodes of a formula in prefix order: an atom's number, or one of these.
 enum { NOT = 64, AND, OR, THEN, SAME };
@@ -27,18 +28,21 @@ typedef struct {
     Body body;
 } Clause;
 
-// Clauses and constraints stand in file order, names by atom number.
+// Clauses, constraints and queries stand in file order, names by atom number.
 typedef struct {
-    int atoms, clauses, constraints, nodes;
+    int atoms, clauses, constraints, queries;
     Clause clause[MOST_CLAUSES];
     Body constraint[MOST_CONSTRAINTS];
     Body observed;
-    uint8_t formula[MOST_NODES];
+    uint8_t formula[MOST_QUERIES][MOST_NODES];
     char name[MOST_ATOMS][MOST_NAME + 1];
 } Case;
 
 // The word with one atom.
 static inline uint64_t bit(int atom) { return (uint64_t)1 << atom; }
+
+// The atom of the lowest bit of a word that isn't 0.
+static inline int lowest(uint64_t word) { return __builtin_ctzll(word); }
 
 // Ends the program with status 2 and a word on standard error.
 void fail(const char *why);

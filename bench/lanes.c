@@ -31,9 +31,6 @@ static Planes now;                     // the block
 static Planes fresh;                   // what a round decides
 static uint64_t row[2 * BLOCKS];       // setting s at bit LANES * BLOCKS + s; the words in front stay 0
 
-// The atom of the lowest bit of a word that isn't 0.
-static inline int lowest(uint64_t word) { return __builtin_ctzll(word); }
-
 // The word with the first lanes, 1 to 64 of them.
 static inline uint64_t first_lanes(int number) { return ~(uint64_t)0 >> (LANES - number); }
 
@@ -189,8 +186,11 @@ static void take(Answer *answer, const Case *c, int first, int number, uint64_t 
         return;
     }
     for (int j = 0; j < number; j++) work[j] = (uint8_t)((explains >> j & 1) + (minimal >> j & 1));
-    for (; minimal != 0; minimal &= minimal - 1)
-        take_minimal(answer, c, first + lowest(minimal), column(c->atoms, lowest(minimal)));
+    for (; minimal != 0; minimal &= minimal - 1) {
+        int lane = lowest(minimal);
+        take_minimal(answer, first + lane);
+        if (unsettled(answer, c) != 0) take_model(answer, c, column(c->atoms, lane));
+    }
 }
 
 void walk_lanes(const Case *c, const Program *p, Answer *answer) {

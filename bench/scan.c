@@ -75,6 +75,7 @@ void walk_scan(const Case *c, const Program *p, Answer *answer) {
         answer->work[setting] = EXPLAINS;
         if (!is_minimal(p, answer->work, setting, x)) continue;
         answer->work[setting] = MINIMAL;
-        take_minimal(answer, c, setting, s.model);
+        take_minimal(answer, setting);
+        take_model(answer, c, s.model);
     }
 }
