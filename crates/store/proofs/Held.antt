@@ -1,10 +1,10 @@
 -- Tables that hold what was read hold it with one clause, constraint, reading or query more, and with a line's names.
 -- Assumes nothing.
 use mathlib.Core.Path.{_≡_, refl, ap, subst, _∙_}
-use mathlib.Core.List.{List, [], _∷_, _++_, map-append}
-use Prim.Native.Nat.{ℕ, zero, suc, _≤_, _<_}
+use mathlib.Core.List.{List, [], _∷_, map-append}
+use Prim.Native.Nat.{ℕ, _≤_, _<_}
 use native.Mathlib.Omega.{arith}
-use lib.ListN.{length, getD, length-append, length-map}
+use lib.ListN.{length, length-append, length-map}
 use Rattle.logic.specs.Formula.{Formula}
 use Rattle.logic.specs.Nodes.{nodes}
 use Rattle.program.specs.declared.case.Case.{Case}
@@ -38,13 +38,6 @@ use Rattle.store.proofs.Lookups.{Agree, masks-same, encoded-same}
 use Rattle.store.proofs.NodeLaws.{FormulaPut}
 use Rattle.store.proofs.Rows.{clauseRowWords, constraintRowWords, clause-rows, constraint-rows, formula-rows}
 
--- each of l is at most m, with one more
-push-le : (m : ℕ) (l : List ℕ) (x : ℕ) → ((q : ℕ) → getD l q 0 ≤ m) → x ≤ m → (q : ℕ) → getD (l ++ (x ∷ [])) q 0 ≤ m
-push-le m [] x h k zero = k
-push-le m [] x h k (suc q) = omega arith
-push-le m (y ∷ l) x h k zero = h zero
-push-le m (y ∷ l) x h k (suc q) = push-le m l x (λ i. h (suc i)) k q
-
 -- c with a number of atoms
 abbrev pub withAtomCount : Case → ℕ → Case
 withAtomCount c n = caseWith n (c .clauses) (c .constraints) (c .formulas) (c .plain) (c .negated) (c .nodes)
@@ -58,17 +51,14 @@ module _ (st : Said) (h : Limits st) where
     clauses-few = i;
     constraints-few = j;
     queries-few = h .queries-few;
-    nodes-few = h .nodes-few;
     query-atoms = λ s. omega (arith, h .query-atoms s);
   }
 
-  query-limits : (f : Formula) → length (st .queries) < 16 → 1 ≤ length (st .names) → length (nodes f) ≤ partSize
-      → Limits (withQuery st f)
-  query-limits f room a few = record {
+  query-limits : (f : Formula) → length (st .queries) < 16 → 1 ≤ length (st .names) → Limits (withQuery st f)
+  query-limits f room a = record {
     clauses-few = h .clauses-few;
     constraints-few = h .constraints-few;
     queries-few = omega (arith, length-append (st .queries) (f ∷ []));
-    nodes-few = λ q. rw map-append (push-le partSize (nodeCounts (st .queries)) _ (h .nodes-few) few q);
     query-atoms = λ _. a;
   }
 
@@ -205,7 +195,7 @@ module _ (st : Said) (c : Case) (t : Lent) (h : Held st c t) where
           row-stored formula-rows formulaSize (st .queries) g (nodes g) (t .formula) refl (omega arith) (omega arith)
           (long .formula-long) formula-held in
           record {
-            limits = query-limits st (h .limits) g room' atoms (omega arith);
+            limits = query-limits st (h .limits) g room' atoms;
             case-is = s .counted ∙ rw (h .case-is, n, map-append, ← counts, length-map);
             all-named = h .all-named;
             few-names = h .few-names;

@@ -51,7 +51,6 @@ nothing-limits = record {
   clauses-few = omega arith;
   constraints-few = omega arith;
   queries-few = omega arith;
-  nodes-few = λ q. omega arith;
   query-atoms = omega arith;
 }
 

@@ -6,14 +6,14 @@
 --   Held st c t      the record c and the tables t hold st
 --   Kept t u         the tables u are t but for the entries within their sizes
 use mathlib.Core.Path.{_≡_}
-use Prim.Native.Nat.{ℕ, _≤_}
-use lib.ListN.{length, getD}
+use Prim.Native.Nat.{_≤_}
+use lib.ListN.{length}
 use Rattle.program.specs.declared.case.Case.{Case}
-use Rattle.program.specs.Case.{clauseSize, constraintSize, formulaSize, partSize, nameSize}
+use Rattle.program.specs.Case.{clauseSize, constraintSize, formulaSize, nameSize}
 use Rattle.names.specs.Held.{AllNamed}
 use Rattle.store.specs.Lent.{Lent, filledWith}
 use Rattle.store.specs.Saying.{Said}
-use Rattle.store.specs.Tables.{nodeCounts, wordsOf, caseSaid}
+use Rattle.store.specs.Tables.{wordsOf, caseSaid}
 
 -- the tables have their full sizes
 pub record Long (t : Lent) : Type 0 where
@@ -27,7 +27,6 @@ pub record Limits (st : Said) : Type 0 where
   pub clauses-few : length (st .clauses) ≤ 256
   pub constraints-few : length (st .constraints) ≤ 32
   pub queries-few : length (st .queries) ≤ 16
-  pub nodes-few : (q : ℕ) → getD (nodeCounts (st .queries)) q 0 ≤ partSize
   pub query-atoms : 1 ≤ length (st .queries) → 1 ≤ length (st .names)
 
 pub record InLimits (c : Case) : Type 0 where
