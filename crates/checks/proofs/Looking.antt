@@ -34,18 +34,18 @@ other-form l (Never at) y o f = rw (f .line-is)
 other-form l (Seen at) y o f = rw (f .line-is)
 other-form l (Query at d) y o f = rw (f .line-is)
 
-module _ {l : List ℕ} where
-  pub looked-long : 200 < length l → LookedAs l (looked.Refused 3)
+-- s tells whether the line is a comment
+module _ {l : List ℕ} {s : Bool} (c : s ≡ isComment l) where
+  pub looked-comment : s ≡ true → LookedAs l looked.Comment
   unfolding lookRefusal
-  looked-long h = record { told = (rw (lt-leb _ _ h), omega arith) }
+  looked-comment a = record { told = (rw (sym c ∙ a), sym c ∙ a) }
 
-  -- s tells whether the line is a comment
-  module _ (h : length l ≤ 200) {s : Bool} (c : s ≡ isComment l) where
-    pub looked-comment : s ≡ true → LookedAs l looked.Comment
+  module _ (a : s ≡ false) where
+    pub looked-long : 200 < length l → LookedAs l (looked.Refused 3)
     unfolding lookRefusal
-    looked-comment a = record { told = (rw (le-leb _ _ h, sym c ∙ a), sym c ∙ a) }
+    looked-long h = record { told = (rw (lt-leb _ _ h, sym c ∙ a), omega arith) }
 
-    module _ (a : s ≡ false) where
+    module _ (h : length l ≤ 200) where
       pub looked-bytes : allOf isAllowed l ≡ false → LookedAs l (looked.Refused 4)
       unfolding lookRefusal
       looked-bytes b = record { told = (rw (le-leb _ _ h, sym c ∙ a, b), omega arith) }

@@ -1,5 +1,5 @@
 -- The checks of a line, each over the whole line and what was read before it; the first that fails decides.
--- From: document 01, "What each operation refuses", 3 to 10.
+-- From: document 01, "What each operation refuses", 3 to 10; document 02, [1], [2].
 --
 --   lookChecks l       the checks 3 to 5 of the line l, which need nothing of what was read
 --   lookRefusal l      the number of the first of them that fails, 0 where all pass
@@ -25,11 +25,11 @@ use Rattle.text.specs.Words.{namesIn}
 use Rattle.names.specs.Names.{someLong, withNames}
 use Rattle.store.specs.Saying.{Said, renamed, saidBy}
 
--- 3 over 200 bytes, on every line; on one that is no comment 4, a byte that may not stand in a line, and 5, no form
+-- none on a comment; on other lines 3 over 200 bytes, 4 a byte that may not stand in a line, 5 no form
 abbrev pub lookChecks : List ℕ → List Check
 lookChecks l =
-    check 3 (leb (length l) 200)
-    ∷ pick (isComment l) [] (check 4 (allOf isAllowed l) ∷ check 5 (isLine (lineOf (tokens l))) ∷ [])
+    pick (isComment l) []
+    (check 3 (leb (length l) 200) ∷ check 4 (allOf isAllowed l) ∷ check 5 (isLine (lineOf (tokens l))) ∷ [])
 
 unfoldable pub lookRefusal : List ℕ → ℕ
 lookRefusal l = firstFailed (lookChecks l)

@@ -14,11 +14,11 @@ pub enum Looked {
 pub fn look(l: &[u8]) -> Looked
     ensures { λ r. ⌜ LookedAs (now (l .entry)) r ⌝ }
 {
-    if 200 < l.len() {
-        return Looked::Refused(3);
-    }
     if text::lines::is_comment(l) {
         return Looked::Comment;
+    }
+    if 200 < l.len() {
+        return Looked::Refused(3);
     }
     if !text::bytes::all_allowed(l) {
         return Looked::Refused(4);
