@@ -1,7 +1,7 @@
 //! The driver: all tests of a program, their failures, what occurred, and the count.
 
 use crate::bench::{Bench, Outcome, Test};
-use crate::sample::SAMPLES;
+use crate::sample::{sample, SAMPLES};
 use crate::tally::Tally;
 use std::collections::BTreeMap;
 use std::path::{Path, PathBuf};
@@ -106,8 +106,8 @@ pub fn check(program: &Path, folders: &[&Path], limit: Duration) -> bool {
         if let Some(own) = &outcome.own {
             counts.settings += own.settings;
             counts.searched += own.searched;
-            if let Test::Generated(_) = test {
-                tally.count(own);
+            if let Test::Generated(seed) = test {
+                tally.count(&sample(*seed).bytes, own);
             }
         }
         match outcome.complaint {

@@ -51,7 +51,8 @@ fn damaged_bytes(random: &mut Random, mut bytes: Vec<u8>) -> Vec<u8> {
     bytes
 }
 
-/// Doubles, deletes, swaps, joins, cuts, replaces or lengthens lines.
+/// Doubles, deletes, swaps, joins, cuts, replaces or lengthens lines; of those lengthened to about 200 bytes some get
+/// `;` as their first byte, some as their second.
 fn damage_lines(random: &mut Random, lines: &mut Vec<Vec<u8>>) {
     let at = random.below(lines.len());
     match random.below(9) {
@@ -79,6 +80,9 @@ fn damage_lines(random: &mut Random, lines: &mut Vec<Vec<u8>>) {
         7 => {
             let length = random.between(LINE_BYTES - 2, LINE_BYTES + 3).max(lines[at].len());
             lines[at].resize(length, *random.pick(b"  ;a)"));
+            if random.chance(30) {
+                lines[at][random.below(2)] = b';';
+            }
         }
         _ => drop(lines.drain(at..lines.len().min(at + 4))),
     }

@@ -1,6 +1,6 @@
 //! Files at the limits of documents 01 and 02, each limit from both sides.
 //!
-//! From: document 01, The file; What each operation refuses (Reading); Edges; document 02, [1].
+//! From: document 01, The file; What each operation refuses (Reading); Edges; document 02, [1], [2].
 
 use crate::families::{formula, literal, queries};
 use crate::file::{ATOMS, CAUSES, CLAUSES, CONSTRAINTS, DEPTH, FILE_BYTES, LINE_BYTES, NAME_BYTES, QUERIES};
@@ -12,8 +12,8 @@ use crate::sample::{Due, Sample};
 /// The files at one limit: within it, or one past it.
 type Edge = fn(&mut Random, usize) -> Sample;
 
-/// Every limit.
-pub const EDGES: [Edge; 9] = [
+/// Every limit, and the length of comments, which have none of their own.
+pub const EDGES: [Edge; 10] = [
     atom_count,
     name_length,
     cause_count,
@@ -23,6 +23,7 @@ pub const EDGES: [Edge; 9] = [
     constraint_count,
     file_length,
     query_count,
+    comment_length,
 ];
 
 /// The sample of `bytes` that is to be read, or with `past` = 1 to be refused with `number`.
@@ -107,13 +108,12 @@ fn formula_depth(random: &mut Random, past: usize) -> Sample {
     sample(file(random, &lines), past, 7)
 }
 
-/// A line of 200 bytes, or of 201: a form, a comment, or spaces, the last line with or without its LF.
+/// A line of 200 bytes, or of 201: a form or spaces, the last line with or without its LF.
 fn line_length(random: &mut Random, past: usize) -> Sample {
     let length = LINE_BYTES + past;
-    let long = match random.below(4) {
+    let long = match random.below(3) {
         0 => format!("{:>length$}", "(query a)"),
         1 => format!("{:<length$}", "(query a)"),
-        2 => format!(";{}", "x".repeat(length - 1)),
         _ => " ".repeat(length),
     };
     let mut lines = vec![long.clone().into_bytes()];
@@ -157,13 +157,40 @@ fn file_length(random: &mut Random, past: usize) -> Sample {
     let mut bytes = b"(if low shut)\n(seen low)\n(query shut)\n".to_vec();
     let length = FILE_BYTES + past + far;
     while bytes.len() < length {
-        let line = random.between(1, LINE_BYTES).min(length - bytes.len());
-        bytes.extend(std::iter::repeat_n(if random.chance(50) { b' ' } else { b';' }, line));
+        let (byte, most) = *random.pick(&[(b' ', LINE_BYTES), (b';', LINE_BYTES), (b';', FILE_BYTES)]);
+        let line = random.between(1, most).min(length - bytes.len());
+        bytes.extend(std::iter::repeat_n(byte, line));
         if bytes.len() < length {
             bytes.push(b'\n');
         }
     }
     sample(bytes, past, 2)
+}
+
+/// A comment of 200 bytes, or with `past` = 1 of 201 and more, at a drawn place: it is read over, and in half of the
+/// draws a line behind it is refused.
+fn comment_length(random: &mut Random, past: usize) -> Sample {
+    let length = if past == 0 { LINE_BYTES } else { *random.pick(&[LINE_BYTES + 1, LINE_BYTES + 2, 5_000, 32_000]) };
+    let rest = *random.pick(&["x", "(", ")", ";", " ", "(query a) "]);
+    let mut comment = format!(";{}", rest.repeat(length));
+    comment.truncate(length);
+    let mut lines = vec![b"(if a b)".to_vec(), b"(seen a)".to_vec(), b"(query b)".to_vec()];
+    let at = random.between(0, lines.len());
+    lines.insert(at, comment.into_bytes());
+    let mut due = Due::Read;
+    if random.chance(50) {
+        let wrong = [
+            (3, format!("{:<width$}", "(true b)", width = LINE_BYTES + 1)),
+            (4, String::from(" ; a comment begins a line")),
+            (5, String::from("(query b")),
+            (6, format!("(true {})", "b".repeat(NAME_BYTES + 1))),
+        ];
+        let (number, line) = random.pick(&wrong);
+        lines.insert(random.between(at + 1, lines.len()), line.clone().into_bytes());
+        due = Due::Refused(*number);
+    }
+    let last_ends = random.chance(50);
+    Sample { bytes: joined(&lines, last_ends), due }
 }
 
 /// 16 queries, or 17; with `past` = 1 in half of the draws none.

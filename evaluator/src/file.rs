@@ -1,6 +1,7 @@
-//! Reading a case file: each line is taken through the checks 3 to 10, one after the other over the whole line.
+//! Reading a case file: each line that is no comment is taken through the checks 3 to 10, one after the other over the
+//! whole line.
 //!
-//! From: document 01, The file; What each operation refuses (Reading); document 02, [1].
+//! From: document 01, The file; What each operation refuses (Reading); document 02, [1], [2].
 
 use crate::case::{causes, Body, Case, Clause};
 use crate::form::{form, Form};
@@ -58,11 +59,11 @@ fn allowed(b: u8) -> bool {
 /// The form that `line` is, none for a comment or a line of spaces, or the number of the first of the checks 3 to 7
 /// that it fails.
 fn checked_form(line: &[u8]) -> Result<Option<Form>, u32> {
-    if line.len() > LINE_BYTES {
-        return Err(3);
-    }
     if line.first() == Some(&b';') {
         return Ok(None);
+    }
+    if line.len() > LINE_BYTES {
+        return Err(3);
     }
     if !line.iter().all(|b| allowed(*b)) {
         return Err(4);

@@ -18,10 +18,14 @@ fn respaced(random: &mut Random, line: &str, most: usize) -> String {
     text + &" ".repeat(random.between(0, most))
 }
 
-/// A comment of drawn bytes, within the length of a line.
+/// A comment of drawn bytes, now and then as long as other lines may be, or longer.
 fn comment(random: &mut Random) -> Vec<u8> {
     let mut bytes = vec![b';'];
-    let length = if random.chance(5) { LINE_BYTES } else { random.between(1, 40) };
+    let length = match random.below(20) {
+        0 => LINE_BYTES,
+        1 => random.between(LINE_BYTES + 1, 4 * LINE_BYTES),
+        _ => random.between(1, 40),
+    };
     while bytes.len() < length {
         let byte = random.below(256) as u8;
         bytes.push(if byte == b'\n' { b';' } else { byte });

@@ -1,13 +1,14 @@
-//! What occurred among the generated files, by the evaluator's answers.
+//! What occurred among the generated files, by their bytes and the evaluator's answers.
 
 use crate::answer::{Answer, LIST_SLOTS};
-use crate::file::QUERIES;
+use crate::file::{LINE_BYTES, QUERIES};
 use crate::verdict::VERDICTS;
 
 /// The refusals that a file can meet.
 const REFUSALS: std::ops::RangeInclusive<usize> = 2..=12;
 
-/// Counts of answers by refusal number, by verdict, of several queries, and of long lists.
+/// Counts of answers by refusal number, by verdict, of several queries, of long lists, and of long comments in files
+/// that are read, or before the line that is refused.
 #[derive(Default)]
 pub struct Tally {
     refusals: [usize; 13],
@@ -17,14 +18,27 @@ pub struct Tally {
     several_verdicts: usize,
     several: usize,
     overflowing: usize,
+    long_comments: usize,
+    behind_long_comments: usize,
+}
+
+/// The first line of `file`, counted from 1, that is a comment longer than other lines may be.
+fn long_comment(file: &[u8]) -> Option<usize> {
+    let is_long = |line: &[u8]| line.first() == Some(&b';') && line.len() > LINE_BYTES;
+    file.split(|b| *b == b'\n').position(is_long).map(|at| at + 1)
 }
 
 impl Tally {
-    /// Counts `answer`.
-    pub fn count(&mut self, answer: &Answer) {
+    /// Counts `answer`, which `file` gets.
+    pub fn count(&mut self, file: &[u8], answer: &Answer) {
+        let comment = long_comment(file);
         match &answer.result {
-            Err(refusal) => self.refusals[refusal.number as usize] += 1,
+            Err(refusal) => {
+                self.refusals[refusal.number as usize] += 1;
+                self.behind_long_comments += usize::from(comment.is_some_and(|line| line < refusal.line));
+            }
             Ok((verdicts, found)) => {
+                self.long_comments += usize::from(comment.is_some());
                 for verdict in verdicts {
                     self.verdicts[verdict.number() as usize] += 1;
                 }
@@ -47,6 +61,8 @@ impl Tally {
             ("several verdicts", self.several_verdicts),
             ("m > 1", self.several),
             ("w < m", self.overflowing),
+            ("long comments", self.long_comments),
+            ("refusals behind a long comment", self.behind_long_comments),
         ];
         refusals.chain(verdicts).chain(files.map(|(what, n)| (String::from(what), n))).collect()
     }

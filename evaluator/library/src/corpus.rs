@@ -76,15 +76,19 @@ fn lines(count: usize, line: &str) -> String {
 /// For each refusal of reading but 1 a file with its line, worked out by hand.
 pub fn refused_files() -> Vec<(u32, u64, Vec<u8>)> {
     let query = String::from("(query low)\n");
+    let long_comment = String::from(";") + &"x".repeat(200) + "\n";
     let deep = |n: usize| format!("(query {}low{})\n", "(not ".repeat(n - 1), ")".repeat(n - 1));
     let rows: Vec<(u32, u64, String)> = vec![
         (2, 0, query.clone() + &lines(3_275, ";23456789") + ";234567"),
-        (3, 2, query.clone() + ";" + &"x".repeat(200) + "\n(\n"),
+        (2, 0, query.clone() + ";" + &"x".repeat(32_756)),
+        (3, 2, query.clone() + "(true low" + &" ".repeat(191) + ")\n(\n"),
         (3, 1, " ".repeat(201)),
+        (3, 3, query.clone() + &long_comment + " ;" + &"x".repeat(199)),
         (4, 3, query.clone() + "\n(seen Low)\n(\n"),
         (4, 1, query.trim_end().to_string() + " ;"),
         (5, 2, query.clone() + "(seen (not (not low)))\n"),
         (5, 1, String::from("(query\nlow)")),
+        (5, 3, query.clone() + &long_comment + "(\n"),
         (6, 2, query.clone() + "(true a1234567890123456)\n"),
         (7, 2, String::from("(true low)\n") + &deep(17)),
         (8, 65, lines(65, "(true n#)") + "(query n0)\n"),
@@ -93,6 +97,7 @@ pub fn refused_files() -> Vec<(u32, u64, Vec<u8>)> {
         (10, 17, query.repeat(17)),
         (10, 20, query.repeat(16) + ";\n\n(true low)\n" + &query + "(\n"),
         (11, 0, String::new()),
+        (11, 0, ";".repeat(32_768)),
         (11, 0, lines(20, "(seen c#)")),
         (12, 0, query.clone() + &lines(10, "(seen c#)")),
     ];

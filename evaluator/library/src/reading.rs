@@ -1,5 +1,5 @@
-//! Families of reading: stored and generated files, files cut and changed byte by byte, each number of queries, each
-//! refusal.
+//! Families of reading: stored and generated files, files cut and changed byte by byte, each number of queries, long
+//! comments, each refusal.
 
 use crate::calls::{read, ReadDue, Sizes};
 use crate::corpus::{folders, generated, refused_files, Input, EACH, M4};
@@ -90,6 +90,30 @@ fn queries(tests: &mut Tests) {
     }
 }
 
+/// A line that is a comment of `length` bytes, all but LF in turn behind the first.
+fn comment(length: usize) -> Vec<u8> {
+    let free = (0..=u8::MAX).filter(|b| *b != b'\n').cycle();
+    std::iter::once(b';').chain(free).take(length).chain([b'\n']).collect()
+}
+
+/// Comments of up to 32,000 bytes in each line of a file: it says what it says without them, and the number of a line
+/// that is refused counts them.
+fn comments(tests: &mut Tests) {
+    tests.family("read: comments of 1 to 32,000 bytes in each line");
+    let lines: Vec<&[u8]> = EACH.split_inclusive(|b| *b == b'\n').collect();
+    let due = due::read(EACH);
+    let refused = due::refused(5, lines.len() as u64 + 2);
+    for length in [1, 199, 200, 201, 202, 256, 5_000, 32_000] {
+        for at in 0..=lines.len() {
+            let what = || format!("{length} bytes in line {}", at + 1);
+            let file = [&lines[..at].concat(), &comment(length), &lines[at..].concat()].map(Vec::as_slice).concat();
+            tests.require(&format!("{}: the evaluator's tables", what()), due::read(&file) == due);
+            tests.call(what, read(&file, Sizes::FULL, false, &due));
+            tests.call(what, read(&[file.as_slice(), b"(\n"].concat(), Sizes::FULL, false, &refused));
+        }
+    }
+}
+
 /// For each refusal from 2 on the files that get it, with the line worked out by hand.
 fn refusals(tests: &mut Tests) {
     for number in 2..=12 {
@@ -117,5 +141,6 @@ pub fn run(tests: &mut Tests, folder: &Path) {
     corpus(tests, folder);
     bytewise(tests);
     queries(tests);
+    comments(tests);
     refusals(tests);
 }
