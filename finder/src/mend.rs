@@ -8,7 +8,9 @@ use causes::Refusal;
 pub fn mend(refusal: Refusal) -> &'static str {
     match refusal {
         Refusal::LongFile => "Shorten comments, or ask about fewer floors.",
-        Refusal::LongLine { .. } => "Break a comment into two; shorten the names of a form, or name a part of it.",
+        Refusal::LongLine { .. } => {
+            "Shorten the names, or name a part of the form; a long comment needs `;` as its line's first byte."
+        }
         Refusal::BadByte { .. } => "Write names in small letters, digits and `-`, and a comment on its own line.",
         Refusal::NotAForm { .. } => "Write one whole form on the line: true, false, if, never, seen or query.",
         Refusal::LongName { .. } => "Shorten the name, on every line that has it.",

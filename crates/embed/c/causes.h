@@ -23,7 +23,7 @@ extern "C" {
 #endif
 
 /* The version of this header and of the Rust module beside it. */
-#define CAUSES_VERSION "0.2.0"
+#define CAUSES_VERSION "0.2.1"
 
 /* Sizes of the lent tables, in elements. A longer table is lawful; what is past its size keeps its contents. */
 enum {
@@ -76,7 +76,7 @@ enum { CAUSES_UNEXPLAINED = 0, CAUSES_FOLLOWS = 1, CAUSES_DENIED = 2, CAUSES_OPE
 enum {
     CAUSES_SHORT = 1,         /* a lent table, record or answer is shorter than its size */
     CAUSES_LONG_FILE = 2,     /* over 32,768 bytes */
-    CAUSES_LONG_LINE = 3,     /* over 200 bytes without LF */
+    CAUSES_LONG_LINE = 3,     /* over 200 bytes without LF, outside a comment */
     CAUSES_BAD_BYTE = 4,      /* a byte other than a-z, 0-9, -, space, brackets, outside a comment */
     CAUSES_NOT_A_FORM = 5,
     CAUSES_LONG_NAME = 6,     /* over 16 bytes */
@@ -142,7 +142,7 @@ static inline const char *causes_refusal_text(uint32_t number)
     switch (number) {
     case CAUSES_SHORT: return "a lent table is shorter than its size";
     case CAUSES_LONG_FILE: return "the file is over 32,768 bytes";
-    case CAUSES_LONG_LINE: return "a line, comments included, is over 200 bytes";
+    case CAUSES_LONG_LINE: return "a line that is no comment is over 200 bytes";
     case CAUSES_BAD_BYTE:
         return "a line that is no comment has a byte other than a to z, 0 to 9, `-`, space, `(`, `)`";
     case CAUSES_NOT_A_FORM: return "the line is not one of the forms";

@@ -78,7 +78,7 @@ impl Refusal {
         match *self {
             Refusal::ShortTable => (1, None, "a lent table is shorter than its size"),
             Refusal::LongFile => (2, None, "the file is over 32,768 bytes"),
-            Refusal::LongLine { line } => (3, Some(line), "a line, comments included, is over 200 bytes"),
+            Refusal::LongLine { line } => (3, Some(line), "a line that is no comment is over 200 bytes"),
             Refusal::BadByte { line } => {
                 (4, Some(line), "a line that is no comment has a byte other than a to z, 0 to 9, `-`, space, `(`, `)`")
             }
