@@ -18,11 +18,10 @@ use Rattle.logic.proofs.Values.{true-greater}
 use Rattle.logic.proofs.Bodies.{body-same}
 use Rattle.program.specs.declared.cause.Additions.{Additions}
 use Rattle.program.specs.Case.{headAt, kindAt, plainAt, negatedAt}
-use Rattle.program.specs.Program.{Clause, byKind, clauseAt, clausesOf, addedBy, programWith}
+use Rattle.program.specs.Program.{Clause, byKind, clauseAt, clausesOf, addedBy, programWith, names}
 use Rattle.settle.specs.Step.{bodiesOf, given, nextValue}
 use Rattle.settle.proofs.Given.{given-some, given-none}
 use Rattle.settle.proofs.Definitions.{defines, bodiesValue, bodies-value-more, bodies-value-added}
-use Rattle.prepared.specs.Dependents.{names}
 use Rattle.prepared.specs.Chains.{ruleFor, ruleValue, rulesValue}
 
 -- ---- the next value by the "or" of the bodies

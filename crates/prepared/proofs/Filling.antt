@@ -12,15 +12,15 @@ use lib.Pow.{pow-pos}
 use lib.Seq.{getD-set-same, getD-set-other}
 use borrow.Author.Tests.{eqb-true, eqb-false, eq-eqb, ne-eqb}
 use Rattle.words.specs.Choice.{pick}
-use Rattle.words.specs.Below.{any}
 use Rattle.words.specs.Bits.{has}
 use Rattle.words.specs.OneBit.{withBit, withoutBit, BitOf}
 use Rattle.words.proofs.Bits.{has-zero, has-or}
 use Rattle.words.proofs.Words.{word-lt, has-word, is-word}
 use Rattle.words.proofs.BitWalks.{has-with, with-lt, without-here, without-other}
 use Rattle.program.specs.Case.{headAt, kindAt, plainAt, negatedAt}
+use Rattle.program.specs.Program.{names, dependsOn}
 use Rattle.program.proofs.Heads.{head-lt}
-use Rattle.prepared.specs.Dependents.{names, dependentsOf, Words, Dependents, Spread}
+use Rattle.prepared.specs.Dependents.{dependentsOf, Words, Dependents, Spread}
 use Rattle.prepared.specs.Chains.{lastOf, Lasts, Linked}
 
 -- an entry written at i: f i there, what it was elsewhere
@@ -79,9 +79,9 @@ unfolding dependentsOf
 dependents-lt cl n i = word-lt 64 _
 
 pub dependents-has : (cl : List ℕ) (n i a : ℕ) → a < 64
-    → has (dependentsOf cl n i) a ≡ any n (λ k. eqb a (headAt cl k) && names cl k i)
+    → has (dependentsOf cl n i) a ≡ dependsOn cl n a i
 unfolding dependentsOf
-dependents-has cl n i a l = has-word 64 (λ b. any n (λ k. eqb b (headAt cl k) && names cl k i)) a l
+dependents-has cl n i a l = has-word 64 (λ b. dependsOn cl n b i) a l
 
 pub dependents-words : (cl : List ℕ) (n : ℕ) (t : List ℕ) → Dependents cl n t → Words t
 dependents-words cl n t d i l = rw (d i l) (dependents-lt cl n i)
@@ -102,7 +102,7 @@ dependents-more : (cl : List ℕ) (k i : ℕ)
     → withBit (names cl k i) (dependentsOf cl k i) (headAt cl k) ≡ dependentsOf cl (suc k) i
 unfolding dependentsOf
 dependents-more cl k i =
-    is-word 64 _ (λ a. any (suc k) (λ j. eqb a (headAt cl j) && names cl j i))
+    is-word 64 _ (λ a. dependsOn cl (suc k) a i)
     (with-lt (names cl k i) 64 (dependentsOf cl k i) (headAt cl k) (dependents-lt cl k i) (head-lt cl k))
     (λ a l. has-with (names cl k i) (dependentsOf cl k i) (headAt cl k) a
     ∙ ap₂ _||_ (dependents-has cl k i a l) (and-comm (names cl k i) (eqb a (headAt cl k))))

@@ -20,12 +20,12 @@ use Rattle.logic.proofs.Order.{leq-decided}
 use Rattle.logic.proofs.Interpretations.{Good, values-at, values-ext, decided-at, changed, unchanged-at}
 use Rattle.program.specs.declared.cause.Additions.{Additions}
 use Rattle.program.specs.Case.{headAt}
-use Rattle.program.specs.Program.{Clause, clausesOf, addedBy, programWith, headed}
+use Rattle.program.specs.Program.{Clause, clausesOf, addedBy, programWith, headed, names}
 use Rattle.settle.specs.Step.{nextValue, step}
 use Rattle.settle.proofs.Steady.{program-steady, next-mono}
 use Rattle.settle.proofs.Reached.{step-good}
 use Rattle.settle.proofs.Definitions.{defines, defines-append, defines-clauses}
-use Rattle.prepared.specs.Dependents.{names, dependentsOf, touchedFrom}
+use Rattle.prepared.specs.Dependents.{dependentsOf, touchedFrom}
 use Rattle.prepared.specs.Chains.{rulesValue}
 use Rattle.prepared.proofs.Filling.{dependents-has}
 use Rattle.prepared.proofs.Bodies.{next-defined, next-same, bodies-same, bodies-rules}

@@ -34,6 +34,12 @@ module _ (cl : List ℕ) (n : ℕ) where
       (λ a l. any-ext 64 (λ i. has w i && has (getD t i 0) a) (touches w a)
       (λ i m. ap (λ (e : ℕ). has w i && has e a) (d i m)))
 
+-- the atom a depends on an atom of w by the table t
+pub has-touched-by : (t : List ℕ) (w a : ℕ) → a < 64
+    → has (word 64 (touchedBy t w)) a ≡ any 64 (λ i. has w i && has (getD t i 0) a)
+unfolding touchedBy
+has-touched-by t w a l = has-word 64 (touchedBy t w) a l
+
 -- ---- touched heads gathered
 module _ (t : List ℕ) (fresh : ℕ) where
   pub record Gathered (heads left : ℕ) : Type 0 where

@@ -1,28 +1,23 @@
 -- Which heads a changed atom touches.
 --
---   names cl k i          clause k names the atom i
---   dependentsOf cl n i   the heads of those of the first n clauses that name i, bit a for atom a
+--   dependentsOf cl n i   the heads that depend on i by the first n clauses, bit a for atom a
 --   touchedFrom cl n w    the dependents of the atoms of w
 --   Dependents cl n t     the table t has the dependents of each atom
 --   Words t, Zeros t      the first 64 entries of t are words of 64 bits, are 0
 --   Spread t w h u        u is t with the head h added to the dependents of the atoms of w
 --   touchedBy t w a       the head a is among the dependents of some atom of w
 use mathlib.Core.Path.{_≡_}
-use mathlib.Core.Bool.{Bool, _&&_, _||_}
+use mathlib.Core.Bool.{Bool, _&&_}
 use mathlib.Core.List.{List}
 use Prim.Native.Nat.{ℕ, _^_, _<_}
-use lib.Dec.{eqb}
 use lib.ListN.{length, getD}
 use Rattle.words.specs.Below.{any}
 use Rattle.words.specs.Bits.{has, word}
 use Rattle.words.specs.OneBit.{withBit}
-use Rattle.program.specs.Case.{headAt, plainAt, negatedAt}
-
-abbrev pub names : List ℕ → ℕ → ℕ → Bool
-names cl k i = has (plainAt cl k) i || has (negatedAt cl k) i
+use Rattle.program.specs.Program.{dependsOn}
 
 unfoldable pub dependentsOf : List ℕ → ℕ → ℕ → ℕ
-dependentsOf cl n i = word 64 (λ a. any n (λ k. eqb a (headAt cl k) && names cl k i))
+dependentsOf cl n i = word 64 (λ a. dependsOn cl n a i)
 
 unfoldable pub touchedFrom : List ℕ → ℕ → ℕ → ℕ
 touchedFrom cl n w = word 64 (λ a. any 64 (λ i. has w i && has (dependentsOf cl n i) a))

@@ -5,6 +5,7 @@
 -- NextSetting: the digit of a setting's lowest cause, and the walk that carries a setting to the next.
 -- Sets: the sets of causes that settings are.
 -- Soundness: the kinds of clauses, and what a sound case is sound of.
+-- Dependence: which atoms a clause names, and which atom depends on which.
 -- MakingSound: what makes a case sound.
 -- Theorems: the claims of specs/Claims.antt.
 pub mod Heads
@@ -14,5 +15,6 @@ pub mod Settings
 pub mod NextSetting
 pub mod Sets
 pub mod Soundness
+pub mod Dependence
 pub mod MakingSound
 pub mod Theorems

@@ -7,7 +7,9 @@
 --   addedBy x            the facts and the assumptions that a set of causes adds, in atom order
 --   programWith cl n x   the first n clauses of a table with a set's facts and assumptions added
 --   headsOf cl n         the heads of the first n clauses, bit i for atom i
-use mathlib.Core.Bool.{Bool, true, false}
+--   names cl k b         clause k names the atom b in its body, plain or negated
+--   dependsOn cl n a b   some of the first n clauses has the head a and names b
+use mathlib.Core.Bool.{Bool, true, false, _&&_, _||_}
 use mathlib.Core.List.{List, [], _∷_, _++_}
 use Prim.Native.Nat.{ℕ, zero, suc}
 use lib.Dec.{eqb}
@@ -63,3 +65,9 @@ headed cl n a = any n (λ k. eqb a (headAt cl k))
 
 unfoldable pub headsOf : List ℕ → ℕ → ℕ
 headsOf cl n = word 64 (headed cl n)
+
+abbrev pub names : List ℕ → ℕ → ℕ → Bool
+names cl k b = has (plainAt cl k) b || has (negatedAt cl k) b
+
+abbrev pub dependsOn : List ℕ → ℕ → ℕ → ℕ → Bool
+dependsOn cl n a b = any n (λ k. eqb a (headAt cl k) && names cl k b)

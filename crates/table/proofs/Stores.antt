@@ -1,13 +1,14 @@
 -- Laws of the list that stores one behind the other leave, for straight stores and for loops that store a list or a
 -- row. Assumes nothing.
-use mathlib.Core.Path.{_≡_, refl, sym, _∙_}
+use mathlib.Core.Path.{_≡_, refl, sym, ap, subst, _∙_}
 use mathlib.Core.List.{List, [], _∷_, _++_, append-assoc, append-nil}
 use Prim.Native.Nat.{ℕ, suc, _+_, _-_, _≤_, _<_}
 use native.Mathlib.Nat.{add-suc, suc-add, add-zero, zero-add}
 use native.Mathlib.Numerals.{add-one}
 use native.Mathlib.Omega.{arith}
-use lib.ListN.{length, take, drop, getD, set, length-set, length-drop, take-append-drop}
+use lib.ListN.{length, take, drop, getD, set, length-set, length-drop, take-append-drop, List·getD-eq-default}
 use lib.Seq.{sets, sets-eq, take-all, take-suc, length-take-le, drop-drop, drop-at, drop-length}
+use lib.Seq.{slice, length-slice, getD-take, getD-drop}
 use borrow.Rule.Slice.PartMut.{midOf, putMid, post-is}
 use Rattle.table.specs.Filled.{padded}
 use Rattle.table.proofs.Filled.{padded-length, padded-at}
@@ -50,6 +51,14 @@ module _ (vs t t₀ : List ℕ) (i j : ℕ) (e : t ≡ sets t₀ i (take j vs)) 
   pub stored-all : length vs ≤ j → t ≡ sets t₀ i vs
   stored-all h = e ∙ rw (take-all j vs h)
 
+-- entry i of a part of s, and past its end
+pub slice-at : (s : List ℕ) (a e i : ℕ) → a + i < e → getD s (a + i) 0 ≡ getD (slice a e s) i 0
+slice-at s a e i h = sym (getD-drop a (take e s) i 0 ∙ getD-take e s (a + i) 0 h)
+
+pub slice-past : (s : List ℕ) (a e i : ℕ) → e ≤ length s → e - a ≤ i → 0 ≡ getD (slice a e s) i 0
+slice-past s a e i h l =
+    let m : length (slice a e s) ≤ i = rw (length-slice a e s h) l in sym (List·getD-eq-default (slice a e s) 0 m)
+
 -- t is t₀ with the first i of n bytes of a padded row stored from a place on: at the loop's start, after a turn and at
 -- its end
 pub record RowStored (t₀ : List ℕ) (at n : ℕ) (w t : List ℕ) (i : ℕ) : Type 0 where
@@ -69,3 +78,16 @@ module _ {t₀ : List ℕ} {at n : ℕ} {w t : List ℕ} {i : ℕ} (h : RowStore
 
   pub row-stored-all : n ≤ i → t ≡ sets t₀ at (padded n w)
   row-stored-all l = stored-all (padded n w) t t₀ at i (h .table-is) (rw (padded-length n w) l)
+
+-- a row that is the whole table
+module _ {t₀ : List ℕ} {n : ℕ} {w t : List ℕ} {i : ℕ} (h : RowStored t₀ 0 n w t i) where
+  pub whole-row-more : {x : ℕ} → i < n → x ≡ getD w i 0 → RowStored t₀ 0 n w (set t i x) (i + 1)
+  whole-row-more {x} l e =
+      subst (λ (k : ℕ). RowStored t₀ 0 n w (set t k x) (i + 1)) (zero-add i) (row-stored-more h l e)
+
+  pub whole-row-all : length t₀ ≡ n → n ≤ i → t ≡ padded n w
+  whole-row-all e l =
+      let s : 0 + length (padded n w) ≡ length t₀ = omega (arith, padded-length n w, e) in
+      row-stored-all h l ∙ sets-eq (padded n w) t₀ 0 (omega (arith, s))
+      ∙ ap (λ (k : ℕ). padded n w ++ drop k t₀) s ∙ ap (λ (r : List ℕ). padded n w ++ r) (drop-length t₀)
+      ∙ append-nil (padded n w)

@@ -54,6 +54,14 @@ any-true n p i l e = go (any n p) refl
     go true h = h
     go false h = absurd (false≢true (sym (any-false n p h i l) ∙ e))
 
+-- none passes from n on
+pub any-below : (n m : ℕ) (p : ℕ → Bool) → n ≤ m → ((i : ℕ) → n ≤ i → p i ≡ false) → any m p ≡ any n p
+any-below n zero p l h = let e : n ≡ 0 = omega arith in rw e
+any-below n (suc m) p l h =
+    ⊎-elim (λ (e : n ≡ suc m). rw e)
+    (λ (q : n < suc m). ap₂ _||_ (any-below n m p (omega arith) h) (h m (omega arith)) ∙ or-false (any n p))
+    (eq-or-lt-of-le l)
+
 pub any-or : (n : ℕ) (p q : ℕ → Bool) → any n (λ i. p i || q i) ≡ (any n p || any n q)
 any-or zero p q = refl
 any-or (suc n) p q = ap (λ (b : Bool). b || (p n || q n)) (any-or n p q) ∙ swap (any n p) (any n q) (p n) (q n)
@@ -126,6 +134,10 @@ first-is (suc n) p k j h l e f =
     (λ (q : k < j).
     ap (λ (b : Bool). pick b k (firstFrom n p (suc k))) (f k q) ∙ first-is n p (suc k) j q (omega arith) e f)
     (eq-or-lt-of-le h)
+
+pub first-ext : (n : ℕ) (p q : ℕ → Bool) (k : ℕ) → ((i : ℕ) → p i ≡ q i) → firstFrom n p k ≡ firstFrom n q k
+first-ext zero p q k e = refl
+first-ext (suc n) p q k e = ap₂ (λ (b : Bool) (j : ℕ). pick b k j) (e k) (first-ext n p q (suc k) e)
 
 pub first-le : (n : ℕ) (p : ℕ → Bool) (k : ℕ) → firstFrom n p k ≤ k + n
 first-le zero p k = omega arith

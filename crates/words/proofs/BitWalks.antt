@@ -14,7 +14,7 @@ use borrow.Author.Tests.{eqb-true, eq-eqb, ne-eqb}
 use Rattle.words.specs.Below.{any}
 use Rattle.words.specs.Bits.{has}
 use Rattle.words.specs.OneBit.{withBit, withoutBit, BitOf, LowestOf}
-use Rattle.words.proofs.Tests.{Gives}
+use Rattle.words.proofs.Tests.{Gives, and-true-l}
 use Rattle.words.proofs.Below.{any-ext, any-or, any-at}
 use Rattle.words.proofs.Bits.{has-low, has-half}
 use Rattle.words.proofs.Words.{has-or-one, or-one-lt, has-without-one}
@@ -69,6 +69,12 @@ module _ (w i : ℕ) (b : BitOf w i) where
   without-other j l ne =
       has-without-one 64 w i j (b .small) l
       ∙ ap (λ (t : Bool). has w j && not t) (ne-eqb j i ne) ∙ and-true (has w j)
+
+  pub without-within : (j : ℕ) → BitOf (withoutBit w i) j → BitOf w j
+  without-within j h = record {
+    small = h .small;
+    there = and-true-l (has w j) _ (sym (has-without-one 64 w i j (b .small) (h .small)) ∙ h .there);
+  }
 
   pub without-less : withoutBit w i < w
   without-less =

@@ -1,7 +1,8 @@
 -- Laws of `has`: the bits of a half, of the machine's operations, of one bit; same bits, same number. Each holds for
 -- every bit number and width. Assumes nothing.
 use mathlib.Core.Path.{_≡_, refl, sym, ap, _∙_}
-use mathlib.Core.Bool.{Bool, true, false, not, _&&_, _||_}
+use mathlib.Core.Bool.{Bool, true, false, not, _&&_, _||_, true≢false}
+use mathlib.Core.Logic.{⊎-elim}
 use Prim.Native.Nat.{ℕ, zero, suc, _+_, _-_, _*_, _/_, _%_, _^_, _≤_, _<_}
 use native.Mathlib.Nat.{mod-lt, zero-div, div-one, div-eq-of-lt, one-mul, pow-suc, add-comm}
 use native.Mathlib.Nat.{not-suc-le-zero, le-of-suc-le-suc, zero-lt-suc, lt-of-lt-of-le}
@@ -13,6 +14,7 @@ use lib.Pow.{shr-shr, shl-exact, pow-mono}
 use lib.Bits.{bitAnd, bitOr, bitXor, and-shr, or-shr, xor-shr, and-mod, or-mod, xor-mod}
 use borrow.Author.Tests.{eqb-true, eqb-false, eq-eqb, ne-eqb}
 use Rattle.words.specs.Bits.{odd, has}
+use Rattle.words.proofs.Tests.{lt-or-le}
 
 -- ---- the lowest bit, and the bits of the half
 pub has-low : (w : ℕ) → has w 0 ≡ odd w
@@ -30,6 +32,10 @@ has-zero i = ap odd (zero-div (2 ^ i))
 pub has-above : (m w i : ℕ) → w < 2 ^ m → m ≤ i → has w i ≡ false
 unfolding has
 has-above m w i h l = ap odd (div-eq-of-lt (lt-of-lt-of-le h (pow-mono l)))
+
+pub below-of-has : (m w i : ℕ) → w < 2 ^ m → has w i ≡ true → i < m
+below-of-has m w i h e =
+    ⊎-elim (λ (l : i < m). l) (λ (l : m ≤ i). absurd (true≢false (sym e ∙ has-above m w i h l))) (lt-or-le i m)
 
 -- ---- an operation that goes bit by bit
 module _ (op : ℕ → ℕ → ℕ) (f : Bool → Bool → Bool)

@@ -1,15 +1,18 @@
 -- The count of a word's bits, and how it grows with the word. Assumes nothing.
 use mathlib.Core.Path.{_≡_, refl, sym, ap, ap₂, _∙_}
-use mathlib.Core.Bool.{Bool, true, false, _&&_}
+use mathlib.Core.Bool.{Bool, true, false, _&&_, _||_, or-true, true≢false}
 use mathlib.Core.Logic.{_⊎_, inl, inr, ⊎-elim}
 use Prim.Native.Nat.{ℕ, zero, suc, _+_, _*_, _/_, _%_, _^_, _≤_, _<_}
 use native.Mathlib.Nat.{pow-suc, eq-or-lt-of-le}
 use native.Mathlib.Omega.{arith}
 use lib.Arith.{lt-one}
+use lib.Bits.{bitOr}
 use lib.Count.{ones, ones-step, ones-le}
+use lib.Dec.{eqb}
 use borrow.Author.Tests.{eqb-true, eq-eqb}
 use Rattle.words.specs.Bits.{odd, has}
 use Rattle.words.proofs.Bits.{has-low, has-half}
+use Rattle.words.proofs.Words.{has-or-one, or-one-lt}
 
 -- each bit of a is one of b
 abbrev pub Within : ℕ → ℕ → ℕ → Type 0
@@ -43,6 +46,16 @@ ones-grow (suc k) a b h l s =
         (eq-or-lt-of-le low)
     go (inr q) = inr (omega (arith, ones-step a, ones-step b, low))
 
+-- a bit that is new makes one more at least
+pub ones-more : (k w a : ℕ) → w < 2 ^ k → a < k → has w a ≡ false → ones w < ones (bitOr w (2 ^ a))
+ones-more k w a h l n =
+    ⊎-elim (λ (e : w ≡ bitOr w (2 ^ a)). absurd (true≢false (sym here ∙ ap (λ (x : ℕ). has x a) (sym e) ∙ n))) (λ q. q)
+    (ones-grow k w (bitOr w (2 ^ a)) h (or-one-lt k w a h l)
+    (λ i m e. has-or-one w a i ∙ ap (λ (t : Bool). t || eqb i a) e))
+  where
+    here : has (bitOr w (2 ^ a)) a ≡ true
+    here = has-or-one w a a ∙ ap (λ (t : Bool). has w a || t) (eq-eqb a a refl) ∙ or-true (has w a)
+
 low-apart : (a b : ℕ) → (odd a && odd b) ≡ false → a % 2 + b % 2 ≤ 1
 low-apart a b e = go (a % 2) (b % 2) refl refl
   where
@@ -50,7 +63,7 @@ low-apart a b e = go (a % 2) (b % 2) refl refl
     go zero n p q = omega arith
     go (suc m) zero p q = omega arith
     go (suc m) (suc n) p q =
-        absurd (mathlib.Core.Bool.true≢false
+        absurd (true≢false
         (sym (ap₂ _&&_ (eq-eqb (a % 2) 1 (omega arith)) (eq-eqb (b % 2) 1 (omega arith))) ∙ e))
 
 -- two words with no bit in common have at most k bits together

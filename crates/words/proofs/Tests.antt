@@ -77,3 +77,7 @@ pub or-false-r : (a b : Bool) → (a || b) ≡ false → b ≡ false
 or-false-r true true e = e
 or-false-r true false e = refl
 or-false-r false b e = e
+
+pub or-true-l : (a b : Bool) → b ≡ false → (a || b) ≡ true → a ≡ true
+or-true-l true b h e = refl
+or-true-l false b h e = absurd (false≢true (sym h ∙ e))
