@@ -6,6 +6,7 @@
 //! | tree, form, file | a line as a tree, the form of a tree, the checks of a file |
 //! | model, completion | the step and its iterates; models of the weak completion |
 //! | verdict, question, answer | the verdict on a query, minimal explanations, the text of the answer |
+//! | layers | which atoms depend on which: least numbers and rings |
 //! | held, plain, vectors | the record and the tables of a case, the plain form, the vectors of operations |
 //! | random, names, layout, families | drawn lawful files |
 //! | edges, lists, damage, sample | files at the limits, damaged files, the file of a seed |
@@ -25,6 +26,7 @@ pub mod file;
 pub mod form;
 pub mod formula;
 pub mod held;
+pub mod layers;
 pub mod layout;
 pub mod lists;
 pub mod model;
