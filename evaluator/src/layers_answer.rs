@@ -5,8 +5,11 @@
 use crate::case::Case;
 use crate::compare::{differing, shown};
 use crate::file::{read, Refusal};
-use crate::layers::{dependence, is_ring, numbers, Dependence};
+use crate::layers::{dependence, is_ring, numbers, rings, turned, Dependence};
 use crate::plain::Answered;
+
+/// The most atoms of a case of which every list of atoms is gone through.
+const TRIED_ATOMS: usize = 4;
 
 /// A case that was read, what depends on what in it, and the least numbers if there are any.
 pub struct Layering {
@@ -15,11 +18,31 @@ pub struct Layering {
     pub numbers: Option<Vec<u64>>,
 }
 
+/// Holds what is said to be a ring to the rings that are found by following bodies, and these to the numbers, over all
+/// lists of atoms, and of one that the case has not, up to a length that no ring has.
+///
+/// Panics if they differ.
+fn hold(dependence: &Dependence, numbers: Option<&Vec<u64>>) {
+    let found = rings(dependence);
+    assert!(found.is_empty() == numbers.is_some(), "there are rings beside numbers, or neither");
+    let mut lists: Vec<Vec<usize>> = vec![Vec::new()];
+    for _ in 0..=dependence.len() {
+        let longer = |list: &Vec<usize>| (0..=dependence.len()).map(|a| [&list[..], &[a]].concat()).collect::<Vec<_>>();
+        lists = lists.iter().flat_map(longer).chain([Vec::new()]).collect();
+    }
+    for list in &lists {
+        assert!(is_ring(dependence, list) == found.contains(&turned(list)), "a ring is none of those found");
+    }
+}
+
 /// What the file `bytes` should get.
 pub fn layering(bytes: &[u8]) -> Result<Layering, Refusal> {
     let case = read(bytes)?;
     let dependence = dependence(&case);
     let numbers = numbers(&dependence);
+    if dependence.len() <= TRIED_ATOMS {
+        hold(&dependence, numbers.as_ref());
+    }
     Ok(Layering { case, dependence, numbers })
 }
 
