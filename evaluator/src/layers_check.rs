@@ -5,7 +5,7 @@ use crate::check::{by_folder, files, outcomes};
 use crate::compare::shown;
 use crate::file::Refusal;
 use crate::layers_answer::{layering, told, Layering};
-use crate::layers_tally::Tally;
+use crate::layers_tally::{met, Met, Tally};
 use crate::plain::Operation;
 use crate::run::Input;
 use crate::sample::{sample, shape, SAMPLES, SHAPES};
@@ -13,10 +13,19 @@ use crate::vectors::Vector;
 use std::path::Path;
 use std::time::Duration;
 
-/// What a file should get, if the evaluator could tell, and the complaint if the test failed.
+/// What a test gave: what is counted of the file, if the evaluator could tell, and the complaint if it failed.
 struct Outcome {
-    own: Option<Result<Layering, Refusal>>,
+    met: Option<Met>,
     complaint: Option<String>,
+}
+
+/// What the file `bytes` should get, and what is counted of it.
+fn judged(bytes: &[u8]) -> Result<(Result<Layering, Refusal>, Met), String> {
+    evaluated(|| {
+        let own = layering(bytes);
+        let met = met(&own);
+        (own, met)
+    })
 }
 
 /// Runs the program on `input`; what it writes must be right where `own` is what the file should get, and be allowed by
@@ -41,20 +50,20 @@ fn vector(path: &Path) -> Result<Option<Vector>, String> {
 fn stored(bench: &Bench, path: &Path) -> Result<Outcome, String> {
     let bytes = std::fs::read(path).map_err(|e| format!("cannot be read: {e}"))?;
     let vector = vector(path)?;
-    let own = evaluated(|| layering(&bytes))?;
+    let (own, met) = judged(&bytes)?;
     let complaint = compared(bench, Input::Stored(path.to_path_buf()), &own, vector.as_ref());
-    Ok(Outcome { own: Some(own), complaint })
+    Ok(Outcome { met: Some(met), complaint })
 }
 
 /// Runs the generated file of `seed`; of those past the samples the generator knows whether they have a ring.
 fn generated(bench: &Bench, seed: u64) -> Result<Outcome, String> {
     let bytes = sample(seed).bytes;
-    let own = evaluated(|| layering(&bytes))?;
+    let (own, met) = judged(&bytes)?;
     let meant = shape(seed).map(|shaped| shaped.has_ring);
     let found = own.as_ref().ok().map(|l| l.numbers.is_none());
     let unmeant = meant.filter(|_| meant != found).map(|ring| format!("generator: a ring was put in: {ring}"));
     let complaint = unmeant.or_else(|| compared(bench, generated_input(seed, bytes), &own, None));
-    Ok(Outcome { own: Some(own), complaint })
+    Ok(Outcome { met: Some(met), complaint })
 }
 
 /// Runs `test`.
@@ -63,7 +72,7 @@ fn outcome(bench: &Bench, test: &Test) -> Outcome {
         Test::Stored(path) | Test::Vector(path) => stored(bench, path),
         Test::Generated(seed) => generated(bench, *seed),
     };
-    outcome.unwrap_or_else(|complaint| Outcome { own: None, complaint: Some(complaint) })
+    outcome.unwrap_or_else(|complaint| Outcome { met: None, complaint: Some(complaint) })
 }
 
 /// Runs `program` on all case files under `folders` and on the generated files, each for at most `limit`; answers
@@ -84,7 +93,7 @@ pub fn check(program: &Path, folders: &[&Path], limit: Duration) -> bool {
     let mut tally = Tally::default();
     let mut passed = 0;
     for (test, outcome) in tests.iter().zip(outcomes(&tests, |test| outcome(&bench, test))) {
-        outcome.own.iter().for_each(|own| tally.count(own));
+        outcome.met.iter().for_each(|met| tally.count(met));
         match outcome.complaint {
             Some(complaint) => failures.push(format!("{}: {complaint}", test.name())),
             None => passed += 1,

@@ -65,6 +65,14 @@ fn with_constraints(case: &Case) -> Vec<Clause> {
     case.clauses.iter().cloned().chain(case.constraints.iter().map(rule)).collect()
 }
 
+/// Which of the rows count a file.
+pub type Met = [bool; ROWS.len()];
+
+/// Which of the rows count a file that should get `own`.
+pub fn met(own: &Result<Layering, Refusal>) -> Met {
+    ROWS.map(|(_, holds)| holds(own))
+}
+
 /// Counts of files, one for each of the rows.
 #[derive(Default)]
 pub struct Tally {
@@ -72,10 +80,10 @@ pub struct Tally {
 }
 
 impl Tally {
-    /// Counts a file that should get `own`.
-    pub fn count(&mut self, own: &Result<Layering, Refusal>) {
-        for (count, (_, holds)) in self.counts.iter_mut().zip(ROWS) {
-            *count += usize::from(holds(own));
+    /// Counts a file for each row of `met`.
+    pub fn count(&mut self, met: &Met) {
+        for (count, met) in self.counts.iter_mut().zip(met) {
+            *count += usize::from(*met);
         }
     }
 

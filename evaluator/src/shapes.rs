@@ -20,16 +20,17 @@ pub struct Shaped {
     pub has_ring: bool,
 }
 
-/// The bodies of the atom `at`, which is not the first: each names atoms before it, so that no ring arises.
+/// The bodies of the atom `at`, which is not the first, in rules of the kind `kind`: each names atoms before it, so that
+/// no ring arises.
 fn bodies(random: &mut Random, kind: usize, at: usize) -> Vec<Vec<usize>> {
     let before = at - 1;
-    match kind {
-        0 => vec![vec![before]],
-        1 if at % 3 > 0 => vec![vec![at - at % 3]],
-        1 if random.chance(50) => vec![vec![before, before - 1]],
-        1 => vec![vec![before - 1], vec![before]],
-        2 => vec![vec![before]; usize::from(random.chance(85))],
-        3 => {
+    match (kind, at % 3) {
+        (0, _) => vec![vec![before]],
+        (1, 0) if random.chance(50) => vec![vec![before, before - 1]],
+        (1, 0) => vec![vec![before - 1], vec![before]],
+        (1, past) => vec![vec![at - past]],
+        (2, _) => vec![vec![before]; usize::from(random.chance(85))],
+        (3, _) => {
             let mut both = vec![vec![before], vec![random.below(at)]];
             random.shuffle(&mut both);
             both
