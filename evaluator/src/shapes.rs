@@ -20,8 +20,8 @@ pub struct Shaped {
     pub has_ring: bool,
 }
 
-/// The bodies of the atom `at`, which is not the first, in rules of the kind `kind`: each names atoms before it, so that
-/// no ring arises.
+/// The bodies of the atom `at`, which is not the first, in rules of the kind `kind`: each names atoms before it, so
+/// that no ring arises.
 fn bodies(random: &mut Random, kind: usize, at: usize) -> Vec<Vec<usize>> {
     let before = at - 1;
     match (kind, at % 3) {
@@ -43,8 +43,8 @@ fn bodies(random: &mut Random, kind: usize, at: usize) -> Vec<Vec<usize>> {
     }
 }
 
-/// Rules over `atoms` atoms without a ring: a chain, diamonds one upon the other, several towers, a chain with shortcuts,
-/// or scattered ones.
+/// Rules over `atoms` atoms without a ring: a chain, diamonds one upon the other, several towers, a chain with
+/// shortcuts, or scattered ones.
 fn layered(random: &mut Random, atoms: usize) -> Vec<Rule> {
     let kind = random.below(5);
     let negated = *random.pick(&[0, 0, 30, 100]);
