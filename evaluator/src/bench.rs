@@ -57,8 +57,17 @@ impl Test {
     }
 }
 
+/// How the program gets the generated file `bytes` of `seed`.
+pub fn generated_input(seed: u64, bytes: Vec<u8>) -> Input {
+    if seed % HALVED == 2 {
+        Input::Halved(bytes)
+    } else {
+        Input::Piped(bytes)
+    }
+}
+
 /// What `evaluate` gives, or the complaint that a check within it failed.
-fn evaluated<T>(evaluate: impl FnOnce() -> T + UnwindSafe) -> Result<T, String> {
+pub fn evaluated<T>(evaluate: impl FnOnce() -> T + UnwindSafe) -> Result<T, String> {
     catch_unwind(evaluate).map_err(|_| String::from("the evaluator contradicts itself"))
 }
 
@@ -76,7 +85,7 @@ impl Bench {
     }
 
     /// The program's standard output on `input`, or the complaint on how it ended.
-    fn output(&self, input: Input) -> Result<Vec<u8>, String> {
+    pub fn output(&self, input: Input) -> Result<Vec<u8>, String> {
         if self.timeouts.load(Ordering::Relaxed) >= TIMEOUTS {
             return Err(format!("not run after {TIMEOUTS} runs past the time limit"));
         }
@@ -118,9 +127,9 @@ impl Bench {
     fn generated(&self, seed: u64) -> Result<Outcome, String> {
         let made = sample(seed);
         let own = evaluated(|| answer(&made.bytes))?;
-        let input = if seed % HALVED == 2 { Input::Halved(made.bytes) } else { Input::Piped(made.bytes) };
         let expected = [("evaluator", own.text.as_bytes())];
-        let complaint = unmeant(made.due, &own).or_else(|| self.compared(input, &expected).err());
+        let complaint =
+            unmeant(made.due, &own).or_else(|| self.compared(generated_input(seed, made.bytes), &expected).err());
         Ok(Outcome { own: Some(own), complaint })
     }
 

@@ -1,6 +1,6 @@
 //! The driver: all tests of a program, their failures, what occurred, and the count.
 
-use crate::bench::{Bench, Outcome, Test};
+use crate::bench::{Bench, Test};
 use crate::sample::{sample, SAMPLES};
 use crate::tally::Tally;
 use std::collections::BTreeMap;
@@ -14,7 +14,7 @@ use std::time::Duration;
 const THREADS: usize = 2;
 
 /// The files under `folder` and its folders with the extension `extension`, sorted by path.
-fn files(folder: &Path, extension: &str) -> std::io::Result<Vec<PathBuf>> {
+pub fn files(folder: &Path, extension: &str) -> std::io::Result<Vec<PathBuf>> {
     let mut found = Vec::new();
     for entry in std::fs::read_dir(folder)? {
         let path = entry?.path();
@@ -39,8 +39,8 @@ pub fn vector_files(folder: &Path) -> std::io::Result<Vec<PathBuf>> {
     files(folder, "args")
 }
 
-/// The outcomes of `tests` in their order.
-fn outcomes(bench: &Bench, tests: &[Test]) -> Vec<Outcome> {
+/// What `outcome` gives for each of `tests`, in their order.
+pub fn outcomes<O: Send>(tests: &[Test], outcome: impl Fn(&Test) -> O + Sync) -> Vec<O> {
     let next = AtomicUsize::new(0);
     let done = Mutex::new(Vec::new());
     thread::scope(|scope| {
@@ -48,8 +48,8 @@ fn outcomes(bench: &Bench, tests: &[Test]) -> Vec<Outcome> {
             scope.spawn(|| loop {
                 let at = next.fetch_add(1, Ordering::Relaxed);
                 let Some(test) = tests.get(at) else { break };
-                let outcome = bench.outcome(test);
-                done.lock().unwrap().push((at, outcome));
+                let one = outcome(test);
+                done.lock().unwrap().push((at, one));
             });
         }
     });
@@ -83,7 +83,7 @@ fn stored_tests(folders: &[&Path], failures: &mut Vec<String>) -> Vec<Test> {
 }
 
 /// A line for each folder of the files of `tests`, and each kind of them, with their number.
-fn by_folder(tests: &[Test]) -> Vec<String> {
+pub fn by_folder(tests: &[Test]) -> Vec<String> {
     let mut counts: BTreeMap<String, usize> = BTreeMap::new();
     for test in tests {
         *counts.entry(test.group()).or_insert(0) += 1;
@@ -102,7 +102,8 @@ pub fn check(program: &Path, folders: &[&Path], limit: Duration) -> bool {
     tests.extend((0..SAMPLES).map(Test::Generated));
     let mut tally = Tally::default();
     let mut counts = Counts::default();
-    for (test, outcome) in tests.iter().zip(outcomes(&Bench::new(program, limit), &tests)) {
+    let bench = Bench::new(program, limit);
+    for (test, outcome) in tests.iter().zip(outcomes(&tests, |test| bench.outcome(test))) {
         if let Some(own) = &outcome.own {
             counts.settings += own.settings;
             counts.searched += own.searched;

@@ -6,10 +6,13 @@
 //! | tree, form, file | a line as a tree, the form of a tree, the checks of a file |
 //! | model, completion | the step and its iterates; models of the weak completion |
 //! | verdict, question, answer | the verdict on a query, minimal explanations, the text of the answer |
+//! | layers, layers_answer | which atoms depend on which: least numbers and rings; what `layers` should write |
 //! | held, plain, vectors | the record and the tables of a case, the plain form, the vectors of operations |
 //! | random, names, layout, families | drawn lawful files |
+//! | shapes | drawn files with chains and rings |
 //! | edges, lists, damage, sample | files at the limits, damaged files, the file of a seed |
 //! | run, compare, tally, bench, check | the driver |
+//! | layers_tally, layers_check | the driver of the program `layers` |
 //! | tables | tables of the manual |
 
 pub mod answer;
@@ -25,6 +28,10 @@ pub mod file;
 pub mod form;
 pub mod formula;
 pub mod held;
+pub mod layers;
+pub mod layers_answer;
+pub mod layers_check;
+pub mod layers_tally;
 pub mod layout;
 pub mod lists;
 pub mod model;
@@ -34,6 +41,7 @@ pub mod question;
 pub mod random;
 pub mod run;
 pub mod sample;
+pub mod shapes;
 pub mod tables;
 pub mod tally;
 pub mod tree;

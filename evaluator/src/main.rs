@@ -2,7 +2,7 @@
 
 use evaluator::case::Case;
 use evaluator::vectors::Vector;
-use evaluator::{answer, check, file, sample, tables};
+use evaluator::{answer, check, file, layers_check, sample, tables};
 use std::io::{Read, Write};
 use std::path::Path;
 use std::process::ExitCode;
@@ -12,6 +12,7 @@ use std::time::Duration;
 const USAGE: &str = "evaluator answer < FILE
 evaluator operation NAME.args
 evaluator check PROGRAM SECONDS FOLDER..
+evaluator layers PROGRAM SECONDS FOLDER..
 evaluator sample SEED
 evaluator settings NAME.. < FILE
 evaluator caps < FILE
@@ -42,10 +43,11 @@ fn written(lines: &[String]) -> bool {
     std::io::stdout().write_all((lines.join("\n") + "\n").as_bytes()).is_ok()
 }
 
-/// Checks `program`, each run of which may take `seconds`, on the files of `folders` and on generated ones.
-fn check(program: &str, seconds: u64, folders: &[&str]) -> bool {
+/// Whether `program`, each run of which may take `seconds`, passes `driver` on the files of `folders` and on generated
+/// ones.
+fn checked(driver: fn(&Path, &[&Path], Duration) -> bool, program: &str, seconds: &str, folders: &[&str]) -> bool {
     let folders: Vec<&Path> = folders.iter().map(Path::new).collect();
-    check::check(Path::new(program), &folders, Duration::from_secs(seconds))
+    seconds.parse().is_ok_and(|seconds| driver(Path::new(program), &folders, Duration::from_secs(seconds)))
 }
 
 fn main() -> ExitCode {
@@ -54,7 +56,8 @@ fn main() -> ExitCode {
     let done = match words.as_slice() {
         ["answer"] => answer_input().is_ok(),
         ["operation", path] => operation(path),
-        ["check", program, seconds, folders @ ..] => seconds.parse().is_ok_and(|s| check(program, s, folders)),
+        ["check", program, seconds, folders @ ..] => checked(check::check, program, seconds, folders),
+        ["layers", program, seconds, folders @ ..] => checked(layers_check::check, program, seconds, folders),
         ["sample", seed] => seed.parse().is_ok_and(|s| std::io::stdout().write_all(&sample::sample(s).bytes).is_ok()),
         ["settings", shown @ ..] => rows(|case| tables::settings(case, shown)),
         ["caps"] => rows(tables::caps),

@@ -9,6 +9,7 @@
 
 use crate::file::{Refusal, NAME_BYTES};
 use crate::held::{Held, Record, PART_BYTES};
+use crate::layers::turned;
 
 /// The labels of the lines that list a record and tables.
 const LABELS: [&str; 11] = [
@@ -31,15 +32,18 @@ pub enum Operation {
     Read,
     Settle { setting: u64 },
     Question { slots: usize, bytes: usize },
+    Layers,
 }
 
-/// What an operation answers, with what it writes to lent memory.
+/// What an operation answers, with what it writes to lent memory; of rings those that are told.
 pub enum Answered {
     Unread(Refusal),
     Refused(u32),
     Read(Held),
     Settled { truths: u64, falsehoods: u64, rounds: u64 },
     Asked { verdicts: Vec<u64>, minimal: usize, rounds: u64, list: Vec<u16>, work: Vec<u8> },
+    Layered(Vec<u64>),
+    Rings(Vec<Vec<usize>>),
 }
 
 /// The number that `word` is.
@@ -147,6 +151,7 @@ impl Operation {
             ["read"] => Ok(Operation::Read),
             ["settle", setting] => Ok(Operation::Settle { setting: decimal(setting)? }),
             ["question", slots, bytes] => Ok(Operation::Question { slots: decimal(slots)?, bytes: decimal(bytes)? }),
+            ["layers"] => Ok(Operation::Layers),
             _ => Err(format!("{line:?} is no operation")),
         }
     }
@@ -164,6 +169,11 @@ impl Answered {
                 let verdicts = joined(verdicts, ",", |v| v.to_string());
                 let settings: String = list.iter().map(|s| format!("{s}\n")).collect();
                 format!("{verdicts} {minimal} {} {rounds}\n{settings}{:016x}\n", list.len(), fnv(work))
+            }
+            Answered::Layered(numbers) => format!("layered {}\n", joined(numbers, " ", |n| n.to_string())),
+            Answered::Rings(rings) => {
+                let ring = |atoms: &Vec<usize>| format!("ring {}\n", joined(&turned(atoms), " ", |a| a.to_string()));
+                joined(rings, "", ring)
             }
         }
     }

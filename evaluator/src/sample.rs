@@ -6,9 +6,13 @@ use crate::families::{chain, diagnosis, program, wide};
 use crate::layout::file;
 use crate::lists::list_edge;
 use crate::random::Random;
+use crate::shapes::{shaped, Shaped};
 
 /// The number of generated files; their seeds are the numbers below it.
 pub const SAMPLES: u64 = 6_000;
+
+/// The number of generated files with chains and rings; their seeds are the numbers from `SAMPLES` on.
+pub const SHAPES: u64 = 4_000;
 
 /// What the generator knows of a file's answer.
 #[derive(Clone, Copy)]
@@ -24,8 +28,16 @@ pub struct Sample {
     pub due: Due,
 }
 
-/// The file of `seed`: one of 20 stands at a limit, half are damaged, the others are whole.
+/// The file with chains and rings of `seed`, if it is the seed of one.
+pub fn shape(seed: u64) -> Option<Shaped> {
+    (seed >= SAMPLES).then(|| shaped(&mut Random::new(seed)))
+}
+
+/// The file of `seed`: below `SAMPLES` one of 20 stands at a limit, half are damaged, the others are whole.
 pub fn sample(seed: u64) -> Sample {
+    if let Some(shaped) = shape(seed) {
+        return Sample { bytes: shaped.bytes, due: Due::Read };
+    }
     let mut random = Random::new(seed);
     match seed % 20 {
         0 => edge(&mut random, seed as usize / 20),

@@ -5,6 +5,7 @@ use crate::case::{causes, Case};
 use crate::file;
 use crate::formula::{Value, FALSE, TRUE};
 use crate::held::Held;
+use crate::layers::{dependence, numbers, rings};
 use crate::plain::{tables, Answered, Operation};
 use crate::question::{ask, Engine};
 use std::path::Path;
@@ -59,6 +60,15 @@ fn asked(case: Case, slots: usize, bytes: usize) -> Answered {
     Answered::Asked { verdicts, minimal: found.minimal.len(), rounds: found.rounds, list, work }
 }
 
+/// What the operation `layers` may answer on `case`: the least numbers, or any of all its rings.
+fn layers(case: &Case) -> Answered {
+    let dependence = dependence(case);
+    match numbers(&dependence) {
+        Some(numbers) => Answered::Layered(numbers),
+        None => Answered::Rings(rings(&dependence)),
+    }
+}
+
 impl Vector {
     /// The vector whose operation is in the file `path`.
     pub fn load(path: &Path) -> Result<Vector, String> {
@@ -71,7 +81,14 @@ impl Vector {
         Ok(Vector { operation, subject, expected: text("out")? })
     }
 
-    /// What the operation should answer.
+    /// Whether an operation with the answer `text` answers as it should: with the stored answer, or with one ring of
+    /// those stored.
+    pub fn allows(&self, text: &str) -> bool {
+        let ring = text.strip_suffix('\n').filter(|line| line.starts_with("ring "));
+        text == self.expected || ring.is_some_and(|ring| self.expected.lines().any(|line| line == ring))
+    }
+
+    /// What the operation should answer; all rings, where one of them is to be answered.
     pub fn answer(&self) -> Answered {
         let held = match &self.subject {
             Subject::Tables(held) => Held::clone(held),
@@ -85,6 +102,7 @@ impl Vector {
             (_, None) => Answered::Refused(13),
             (Operation::Settle { setting }, Some(case)) => settled(case, setting),
             (Operation::Question { slots, bytes }, Some(case)) => asked(case, slots, bytes),
+            (Operation::Layers, Some(case)) => layers(&case),
         }
     }
 }

@@ -1,0 +1,99 @@
+//! How many files were layered, had a ring or were refused, and how many would be answered otherwise under a wrong
+//! reading of the rules.
+
+use crate::case::{Body, Case, Clause};
+use crate::file::Refusal;
+use crate::formula::Literal;
+use crate::layers::{dependence, numbers};
+use crate::layers_answer::Layering;
+
+/// A number that is reached only on a long way: that of the top of a chain of 55.
+const HIGH: u64 = 54;
+
+/// What is counted: the words, and whether a file is to be counted.
+type Row = (&'static str, fn(&Result<Layering, Refusal>) -> bool);
+
+/// Everything that is counted; each must occur.
+const ROWS: [Row; 8] = [
+    ("layered", |own| own.as_ref().is_ok_and(|l| l.numbers.is_some())),
+    ("a ring", |own| own.as_ref().is_ok_and(|l| l.numbers.is_none())),
+    ("refused", |own| own.is_err()),
+    ("a number of 54 and more", |own| own.as_ref().is_ok_and(is_high)),
+    ("an atom in its own body", |own| own.as_ref().is_ok_and(names_itself)),
+    ("other without negated atoms", |own| own.as_ref().is_ok_and(|l| differs(l, without_negated))),
+    ("other with first bodies only", |own| own.as_ref().is_ok_and(|l| differs(l, with_first_bodies))),
+    ("other with constraints as rules", |own| own.as_ref().is_ok_and(|l| differs(l, with_constraints))),
+];
+
+/// Whether some atom has a high number.
+fn is_high(layering: &Layering) -> bool {
+    layering.numbers.iter().flatten().any(|n| *n >= HIGH)
+}
+
+/// Whether some atom stands in its own body.
+fn names_itself(layering: &Layering) -> bool {
+    layering.dependence.iter().enumerate().any(|(atom, named)| named.contains(&atom))
+}
+
+/// Whether the numbers are others, or there are none on one side only, in what `misread` makes of the case.
+fn differs(layering: &Layering, misread: fn(&Case) -> Vec<Clause>) -> bool {
+    let other = Case { clauses: misread(&layering.case), ..layering.case.clone() };
+    numbers(&dependence(&other)) != layering.numbers
+}
+
+/// The clauses of `case` without negated literals.
+fn without_negated(case: &Case) -> Vec<Clause> {
+    let plain = |body: &[Literal<usize>]| body.iter().filter(|l| !l.negated).cloned().collect();
+    let clause = |c: &Clause| match &c.body {
+        Body::All(body) => Clause { head: c.head, body: Body::All(plain(body)) },
+        _ => c.clone(),
+    };
+    case.clauses.iter().map(clause).collect()
+}
+
+/// Of the rules of `case` the first of each head.
+fn with_first_bodies(case: &Case) -> Vec<Clause> {
+    let mut rules: Vec<Clause> = case.clauses.iter().filter(|c| matches!(c.body, Body::All(_))).cloned().collect();
+    rules.sort_by_key(|rule| rule.head);
+    rules.dedup_by_key(|rule| rule.head);
+    rules
+}
+
+/// The clauses of `case`, and each constraint as a rule with its first atom as head.
+fn with_constraints(case: &Case) -> Vec<Clause> {
+    let rule = |body: &Vec<Literal<usize>>| Clause { head: body[0].atom, body: Body::All(body[1..].to_vec()) };
+    case.clauses.iter().cloned().chain(case.constraints.iter().map(rule)).collect()
+}
+
+/// Which of the rows count a file.
+pub type Met = [bool; ROWS.len()];
+
+/// Which of the rows count a file that should get `own`.
+pub fn met(own: &Result<Layering, Refusal>) -> Met {
+    ROWS.map(|(_, holds)| holds(own))
+}
+
+/// Counts of files, one for each of the rows.
+#[derive(Default)]
+pub struct Tally {
+    counts: [usize; ROWS.len()],
+}
+
+impl Tally {
+    /// Counts a file for each row of `met`.
+    pub fn count(&mut self, met: &Met) {
+        for (count, met) in self.counts.iter_mut().zip(met) {
+            *count += usize::from(*met);
+        }
+    }
+
+    /// A line for each count.
+    pub fn lines(&self) -> Vec<String> {
+        ROWS.iter().zip(self.counts).map(|((what, _), count)| format!("{what}: {count} files")).collect()
+    }
+
+    /// What never occurred.
+    pub fn missing(&self) -> Vec<&'static str> {
+        ROWS.iter().zip(self.counts).filter(|(_, count)| *count == 0).map(|((what, _), _)| *what).collect()
+    }
+}
