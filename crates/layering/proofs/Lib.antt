@@ -4,9 +4,11 @@
 -- Following: a path of dependencies, and the ring at its end.
 -- Answers: laws of what the operation answers.
 -- Theorems: a proof of each claim.
+-- Marked: marked files, layered by computation.
 pub mod Chains
 pub mod Rings
 pub mod Peeling
 pub mod Following
 pub mod Answers
 pub mod Theorems
+pub mod Marked
