@@ -111,12 +111,12 @@ module _ (f : List ℕ) (st : Said) (e : readFile f ≡ Outcome.case st) where
       rw (filled-exact 2048 (formulaParts (st .queries)) (padded 2048 []) (padded-length 2048 []))
       at (says f st e (caseSaid st) zeros u zeros-long refl refl refl refl refl .queries-are)
 
-  said-named : (a : ℕ) → Named (nameOf st a)
+  pub said-named : (a : ℕ) → Named (nameOf st a)
   said-named = every-named (st .names) (λ a h.
       let n = accepted-names f st e .are-names a h in
       record { short = n .short; no-zero = no-zero (nameOf st a) (n .word-bytes) })
 
-  said-table : (a : ℕ) → a < 64 → nameIn (padded 1024 (rowsOf (st .names))) a ≡ nameOf st a
+  pub said-table : (a : ℕ) → a < 64 → nameIn (padded 1024 (rowsOf (st .names))) a ≡ nameOf st a
   said-table = table-name (st .names) (λ a h. said-named a)
 
   said-settings : settingsIn (caseSaid st) (clauseTable st) ≤ 59049

@@ -2,14 +2,11 @@
 -- what the tables hold where it does not. Assumes nothing.
 use mathlib.Core.Path.{_≡_, refl, sym, ap, _∙_}
 use mathlib.Core.Bool.{true}
-use mathlib.Core.List.{List, []}
+use mathlib.Core.List.{List}
 use mathlib.Core.Logic.{⊎-elim}
 use Prim.Native.Nat.{ℕ, _*_, _≤_, _<_}
 use native.Mathlib.Omega.{arith}
 use lib.ListN.{length, take}
-use borrow.Author.Tests.{lt-leb, le-leb}
-use Rattle.words.specs.Choice.{unlessRefused}
-use Rattle.words.proofs.Checks.{first-failed-here, first-failed-behind}
 use Rattle.words.proofs.Tests.{lt-or-le}
 use Rattle.table.specs.Filled.{padded}
 use Rattle.table.proofs.Filled.{filled-exact, padded-length}
@@ -36,32 +33,17 @@ use Rattle.output.specs.declared.Answer as output
 use Rattle.output.specs.Writing.{Room}
 use Rattle.wording.specs.Text.{answerText, refusalText}
 use Rattle.report.specs.Report.{clauseTable, constraintTable, formulaTable, causesIn, saidText, outcomeText}
-use Rattle.report.specs.Report.{reportText}
-use Rattle.report.specs.Operation.{ReportShown, Reported}
-use Rattle.report.specs.Sizes.{FullSizes}
+use Rattle.report.specs.Report.{fileRefusal, fileText, reportText}
+use Rattle.report.specs.Operation.{ReportShown}
+use Rattle.report.specs.Sizes.{FullTables}
+use Rattle.report.proofs.FileTexts.{file-short, file-long, file-read, outcome-refused}
 use Rattle.report.proofs.Accepted.{said-sound, said-length, asked-queries, asked-fits, asked-text}
-
--- the report of the file f, where the refusal of its length is n
-abbrev textWith : List ℕ → ℕ → List ℕ
-textWith f n = unlessRefused n (outcomeText (readFile f)) (refusalText n 0)
-
-pub report-long : (f : List ℕ) → 32768 < length f → reportText f ≡ refusalText 2 0
-unfolding reportText
-report-long f h = ap (textWith f) (first-failed-here 2 [] (lt-leb (length f) 32768 h))
-
-pub report-read : (f : List ℕ) → length f ≤ 32768 → reportText f ≡ outcomeText (readFile f)
-unfolding reportText
-report-read f h = ap (textWith f) (first-failed-behind 2 [] (le-leb (length f) 32768 h))
-
-refused-text : (o : Outcome) → (refusalOf o ≡ 0 → ⊥) → refusalText (refusalOf o) (lineOfRefusal o) ≡ outcomeText o
-refused-text (Outcome.case st) h = absurd (h refl)
-refused-text (Outcome.refused n k) h = refl
 
 -- what was read of an accepted file f: what it says, the answer's record, and the tables u
 pub record Accepted (f : List ℕ) (u : Lent) (r : Answer) : Type 0 where
   pub said : Said
   pub read-is : readFile f ≡ Outcome.case said
-  pub text-is : reportText f ≡ saidText said
+  pub text-is : (text : Said → List ℕ) → fileText text f ≡ text said
   pub case-is : r .found ≡ caseSaid said
   pub clauses-are : u .clauses ≡ clauseTable said
   pub constraints-are : u .constraints ≡ constraintTable said
@@ -69,8 +51,8 @@ pub record Accepted (f : List ℕ) (u : Lent) (r : Answer) : Type 0 where
   pub names-are : u .names ≡ padded 1024 (rowsOf (said .names))
 
 -- the file f was read into the tables t of their sizes, which became u, with the answer r
-module _ {f : List ℕ} {t u : Lent} {r : Answer} {list work : List ℕ}
-    (x : FullSizes (t .clauses) (t .constraints) (t .formula) (t .names) list work) (h : ReadAs f t u r) where
+module _ {f : List ℕ} {t u : Lent} {r : Answer}
+    (x : FullTables (t .clauses) (t .constraints) (t .formula) (t .names)) (h : ReadAs f t u r) where
   is-full : true ≡ tablesFull (t .clauses) (t .constraints) (t .formula)
   is-full =
       sym (tables-full (t .clauses) (t .constraints) (t .formula) (omega (arith, x .clauses-full))
@@ -82,21 +64,30 @@ module _ {f : List ℕ} {t u : Lent} {r : Answer} {list work : List ℕ}
   not-early : length f ≤ 32768 → earlyRefusal f t ≡ 0
   not-early l = sym (early-none f t is-full refl (omega (arith, x .names-full)) l)
 
-  refused-report : (r .refusal ≡ 0 → ⊥) → refusalText (r .refusal) (r .line) ≡ reportText f
-  refused-report k = ⊎-elim long short (lt-or-le 32768 (length f))
-    where
-      long : 32768 < length f → refusalText (r .refusal) (r .line) ≡ reportText f
-      long l = rw (h .refusal-is, h .line-is, is-early l, report-long f l)
+  refusal-read : length f ≤ 32768 → r .refusal ≡ refusalOf (readFile f)
+  refusal-read l = rw (not-early l) at (h .refusal-is)
 
-      short : length f ≤ 32768 → refusalText (r .refusal) (r .line) ≡ reportText f
-      short l =
-          let n : r .refusal ≡ refusalOf (readFile f) = rw (not-early l) at (h .refusal-is) in
-          let m : r .line ≡ lineOfRefusal (readFile f) = rw (not-early l) at (h .line-is) in
-          rw (n, m, report-read f l) (refused-text (readFile f) (λ z. k (n ∙ z)))
+  module _ (k : r .refusal ≡ 0 → ⊥) where
+    refused-report : (text : Said → List ℕ) → refusalText (r .refusal) (r .line) ≡ fileText text f
+    refused-report text = ⊎-elim long short (lt-or-le 32768 (length f))
+      where
+        long : 32768 < length f → refusalText (r .refusal) (r .line) ≡ fileText text f
+        long l = rw (h .refusal-is, h .line-is, is-early l, file-long text f l)
 
-  pub refused-shown : {out outAfter : List ℕ} {q : output.Answer} → (r .refusal ≡ 0 → ⊥)
-      → ReportShown (refusalText (r .refusal) (r .line)) out q outAfter → Reported f out q outAfter
-  refused-shown k s = rw (refused-report k) at s
+        short : length f ≤ 32768 → refusalText (r .refusal) (r .line) ≡ fileText text f
+        short l =
+            let n = refusal-read l in
+            let m : r .line ≡ lineOfRefusal (readFile f) = rw (not-early l) at (h .line-is) in
+            rw (n, m, file-read text f l) (outcome-refused text (readFile f) (λ z. k (n ∙ z)))
+
+    pub refused-shown : (text : Said → List ℕ) {out outAfter : List ℕ} {q : output.Answer}
+        → ReportShown (refusalText (r .refusal) (r .line)) out q outAfter
+        → ReportShown (fileText text f) out q outAfter
+    refused-shown text s = rw (refused-report text) at s
+
+    -- a file that is refused says nothing
+    pub refused-silent : (st : Said) → fileRefusal f ≡ 0 → readFile f ≡ Outcome.case st → ⊥
+    refused-silent st z e = k (refusal-read (file-short f z) ∙ ap refusalOf e)
 
   accepted-case : (st : Said) → readFile f ≡ Outcome.case st → length f ≤ 32768 → Accepted f u r
   accepted-case st e l =
@@ -105,7 +96,7 @@ module _ {f : List ℕ} {t u : Lent} {r : Answer} {list work : List ℕ}
       record {
         said = st;
         read-is = e;
-        text-is = report-read f l ∙ ap outcomeText e;
+        text-is = λ text. file-read text f l ∙ ap (outcomeText text) e;
         case-is = rw (z, e) at (h .case-is);
         clauses-are = rw (n, e) at (h .clauses-are) ∙ filled-exact 768 _ (t .clauses) (x .clauses-full);
         constraints-are = rw (n, e) at (h .constraints-are) ∙ filled-exact 64 _ (t .constraints) (x .constraints-full);
@@ -124,9 +115,7 @@ module _ {f : List ℕ} {t u : Lent} {r : Answer} {list work : List ℕ}
       long l = let n : r .refusal ≡ 2 = rw (is-early l) at (h .refusal-is) in absurd (omega arith)
 
       short : length f ≤ 32768 → Accepted f u r
-      short l =
-          let n : r .refusal ≡ refusalOf (readFile f) = rw (not-early l) at (h .refusal-is) in
-          accepted-by (readFile f) refl (file-numbered f) (sym n ∙ k) l
+      short l = accepted-by (readFile f) refl (file-numbered f) (sym (refusal-read l) ∙ k) l
 
 -- An accepted file, and what its question answers, with a list of 1,024 slots and a work area of 59,049 bytes
 
@@ -145,7 +134,7 @@ pub record Answered (f : List ℕ) (r : Answer) (u : Lent) (causes : ℕ) (q : q
     pub text-is : textOf r u causes q list ≡ reportText f
 
 module _ {f : List ℕ} {u : Lent} {r : Answer} (a : Accepted f u r) where
-  accepted-sound : sound (r .found) (u .clauses) (u .constraints) (u .formula) ≡ true
+  pub accepted-sound : sound (r .found) (u .clauses) (u .constraints) (u .formula) ≡ true
   accepted-sound =
       rw (a .case-is, a .clauses-are, a .constraints-are, a .formula-is) (said-sound f (a .said) (a .read-is))
 
@@ -188,5 +177,5 @@ module _ {f : List ℕ} {u : Lent} {r : Answer} (a : Accepted f u r) where
               (asked-queries f st (a .read-is) list work full room q listAfter workAfter asked-said);
           list-fits = asked-fits f st (a .read-is) list work full room q listAfter workAfter asked-said;
           text-fits = rw t (omega (arith, said-length f st (a .read-is)));
-          text-is = t ∙ sym (a .text-is);
+          text-is = t ∙ sym (a .text-is saidText);
         }

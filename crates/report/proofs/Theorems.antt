@@ -1,15 +1,11 @@
 -- What is claimed of reports is so. Assumes nothing.
 use mathlib.Core.Path.{_≡_, refl, sym, ap, _∙_}
 use mathlib.Core.List.{List, map}
-use mathlib.Core.Logic.{⊎-elim}
-use Prim.Native.Nat.{ℕ, zero, suc, _≤_, _<_}
+use Prim.Native.Nat.{ℕ}
 use native.Mathlib.Omega.{arith}
 use lib.ListN.{length, take}
-use lib.Seq.{take-all, length-take-le}
-use Rattle.words.specs.Choice.{unlessRefused}
 use Rattle.words.specs.Lists.{listOf}
 use Rattle.words.proofs.Lists.{list-of-ext, list-of-map, list-of-is}
-use Rattle.words.proofs.Tests.{lt-or-le}
 use Rattle.logic.specs.Formula.{Formula}
 use Rattle.logic.specs.Nodes.{formulaOf}
 use Rattle.program.specs.Case.{nodesOf}
@@ -19,40 +15,19 @@ use Rattle.verdict.specs.Walk.{verdictOf, verdictsOf, verdictNumber}
 use Rattle.verdict.proofs.Verdicts.{verdict-alike, verdicts-length, verdicts-at}
 use Rattle.store.specs.Saying.{Said}
 use Rattle.store.specs.Tables.{caseSaid}
-use Rattle.reader.specs.Reading.{Outcome, readFile}
 use Rattle.report.specs.Report.{listLength, formulaTable, causesIn, judgeIn, minimalsOf, roundsOf, nameOf}
-use Rattle.report.specs.Report.{saidText, outcomeText, fileRefusal, reportText}
+use Rattle.report.specs.Report.{saidText, outcomeText}
 use Rattle.report.specs.Claims.{reportLimit, ReportFits, ReportCut, judgeOn, verdictOn}
 use Rattle.report.specs.Claims.{VerdictsOnQueries, OneQuery}
-use Rattle.wording.specs.Text.{refusalText}
 use Rattle.wording.proofs.Listings.{answer-one}
-use Rattle.wording.proofs.Lengths.{refusal-length}
 use Rattle.report.proofs.Accepted.{said-formulas, said-length}
-use Rattle.report.proofs.Reported.{report-long, report-read}
-
-outcome-length : (f : List ℕ) (o : Outcome) → readFile f ≡ o → length (outcomeText o) ≤ reportLimit
-outcome-length f (Outcome.case st) e = said-length f st e
-outcome-length f (Outcome.refused n k) e = omega (arith, refusal-length n k)
-
-unless-refused-length : (n : ℕ) (t : List ℕ) → length t ≤ reportLimit
-    → length (unlessRefused n t (refusalText n 0)) ≤ reportLimit
-unless-refused-length zero t h = h
-unless-refused-length (suc n) t h = omega (arith, refusal-length (suc n) 0)
+use Rattle.report.proofs.FileTexts.{file-read, file-cut, file-length}
 
 pub report-fits : ReportFits
-unfolding reportText
-report-fits f = unless-refused-length (fileRefusal f) (outcomeText (readFile f)) (outcome-length f (readFile f) refl)
+report-fits f = file-length saidText f reportLimit (omega arith) (λ st z e. said-length f st e)
 
 pub report-cut : ReportCut
-report-cut f k h = ⊎-elim long short (lt-or-le k (length f))
-  where
-    long : k < length f → reportText (take k f) ≡ reportText f
-    long l =
-        let e = length-take-le k f (omega arith) in
-        report-long (take k f) (omega arith) ∙ sym (report-long f (omega arith))
-
-    short : length f ≤ k → reportText (take k f) ≡ reportText f
-    short l = ap reportText (take-all k f l)
+report-cut f k h = file-cut saidText f k h
 
 verdicts-listed : (J : Judge) (l : List ℕ) → verdictsOf J l ≡ listOf (J .queries) (λ q. verdictOf J q l)
 verdicts-listed J l =
@@ -76,8 +51,8 @@ verdicts-on-queries f st e =
 pub one-query : OneQuery
 unfolding saidText
 one-query f st g h e q =
-    report-read f h
-    ∙ ap outcomeText e
+    file-read saidText f h
+    ∙ ap (outcomeText saidText) e
     ∙ rw (verdicts-on-queries f st e, q)
     (answer-one (nameOf st) (causesIn st) (verdictNumber (verdictOn st g)) (roundsOf st) (length (minimalsOf st))
     (take listLength (minimalsOf st)))

@@ -5,8 +5,9 @@
 --   judgeIn st             the judge of what a file says
 --   causesIn st            its causes; minimalsOf st its minimal settings; roundsOf st the rounds over all settings
 --   verdictsIn st          its verdicts, in file order; verdictNumbers st their numbers
---   outcomeText o          the report of an outcome of reading
+--   outcomeText said o     the text of an outcome of reading, where said gives that of what a file says
 --   fileRefusal f          0, or 2 where the file is too long
+--   fileText said f        the text of the file f, where said gives that of what it says
 --   reportText f           the report of the file f
 use mathlib.Core.List.{List, [], _∷_, map}
 use Prim.Native.Nat.{ℕ}
@@ -66,13 +67,16 @@ saidText st =
     let l = minimalsOf st in
     answerText (nameOf st) (causesIn st) (verdictNumbers st) (roundsOf st) (length l) (take listLength l)
 
-abbrev pub outcomeText : Outcome → List ℕ
-outcomeText (Outcome.case st) = saidText st
-outcomeText (Outcome.refused n k) = refusalText n k
+abbrev pub outcomeText : (Said → List ℕ) → Outcome → List ℕ
+outcomeText said (Outcome.case st) = said st
+outcomeText said (Outcome.refused n k) = refusalText n k
 
 -- 0, or 2 the file is over 32,768 bytes
 abbrev pub fileRefusal : List ℕ → ℕ
 fileRefusal f = firstFailed (check 2 (leb (length f) 32768) ∷ [])
 
-unfoldable pub reportText : List ℕ → List ℕ
-reportText f = unlessRefused (fileRefusal f) (outcomeText (readFile f)) (refusalText (fileRefusal f) 0)
+unfoldable pub fileText : (Said → List ℕ) → List ℕ → List ℕ
+fileText said f = unlessRefused (fileRefusal f) (outcomeText said (readFile f)) (refusalText (fileRefusal f) 0)
+
+abbrev pub reportText : List ℕ → List ℕ
+reportText f = fileText saidText f

@@ -13,7 +13,7 @@ use wording::answer_text;
 use wording::refusal_text;
 
 // Writes the text of a refusal, unless the output is too short.
-fn show_refusal(number: u32, line: u32, out: &mut [u8]) -> Answer
+pub fn show_refusal(number: u32, line: u32, out: &mut [u8]) -> Answer
     ensures { λ r. ⌜ ReportShown (refusalText number line) (now (out .entry)) r (now (out .exit)) ⌝ }
 {
     let mut spare = [0u8; 1];

@@ -4,6 +4,7 @@ use mathlib.Core.Path.{sym, _∙_}
 use lib.Seq.{length-take-le}
 use borrow.Author.Needs.{needs}
 use Rattle.store.specs.Lent.{Lent, lent}
+use Rattle.report.specs.Report.{saidText}
 use Rattle.report.proofs.Reported.{Accepted, Answered, refused-shown, accepted-report, accepted-held}
 use Rattle.report.proofs.Reported.{accepted-clauses, accepted-constraints, accepted-formula, accepted-answered}
 use Rattle.report.proofs.operation.report_in.Statement.{statement}
@@ -41,7 +42,7 @@ filled c = let p = c .read .last .1 in lent (p .0) (p .1 .0) (p .1 .1 .0) (p .1 
 accepted : (c : tie.Else1) → let q = reading (c .before) in
     Accepted (entry q .args .file .now) (filled q) (q .read .result)
 accepted c = let q = reading (c .before) in
-    accepted-report {u = filled q} (entry q .pre) (q .read .ensures) (c .if1 .left)
+    accepted-report {u = filled q} (entry q .pre .tables-full) (q .read .ensures) (c .if1 .left)
 
 answered : (c : tie.After-causes) → let k = asking c in let q = reading (passed k .before) in
     Answered (entry q .args .file .now) (q .read .result) (filled q) (c .causes .result) (k .ask .result)
@@ -82,7 +83,8 @@ returns c =
     let b = c .before .before in
     let i = b .before .before in
     let q = reading (i .before) in
-    refused-shown {u = filled q} (entry q .pre) (q .read .ensures) (i .if1 .taken) (b .show-refusal .ensures)
+    refused-shown {u = filled q} (entry q .pre .tables-full) (q .read .ensures) (i .if1 .taken) saidText
+    (b .show-refusal .ensures)
 
 ask-requires : tie.Need-ask-requires
 ask-requires c κs = tt
@@ -105,17 +107,17 @@ show-answer-requires c κs = let a = answered (c .before .before .before) in (a 
 same-length-6 : tie.Need-same-length-6
 same-length-6 c =
     let k = read-before c in
-    accepted-clauses (accepted k) ∙ sym (entry (reading (k .before)) .pre .clauses-full)
+    accepted-clauses (accepted k) ∙ sym (entry (reading (k .before)) .pre .tables-full .clauses-full)
 
 same-length-7 : tie.Need-same-length-7
 same-length-7 c =
     let k = read-before c in
-    accepted-constraints (accepted k) ∙ sym (entry (reading (k .before)) .pre .constraints-full)
+    accepted-constraints (accepted k) ∙ sym (entry (reading (k .before)) .pre .tables-full .constraints-full)
 
 same-length-8 : tie.Need-same-length-8
 same-length-8 c =
     let k = read-before c in
-    accepted-formula (accepted k) ∙ sym (entry (reading (k .before)) .pre .formula-full)
+    accepted-formula (accepted k) ∙ sym (entry (reading (k .before)) .pre .tables-full .formula-full)
 
 same-length-9 : tie.Need-same-length-9
 same-length-9 c = search needs
