@@ -1,20 +1,14 @@
 -- What the program's functions promise of what it reads and writes: all but that the system's calls move the bytes.
 -- From: document 01, "The program `causes`".
 --
---   Stopped buf r       reading into the buffer stopped where it was full or the last call of read gave no byte
 --   Answered f r out    the first r bytes of the output are the report of the file f
 --   ReportOf room b t   t is the report of every input of which b are the first room bytes, or all where it has fewer
 use mathlib.Core.Path.{_≡_}
 use mathlib.Core.List.{List}
-use Prim.Native.Nat.{ℕ, _<_}
-use lib.ListN.{length, take}
+use Prim.Native.Nat.{ℕ}
+use lib.ListN.{take}
 use Rattle.io.specs.Counts.{Counts}
 use Rattle.report.specs.Report.{reportText}
-use Rattle.causes.specs.declared.Input.{Input}
-
-pub record Stopped (buf : List ℕ) (r : Input) : Type 0 where
-  pub counted : Counts (r .count) buf
-  pub stops : r .count < length buf → r .last ≡ 0
 
 pub record Answered (f : List ℕ) (r : ℕ) (out : List ℕ) : Type 0 where
   pub counted : Counts r out

@@ -1,47 +1,16 @@
 // The program `causes`: reads a case file from standard input and writes its report to standard output. Where the input
 // cannot be read or the report cannot be written whole, it says so on standard error. It takes no argument.
 ghost use lib.ListN.{length, take};
-ghost use Rattle.causes.specs.Program.{Stopped, Answered, ReportOf};
+ghost use Rattle.causes.specs.Program.{Answered, ReportOf};
+use input::Input;
+use input::read_input;
 use libc::STDERR_FILENO;
-use libc::STDIN_FILENO;
 use libc::STDOUT_FILENO;
 
 // Room for a byte more than a file may have (refusal 2), and for every report (crates/report/specs/Claims.antt).
 const FILE_ROOM: usize = 32769;
 
 const REPORT_ROOM: usize = 264582;
-
-// What reading the input gave: how many bytes, how many of them by the last call of read, and whether that failed.
-struct Input {
-    count: usize,
-    last: usize,
-    failed: bool,
-}
-
-// Reads standard input until the buffer is full, the input ends or a read fails.
-fn read_input(buf: &mut [u8]) -> Input
-    ensures { λ r. ⌜ Stopped (now (buf .exit)) r ⌝ }
-{
-    let mut done: usize = 0;
-    let mut last: usize = 0;
-    while done < buf.len() {
-        let got = libc::read(STDIN_FILENO, &mut buf[done..]);
-        last = io::count(got, &buf[done..]);
-        if last == 0 {
-            return Input {
-                count: done,
-                last,
-                failed: got < 0,
-            };
-        }
-        done += last;
-    }
-    Input {
-        count: done,
-        last,
-        failed: false,
-    }
-}
 
 // Puts the report of a file in front of an output with room for every report, and answers its length.
 fn answer(file: &[u8], out: &mut [u8; REPORT_ROOM]) -> usize

@@ -1,4 +1,4 @@
--- `causes::read_input` meets its contract. The invariant: at most as many bytes are read as the buffer has.
+-- `input::read_input` meets its contract. The invariant: at most as many bytes are read as the buffer has.
 -- Assumes what `libc` declares of read.
 use borrow.Author.Needs.{needs}
 use mathlib.Core.Path.{_≡_}
@@ -6,8 +6,8 @@ use Prim.Native.Nat.{_≤_, _-_}
 use native.Mathlib.Omega.{arith}
 use lib.ListN.{length}
 use Rattle.io.proofs.Counting.{counts}
-use Rattle.causes.proofs.read_input.Statement.{statement}
-use Rattle.causes.proofs.read_input.Tie as tie
+use Rattle.input.proofs.read_input.Statement.{statement}
+use Rattle.input.proofs.read_input.Tie as tie
 
 abbrev Inv-loop : tie.InvT-loop
 Inv-loop buf₀ done₀ last₀ buf done last = (done ≤ length buf) × (length buf ≡ length buf₀)

@@ -1,0 +1,2 @@
+-- Reading: what reading standard input promises.
+pub mod Reading
