@@ -1,6 +1,6 @@
 -- Laws of what the operation answers: which refusal is due, and the answer with or without one. Assumes nothing.
 use mathlib.Core.Path.{_≡_, sym, ap, ap₂, subst, _∙_}
-use mathlib.Core.Bool.{Bool, true, false}
+use mathlib.Core.Bool.{Bool, true, false, and-true, true≢false}
 use mathlib.Core.List.{List, [], _∷_}
 use mathlib.Core.Logic.{_⊎_, ⊎-elim}
 use Prim.Native.Nat.{ℕ, suc, _≤_, _<_}
@@ -95,7 +95,7 @@ module _ (c : Case) (cl co fo : List ℕ) where
           → Layering c cl co fo (record { refusal = 0; layered = true; count = c .atoms; entries = u })
       answer-numbers z = record {
         ring = [];
-        ring-is = λ e f. absurd (mathlib.Core.Bool.true≢false (sym is-layered ∙ f));
+        ring-is = λ e f. absurd (true≢false (sym is-layered ∙ f));
         answer-is =
             ap (λ (x : List ℕ). record { refusal = 0; layered = true; count = c .atoms; entries = x }) numbers
             ∙ rw (none, is-layered);
@@ -107,7 +107,7 @@ module _ (c : Case) (cl co fo : List ℕ) where
           numbers : u ≡ padded 64 (numbersIn c cl)
           numbers = entries-are (c .atoms) (leastNumber (c .atoms) (dependence c cl)) u (h .size-is)
               (λ a l. h .entry-is a l
-              ∙ rw (z, has-zero a, mathlib.Core.Bool.and-true (ltb a (c .atoms)))
+              ∙ rw (z, has-zero a, and-true (ltb a (c .atoms)))
               (ap (λ (k : ℕ). pick (ltb a (c .atoms)) k 0)
               (number-ext (c .atoms) (linkedBy t) (dependence c cl) agree a)))
 

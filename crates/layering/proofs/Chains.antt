@@ -3,7 +3,7 @@ use mathlib.Core.Path.{_≡_, refl, sym, ap, _∙_}
 use mathlib.Core.Bool.{Bool, true, false, not, _&&_, true≢false}
 use mathlib.Core.Logic.{_⊎_, inl, inr, ⊎-elim}
 use Prim.Native.Nat.{ℕ, zero, suc, _+_, _^_, _≤_, _<_}
-use native.Mathlib.Nat.{not-suc-le-zero, eq-or-lt-of-le}
+use native.Mathlib.Nat.{zero-add, suc-add, not-suc-le-zero, eq-or-lt-of-le}
 use native.Mathlib.Omega.{arith}
 use lib.Count.{ones, ones-le}
 use lib.Pow.{pow-pos}
@@ -63,25 +63,21 @@ module _ (n : ℕ) (r : ℕ → ℕ → Bool) where
   fewer : (k : ℕ) → (heads (suc k) ≡ heads k) ⊎ (ones (heads (suc k)) < ones (heads k))
   fewer k = ones-grow n (heads (suc k)) (heads k) (heads-lt (suc k)) (heads-lt k) (chain-shorter k)
 
+  -- a bound on k and the heads of chains of k is one on k + 1 and those of chains of k + 1
+  few-next : (k : ℕ) → k + ones (heads k) ≤ n → (heads (suc k) ≡ heads k) ⊎ (suc k + ones (heads (suc k)) ≤ n)
+  few-next k h =
+      ⊎-elim (λ e. inl e) (λ (m : ones (heads (suc k)) < ones (heads k)). inr (omega (arith, h, m))) (fewer k)
+
   stays-or-few : (k : ℕ) → (heads (suc k) ≡ heads k) ⊎ (suc k + ones (heads (suc k)) ≤ n)
-  stays-or-few zero =
-      ⊎-elim (λ e. inl e)
-      (λ (h : ones (heads 1) < ones (heads 0)).
-      inr (omega (arith, h, ones-le n (heads 0) (heads-lt 0)))) (fewer zero)
-  stays-or-few (suc k) =
-      ⊎-elim (λ e. inl (same-next k e))
-      (λ (h : suc k + ones (heads (suc k)) ≤ n).
-      ⊎-elim (λ e. inl e)
-      (λ (m : ones (heads (suc (suc k))) < ones (heads (suc k))). inr (omega (arith, h, m)))
-      (fewer (suc k)))
-      (stays-or-few k)
+  stays-or-few zero = few-next 0 (omega (arith, ones-le n (heads 0) (heads-lt 0)))
+  stays-or-few (suc k) = ⊎-elim (λ e. inl (same-next k e)) (few-next (suc k)) (stays-or-few k)
 
   -- heads that stay once stay for ever
   pub heads-stay : (k j : ℕ) → heads (suc k) ≡ heads k → heads (j + k) ≡ heads k
   unfolding chainHeads
-  heads-stay k zero e = ap heads (native.Mathlib.Nat.zero-add k)
+  heads-stay k zero e = ap heads (zero-add k)
   heads-stay k (suc j) e =
-      ap heads (native.Mathlib.Nat.suc-add j k)
+      ap heads (suc-add j k)
       ∙ ap (λ (w : ℕ). word n (λ a. any n (λ b. r a b && has w b))) (heads-stay k j e) ∙ e
 
   -- a chain as long as there are atoms can be longer still

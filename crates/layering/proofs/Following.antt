@@ -90,8 +90,7 @@ module _ (t : List ℕ) (w : ℕ) where
     few = omega arith;
     stuck = h .bit;
     found = λ a f. absurd (true≢false (sym f ∙ has-zero a));
-    path-seen = λ i l. absurd (not-suc-le-zero l);
-    path-stuck = λ i l. absurd (not-suc-le-zero l);
+    path-in = λ i l. absurd (not-suc-le-zero l);
     distinct = λ i j l m. absurd (not-suc-le-zero m);
     linked = λ i l. absurd (not-suc-le-zero l);
     last = λ i e. absurd (omega arith);
@@ -135,6 +134,11 @@ module _ (t : List ℕ) (w : ℕ) where
         seen-here =
             has-or-one seen at at ∙ ap (λ (t : Bool). has seen at || t) (eq-eqb at at refl) ∙ or-true (has seen at)
 
+        still-in : (i : ℕ) → i < len → (has (bitOr seen (2 ^ at)) (getD path i 0) ≡ true) × BitOf w (getD path i 0)
+        still-in i l =
+            let q = p .path-in i l in
+            (has-or-one seen at (getD path i 0) ∙ ap (λ (s : Bool). s || eqb (getD path i 0) at) (q .0), q .1)
+
         place-of : (a : ℕ) → has (bitOr seen (2 ^ at)) a ≡ true → (j : ℕ) × (j < len + 1) × (getD longer j 0 ≡ a)
         place-of a f =
             ⊎-elim (λ (q : eqb a at ≡ true). (len, omega arith, here ∙ sym (eqb-true a at q)))
@@ -149,7 +153,7 @@ module _ (t : List ℕ) (w : ℕ) where
             (λ (q : j ≡ len).
             let m : i < len = omega (arith, q) in
             let g : getD path i 0 ≡ at = sym (before i m) ∙ f ∙ ap (λ (k : ℕ). getD longer k 0) q ∙ here in
-            true≢false (sym (p .path-seen i m) ∙ ap (has seen) g ∙ new))
+            true≢false (sym (p .path-in i m .0) ∙ ap (has seen) g ∙ new))
             (λ (q : j < len). p .distinct i j l q (sym (before i (omega arith)) ∙ f ∙ before j q))
             (eq-or-lt-of-le (omega arith))
 
@@ -169,10 +173,7 @@ module _ (t : List ℕ) (w : ℕ) where
           few = omega (arith, p .few, more-seen);
           stuck = b;
           found = place-of;
-          path-seen = each (λ a. has (bitOr seen (2 ^ at)) a ≡ true)
-              (λ i l. has-or-one seen at (getD path i 0)
-              ∙ ap (λ (s : Bool). s || eqb (getD path i 0) at) (p .path-seen i l)) seen-here;
-          path-stuck = each (BitOf w) (p .path-stuck) (p .stuck);
+          path-in = each (λ a. (has (bitOr seen (2 ^ at)) a ≡ true) × BitOf w a) still-in (seen-here, p .stuck);
           distinct = apart;
           linked = links;
           last = λ i f. let q : i ≡ len = omega arith in rw (q, here) e;
@@ -194,7 +195,7 @@ module _ (t : List ℕ) (w : ℕ) where
       ring-is : Ring 64 (linkedBy t) ring
       ring-is = record {
         some = omega (arith, size);
-        atoms = λ i m. rw (entry i m) (p .path-stuck (j + i) (omega (arith, size)) .small);
+        atoms = λ i m. rw (entry i m) (p .path-in (j + i) (omega (arith, size)) .1 .small);
         distinct = λ i k m n q. p .distinct (j + i) (j + k) (omega arith) (omega (arith, size))
             (sym (entry i (omega arith)) ∙ q ∙ entry k n);
         linked = λ i m. let f : j + (i + 1) ≡ j + i + 1 = omega arith in
@@ -207,7 +208,7 @@ module _ (t : List ℕ) (w : ℕ) where
       followed-ring q = record {
         ring = ring;
         ring-is = ring-is;
-        among = λ i m. rw (entry i m) (p .path-stuck (j + i) (omega (arith, size)) .there);
+        among = λ i m. rw (entry i m) (p .path-in (j + i) (omega (arith, size)) .1 .there);
         count-is = sym size;
         entries-are = q;
       }

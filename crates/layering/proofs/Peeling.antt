@@ -1,7 +1,7 @@
 -- How the numbers are given, round after round: the atoms left after k rounds are those from which a chain of k
 -- dependencies starts. Assumes nothing.
 use mathlib.Core.Path.{_≡_, refl, sym, ap, ap₂, _∙_}
-use mathlib.Core.Bool.{Bool, true, false, not, _&&_, and-false}
+use mathlib.Core.Bool.{Bool, true, false, not, _&&_, and-false, and-true, true≢false}
 use mathlib.Core.List.{List}
 use mathlib.Core.Logic.{_⊎_, inl, inr, ⊎-elim}
 use Prim.Native.Nat.{ℕ, suc, _+_, _-_, _^_, _≤_, _<_}
@@ -114,7 +114,7 @@ module _ (n : ℕ) (t : List ℕ) where
         outside a b g = ap (λ (x : Bool). x && r a b) (has-above n left b (rw e (heads-lt n r k)) g)
 
         swap : (x y : Bool) → (x && y) ≡ (y && x)
-        swap true y = sym (mathlib.Core.Bool.and-true y)
+        swap true y = sym (and-true y)
         swap false y = sym (and-false y)
 
         turned : (a : ℕ) → a < n → any n (λ b. has left b && r a b) ≡ has (chainHeads n r (suc k)) a
@@ -171,7 +171,7 @@ module _ (n : ℕ) (t : List ℕ) where
         entry a true false ex ey (inl h) =
             rw (lt-ltb a n h) (sym (number-is n r k a h (sym (at-left a) ∙ ex) (sym (at-next a) ∙ ey)))
         entry a false true ex ey (inl h) =
-            absurd (mathlib.Core.Bool.true≢false
+            absurd (true≢false
             (sym (at-left a ∙ chain-shorter n r k a h (sym (at-next a) ∙ ey)) ∙ ex))
         entry a false false ex ey (inl h) = refl
 

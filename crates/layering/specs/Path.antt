@@ -25,8 +25,7 @@ pub record Followed (t : List ℕ) (w : ℕ) (path : List ℕ) (len seen at : �
   pub few : len ≤ ones seen
   pub stuck : BitOf w at
   pub found : (a : ℕ) → has seen a ≡ true → (j : ℕ) × (j < len) × (getD path j 0 ≡ a)
-  pub path-seen : (i : ℕ) → i < len → has seen (getD path i 0) ≡ true
-  pub path-stuck : (i : ℕ) → i < len → BitOf w (getD path i 0)
+  pub path-in : (i : ℕ) → i < len → (has seen (getD path i 0) ≡ true) × BitOf w (getD path i 0)
   pub distinct : (i j : ℕ) → i < j → j < len → getD path i 0 ≡ getD path j 0 → ⊥
   pub linked : (i : ℕ) → i + 1 < len → linkedBy t (getD path i 0) (getD path (i + 1) 0) ≡ true
   pub last : (i : ℕ) → i + 1 ≡ len → linkedBy t (getD path i 0) at ≡ true
