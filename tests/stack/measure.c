@@ -1,4 +1,4 @@
-/* Measures the stack that each function of libembed.a takes: `measure FILE..` calls all four on every case file.
+/* Measures the stack that each function of libembed.a takes: `measure FILE..` calls all on every case file.
  *
  * The calls are made in a thread that has painted its stack below the caller's frame; the deepest byte that is no paint
  * afterwards is as deep as the call went, its arguments and its return address included. Writes a line for each
@@ -11,7 +11,7 @@
 #include <string.h>
 #include <sys/mman.h>
 
-enum { STACK_BYTES = 1 << 20, SPARE_BYTES = 1 << 16, PAINT = 0xa5, LISTED = 1024, FUNCTIONS = 4 };
+enum { STACK_BYTES = 1 << 20, SPARE_BYTES = 1 << 16, PAINT = 0xa5, LISTED = 1024, FUNCTIONS = 5 };
 
 /* Files up to one byte past the longest that is read. */
 enum { ROOM = CAUSES_FILE_BYTES + 1 };
@@ -26,7 +26,7 @@ typedef struct {
 static uint8_t file[ROOM], formula[CAUSES_FORMULA_BYTES], names[CAUSES_NAMES_BYTES], work[CAUSES_SETTINGS];
 static uint8_t out[CAUSES_REPORT_BYTES];
 static uint16_t list[LISTED];
-static uint64_t clauses[CAUSES_CLAUSE_WORDS], constraints[CAUSES_CONSTRAINT_WORDS], answer[CAUSES_READ_WORDS];
+static uint64_t clauses[CAUSES_CLAUSE_WORDS], constraints[CAUSES_CONSTRAINT_WORDS], answer[CAUSES_LAYERS_WORDS];
 static uint64_t record[CAUSES_RECORD_WORDS], setting;
 static size_t file_bytes;
 static uint32_t refusal;
@@ -54,6 +54,11 @@ static void call_question(void) {
                               CAUSES_SETTINGS, answer, CAUSES_QUESTION_WORDS);
 }
 
+static void call_layers(void) {
+    refusal = causes_layers(record, CAUSES_RECORD_WORDS, clauses, CAUSES_CLAUSE_WORDS, constraints,
+                            CAUSES_CONSTRAINT_WORDS, formula, CAUSES_FORMULA_BYTES, answer, CAUSES_LAYERS_WORDS);
+}
+
 static void call_report(void) {
     refusal = causes_report(file, file_bytes, out, CAUSES_REPORT_BYTES, answer, CAUSES_REPORT_WORDS);
 }
@@ -62,6 +67,7 @@ static Function function[FUNCTIONS] = {
     {"causes_read", call_read, 0, "-"},
     {"causes_settle", call_settle, 0, "-"},
     {"causes_question", call_question, 0, "-"},
+    {"causes_layers", call_layers, 0, "-"},
     {"causes_report", call_report, 0, "-"},
 };
 
@@ -101,8 +107,10 @@ static void measure_file(const char *name) {
         measure_settings(name);
         measured(&function[2], name);
         if (refusal != 0) fail("a case that was read is refused");
+        measured(&function[3], name);
+        if (refusal != 0) fail("a case that was read is refused");
     }
-    measured(&function[3], name);
+    measured(&function[4], name);
 }
 
 static void *measure_all(void *names_of_files) {

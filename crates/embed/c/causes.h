@@ -1,6 +1,8 @@
-/* The cause finder's operations: read a case file, settle one setting, answer the question, write the report.
+/* The cause finder's operations: read a case file, settle one setting, answer the question, number the atoms by layers
+ * or find a ring of rules, write the report.
  *
- * From: document 01, "Case tables and sound cases" and "What each operation refuses". Link libembed.a (x86-64).
+ * From: document 01, "Case tables and sound cases" and "What each operation refuses"; document 02, [1] and [3]. Link
+ * libembed.a (x86-64).
  *
  * Lent memory is a pointer and a number of elements. The pointer is aligned for its type and reaches that many
  * elements; memory that a call writes overlaps no other memory lent to the same call. A pointer to no elements isn't
@@ -23,7 +25,7 @@ extern "C" {
 #endif
 
 /* The version of this header and of the Rust module beside it. */
-#define CAUSES_VERSION "0.2.1"
+#define CAUSES_VERSION "0.3.0"
 
 /* Sizes of the lent tables, in elements. A longer table is lawful; what is past its size keeps its contents. */
 enum {
@@ -53,6 +55,7 @@ enum {
     CAUSES_READ_STACK = 32768,
     CAUSES_SETTLE_STACK = 32768,
     CAUSES_QUESTION_STACK = 49152,
+    CAUSES_LAYERS_STACK = 32768,
     CAUSES_REPORT_STACK = 131072
 };
 
@@ -66,6 +69,7 @@ enum {
     CAUSES_READ_WORDS = 23,     /* line of the refusal or 0, then the case record */
     CAUSES_SETTLE_WORDS = 3,    /* true atoms, false atoms, rounds */
     CAUSES_QUESTION_WORDS = 19, /* 16 verdicts, 0 past the formulas; minimal explanations, how many listed, rounds */
+    CAUSES_LAYERS_WORDS = 66,   /* 1 layered or 0 not, number of entries, 64 entries, 0 past the last */
     CAUSES_REPORT_WORDS = 1     /* length of the text */
 };
 
@@ -122,6 +126,17 @@ uint32_t causes_question(const uint64_t *record, size_t record_words,
                          uint16_t *list, size_t list_slots,
                          uint8_t *work, size_t work_bytes,
                          uint64_t *answer, size_t answer_words);
+
+/* Tells whether a case is layered: whether its atoms can be numbered so that each head's number is greater than that
+ * of every atom in its bodies, plain or negated. A layered case has an entry for each atom, in atom order: the least
+ * number that it can have, 0 for one that heads no rule. Else the entries are the atoms of a ring, all different: each
+ * is named in a body of the one before, the first in a body of the last; which ring it is may change with the version.
+ * Refuses with 1, 13, in this order. Writes to the answer alone. answer: CAUSES_LAYERS_WORDS. */
+uint32_t causes_layers(const uint64_t *record, size_t record_words,
+                       const uint64_t *clauses, size_t clause_words,
+                       const uint64_t *constraints, size_t constraint_words,
+                       const uint8_t *formula, size_t formula_bytes,
+                       uint64_t *answer, size_t answer_words);
 
 /* Writes the report of a case file, as the program `causes` does: the answer to its question, or
  * `(refused number line)`. Bytes behind the text keep their contents. Refuses with 19 an output shorter than the text

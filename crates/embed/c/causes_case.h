@@ -1,6 +1,6 @@
 /* A case with its tables in one struct, over the calls of causes.h: the sizes go with it, and a name is a text.
  *
- * A struct is 9,904 bytes. Calls on different structs are independent; settling and the question only read theirs.
+ * A struct is 9,904 bytes. Calls on different structs are independent; all but reading only read theirs.
  */
 #ifndef CAUSES_CASE_H
 #define CAUSES_CASE_H
@@ -12,6 +12,9 @@
 #ifdef __cplusplus
 extern "C" {
 #endif
+
+/* The most atoms of a case. */
+enum { CAUSES_ATOMS = CAUSES_NAMES_BYTES / CAUSES_NAME_BYTES };
 
 /* The record and the tables that causes_case_read fills, or the caller. */
 struct causes_case {
@@ -31,6 +34,12 @@ struct causes_settled {
  * minimal explanations, how many are listed, the rounds. */
 struct causes_answer {
     uint64_t queries, verdicts[CAUSES_QUERIES], minimal, listed, rounds;
+};
+
+/* The layers of a case: whether it is layered, how many entries there are, and the least number of each atom in atom
+ * order, or the atoms of a ring; zeros behind. */
+struct causes_layering {
+    uint64_t layered, count, entries[CAUSES_ATOMS];
 };
 
 /* Reads a file into a case. Refuses with 2 to 12; then the line, 0 where no line is at fault, is put to *line unless
@@ -77,8 +86,18 @@ static inline uint32_t causes_case_question(const struct causes_case *c, uint16_
     return refusal;
 }
 
-/* The most atoms of a case. */
-enum { CAUSES_ATOMS = CAUSES_NAMES_BYTES / CAUSES_NAME_BYTES };
+/* Numbers the atoms by layers, or finds a ring. Refuses with 13, and then puts zeros. */
+static inline uint32_t causes_case_layers(const struct causes_case *c, struct causes_layering *layering)
+{
+    uint64_t words[CAUSES_LAYERS_WORDS];
+    uint32_t refusal = causes_layers(c->record, CAUSES_RECORD_WORDS, c->clauses, CAUSES_CLAUSE_WORDS,
+                                     c->constraints, CAUSES_CONSTRAINT_WORDS, c->formula, CAUSES_FORMULA_BYTES,
+                                     words, CAUSES_LAYERS_WORDS);
+    layering->layered = words[0];
+    layering->count = words[1];
+    memcpy(layering->entries, words + 2, sizeof layering->entries);
+    return refusal;
+}
 
 /* Copies the name of an atom to a text that ends in a zero byte; an empty one for a row that the table lacks. */
 static inline void causes_case_name(const struct causes_case *c, size_t atom, char name[CAUSES_NAME_BYTES + 1])

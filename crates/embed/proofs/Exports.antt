@@ -4,6 +4,7 @@ use mathlib.Core.List.{List, [], _∷_, _++_}
 use Prim.Native.Nat.{ℕ, _-_, _≤_}
 use borrow.Rule.Slice.PartMut.{midOf, putMid}
 use lib.ListN.{length}
+use Rattle.words.specs.Bits.{digit}
 use Rattle.words.specs.Lists.{over}
 use Rattle.program.specs.declared.case.Case.{Case}
 use Rattle.reader.specs.declared.read.Answer as found
@@ -11,8 +12,10 @@ use Rattle.settle.specs.declared.operation.Answer as settled
 use Rattle.settle.specs.Operation.{SettledOne}
 use Rattle.question.specs.declared.operation.Answer as asked
 use Rattle.question.specs.Operation.{Asked}
+use Rattle.layering.specs.declared.operation.Answer as layered
+use Rattle.layering.specs.Operation.{Layering}
 use Rattle.embed.specs.Words.{caseWords, caseIn}
-use Rattle.embed.specs.Operation.{SettleOut, QuestionOut}
+use Rattle.embed.specs.Operation.{SettleOut, QuestionOut, LayersOut}
 use Rattle.embed.proofs.Putting.{over-behind}
 
 -- the words of an answer of reading in front of the node counts
@@ -33,6 +36,11 @@ pub asked-put : (a : asked.Answer) (old : List ℕ) {mid back : List ℕ} → 16
     → putMid 16 (length mid - 16) mid back ≡ over (a .verdicts ++ (a .minimal ∷ a .written ∷ a .rounds ∷ [])) old
 asked-put a old = over-behind (a .verdicts) _ old
 
+pub layers-put : (a : layered.Answer) (old : List ℕ) {mid back : List ℕ}
+    → mid ≡ over (digit (a .layered) ∷ a .count ∷ []) old → back ≡ over (a .entries) (midOf 2 (length mid - 2) mid)
+    → putMid 2 (length mid - 2) mid back ≡ over (digit (a .layered) ∷ a .count ∷ a .entries) old
+layers-put a old = over-behind (digit (a .layered) ∷ a .count ∷ []) (a .entries) old refl
+
 -- k is the case record in the words c
 module _ {c cl co fo : List ℕ} {k : Case} (e : k ≡ caseIn c) (l : 22 ≤ length c) {words wordsAfter : List ℕ} where
   pub settle-done : {s : ℕ} {a : settled.Answer} → 3 ≤ length words → SettledOne k cl co fo s a
@@ -45,3 +53,8 @@ module _ {c cl co fo : List ℕ} {k : Case} (e : k ≡ caseIn c) (l : 22 ≤ len
       → wordsAfter ≡ over (a .verdicts ++ (a .minimal ∷ a .written ∷ a .rounds ∷ [])) words
       → QuestionOut c cl co fo list work words (a .refusal) listAfter workAfter wordsAfter
   question-done m h o = QuestionOut.done l m _ (rw e at h) refl o
+
+  pub layers-done : {a : layered.Answer} → 66 ≤ length words → Layering k cl co fo a
+      → wordsAfter ≡ over (digit (a .layered) ∷ a .count ∷ a .entries) words
+      → LayersOut c cl co fo words (a .refusal) wordsAfter
+  layers-done m h o = LayersOut.done l m _ (rw e at h) refl o

@@ -8,11 +8,13 @@
 --   ReadOut       line and the 22 words of the record, 23 words, and the four tables
 --   SettleOut     the true atoms, the false atoms and the rounds, three words
 --   QuestionOut   16 verdict numbers, m, w and rounds, 19 words, and the list and the work area
+--   LayersOut     whether the case is layered, the number of entries and the 64 entries, 66 words
 --   ReportOut     the length of the text, one word, and the output
 use mathlib.Core.Path.{_≡_}
 use mathlib.Core.List.{List, [], _∷_, _++_}
 use Prim.Native.Nat.{ℕ, _≤_, _<_}
 use lib.ListN.{length}
+use Rattle.words.specs.Bits.{digit}
 use Rattle.words.specs.Lists.{over}
 use Rattle.settle.specs.declared.operation.Answer as settled
 use Rattle.settle.specs.Operation.{SettledOne}
@@ -21,6 +23,8 @@ use Rattle.store.specs.Lent.{Lent}
 use Rattle.reader.specs.Operation.{ReadAs}
 use Rattle.question.specs.declared.operation.Answer as asked
 use Rattle.question.specs.Operation.{Asked}
+use Rattle.layering.specs.declared.operation.Answer as layered
+use Rattle.layering.specs.Operation.{Layering}
 use Rattle.output.specs.declared.Answer as reported
 use Rattle.report.specs.Operation.{Reported}
 use Rattle.embed.specs.Words.{caseWords, caseIn}
@@ -49,6 +53,13 @@ pub data QuestionOut (c cl co fo list work words : List ℕ) (r : ℕ) (listAfte
       → Asked (caseIn c) cl co fo list work a listAfter workAfter → r ≡ a .refusal
       → wordsAfter ≡ over (a .verdicts ++ (a .minimal ∷ a .written ∷ a .rounds ∷ [])) words
       → QuestionOut c cl co fo list work words r listAfter workAfter wordsAfter
+
+-- the case record's words, the tables, the answer's words at entry and at exit
+pub data LayersOut (c cl co fo words : List ℕ) (r : ℕ) (wordsAfter : List ℕ) : Type 0 where
+  short-record : length c < 22 → r ≡ 1 → wordsAfter ≡ words → LayersOut c cl co fo words r wordsAfter
+  short : length words < 66 → r ≡ 1 → wordsAfter ≡ words → LayersOut c cl co fo words r wordsAfter
+  done : 22 ≤ length c → 66 ≤ length words → (a : layered.Answer) → Layering (caseIn c) cl co fo a → r ≡ a .refusal
+      → wordsAfter ≡ over (digit (a .layered) ∷ a .count ∷ a .entries) words → LayersOut c cl co fo words r wordsAfter
 
 -- the file f, and at entry and at exit the output and the answer's words
 pub data ReportOut (f out words : List ℕ) (r : ℕ) (outAfter wordsAfter : List ℕ) : Type 0 where

@@ -5,10 +5,11 @@ ghost use mathlib.Core.Path.{_≡_};
 ghost use mathlib.Core.List.{[], _∷_, _++_};
 ghost use Prim.Native.Nat.{_≤_};
 ghost use lib.ListN.{length};
+ghost use Rattle.words.specs.Bits.{digit};
 ghost use Rattle.words.specs.Lists.{over};
 ghost use Rattle.store.specs.Lent.{lent};
 ghost use Rattle.embed.specs.Words.{caseWords, caseIn};
-ghost use Rattle.embed.specs.Operation.{ReadOut, SettleOut, QuestionOut, ReportOut};
+ghost use Rattle.embed.specs.Operation.{ReadOut, SettleOut, QuestionOut, LayersOut, ReportOut};
 use program::case::Case;
 
 // The counts in 16 words.
@@ -108,6 +109,21 @@ fn put_asked(answer: &mut [u64], a: question::operation::Answer)
     put_words(&mut answer[16..], &counts);
 }
 
+// Puts what layering answers to words: 1 where the case is layered and 0 where it isn't, the number of entries, and the
+// 64 entries.
+fn put_layers(answer: &mut [u64], a: layering::operation::Answer)
+    requires { ⌜ 66 ≤ length (now answer) ⌝ }
+    ensures { λ _. ⌜ now (answer .exit)
+        ≡ over (digit (a .layered) ∷ a .count ∷ a .entries) (now (answer .entry)) ⌝ }
+{
+    let layered = a.layered as u64;
+    let count = a.count as u64;
+    let front = [layered, count];
+    let entries = a.entries;
+    put_words(answer, &front);
+    put_words(&mut answer[2..], &entries);
+}
+
 // Reads a case file into four lent tables. Answer: the line of a refusal, then the 22 words of the case record.
 #[no_mangle]
 pub extern "C" fn causes_read(
@@ -183,6 +199,32 @@ pub extern "C" fn causes_question(
     let c = case_in(fields);
     let a = question::operation::ask(c, clauses, constraints, formula, list, work);
     put_asked(answer, a);
+    a.refusal
+}
+
+// Answers the layers of a case, or a ring. Answer: 1 where the case is layered and 0 where it isn't, the number of
+// entries, and 64 entries: the least number of each atom or the atoms of a ring, zeros behind.
+#[no_mangle]
+pub extern "C" fn causes_layers(
+    fields: &[u64],
+    clauses: &[u64],
+    constraints: &[u64],
+    formula: &[u8],
+    answer: &mut [u64],
+) -> u32
+    ensures { λ r. ⌜ LayersOut (now (fields .entry)) (now (clauses .entry)) (now (constraints .entry))
+        (now (formula .entry))
+        (now (answer .entry)) r (now (answer .exit)) ⌝ }
+{
+    if fields.len() < 22 {
+        return 1;
+    }
+    if answer.len() < 66 {
+        return 1;
+    }
+    let c = case_in(fields);
+    let a = layering::operation::layers(c, clauses, constraints, formula);
+    put_layers(answer, a);
     a.refusal
 }
 

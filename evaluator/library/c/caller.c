@@ -50,6 +50,13 @@ static void print_verdicts(uint32_t refusal, const uint64_t *verdicts, size_t co
     printf("\n");
 }
 
+/* What the layers of a case are, behind a refusal's name. */
+static void print_layers(uint32_t refusal, uint64_t layered, uint64_t count, const uint64_t *entries)
+{
+    printf("layers %s %" PRIu64 " %" PRIu64, refusal_name(refusal), layered, count);
+    print_words("", entries, CAUSES_ATOMS);
+}
+
 static void print_list(size_t slots)
 {
     size_t i;
@@ -83,7 +90,8 @@ static void print_tables(void)
 
 static void plain_calls(uint64_t setting, size_t slots, size_t bytes, size_t out_bytes)
 {
-    uint64_t settled[CAUSES_SETTLE_WORDS], answer[CAUSES_QUESTION_WORDS], length[CAUSES_REPORT_WORDS];
+    uint64_t settled[CAUSES_SETTLE_WORDS], answer[CAUSES_QUESTION_WORDS], layers[CAUSES_LAYERS_WORDS];
+    uint64_t length[CAUSES_REPORT_WORDS];
     uint32_t refusal;
     memset(&lent, 0xee, sizeof lent);
     printf("read %s\n", refusal_name(read_file()));
@@ -102,6 +110,10 @@ static void plain_calls(uint64_t setting, size_t slots, size_t bytes, size_t out
     print_words("answer", answer, CAUSES_QUESTION_WORDS);
     print_list(slots);
     print_bytes("work", work, bytes);
+    refusal = causes_layers(found + 1, CAUSES_RECORD_WORDS, lent.clauses, CAUSES_CLAUSE_WORDS,
+                            lent.constraints, CAUSES_CONSTRAINT_WORDS, lent.formula, CAUSES_FORMULA_BYTES,
+                            layers, CAUSES_LAYERS_WORDS);
+    print_layers(refusal, layers[0], layers[1], layers + 2);
     refusal = causes_report(file, file_bytes, out, out_bytes, length, CAUSES_REPORT_WORDS);
     printf("report %s\n", refusal_name(refusal));
     print_words("length", length, CAUSES_REPORT_WORDS);
@@ -113,6 +125,7 @@ static void struct_calls(uint64_t setting, size_t slots, size_t bytes)
 {
     struct causes_settled settled;
     struct causes_answer answer;
+    struct causes_layering layering;
     uint8_t causes[CAUSES_ATOMS];
     char name[CAUSES_NAME_BYTES + 1];
     uint64_t line;
@@ -138,13 +151,15 @@ static void struct_calls(uint64_t setting, size_t slots, size_t bytes)
     printf("counts %" PRIu64 " %" PRIu64 " %" PRIu64 "\n", answer.minimal, answer.listed, answer.rounds);
     print_list(slots);
     print_bytes("work", work, bytes);
+    refusal = causes_case_layers(&lent, &layering);
+    print_layers(refusal, layering.layered, layering.count, layering.entries);
     printf("read %s\n", refusal_name(causes_case_read(&lent, file, file_bytes, NULL)));
 }
 
-/* Each lent memory in its turn, one element short: of reading, settling, the question and the report. */
+/* Each lent memory in its turn, one element short: of reading, settling, the question, layers and the report. */
 static void short_calls(void)
 {
-    uint64_t answer[CAUSES_READ_WORDS];
+    uint64_t answer[CAUSES_LAYERS_WORDS];
     size_t at, less[7];
     uint32_t refusal;
     printf("read %s\n", refusal_name(read_file()));
@@ -165,6 +180,10 @@ static void short_calls(void)
                                   lent.constraints, CAUSES_CONSTRAINT_WORDS - less[1],
                                   lent.formula, CAUSES_FORMULA_BYTES - less[2], list, CAUSES_MINIMAL - less[5],
                                   work, CAUSES_SETTINGS - less[6], answer, CAUSES_QUESTION_WORDS - less[4]);
+        printf(" %s", refusal_name(refusal));
+        refusal = causes_layers(found + 1, CAUSES_RECORD_WORDS - less[3], lent.clauses, CAUSES_CLAUSE_WORDS - less[0],
+                                lent.constraints, CAUSES_CONSTRAINT_WORDS - less[1],
+                                lent.formula, CAUSES_FORMULA_BYTES - less[2], answer, CAUSES_LAYERS_WORDS - less[4]);
         printf(" %s", refusal_name(refusal));
         refusal = causes_report(file, file_bytes, out, CAUSES_REPORT_BYTES, answer, CAUSES_REPORT_WORDS - less[4]);
         printf(" %s\n", refusal_name(refusal));

@@ -1,6 +1,6 @@
 /* Makes one call on a case file from standard input in a thread whose stack has the header's size for it.
  *
- *   thread read|settle|question|report [BYTES]
+ *   thread read|settle|question|layers|report [BYTES]
  *
  * The status is 0 if the call is answered, or ends where the file is one that reading refuses. BYTES is another size, to
  * find the least with which the call ends. */
@@ -15,6 +15,7 @@ static size_t file_bytes;
 static struct causes_case lent;
 static struct causes_settled settled;
 static struct causes_answer answer;
+static struct causes_layering layering;
 static uint16_t list[CAUSES_MINIMAL];
 static uint8_t work[CAUSES_SETTINGS];
 static uint8_t out[CAUSES_REPORT_BYTES];
@@ -39,6 +40,12 @@ static void *run_question(void *unused)
     return unused;
 }
 
+static void *run_layers(void *unused)
+{
+    refusal = causes_case_layers(&lent, &layering);
+    return unused;
+}
+
 static void *run_report(void *unused)
 {
     refusal = causes_report(file, file_bytes, out, CAUSES_REPORT_BYTES, length, CAUSES_REPORT_WORDS);
@@ -53,6 +60,7 @@ static const struct {
     {"read", CAUSES_READ_STACK, run_read},
     {"settle", CAUSES_SETTLE_STACK, run_settle},
     {"question", CAUSES_QUESTION_STACK, run_question},
+    {"layers", CAUSES_LAYERS_STACK, run_layers},
     {"report", CAUSES_REPORT_STACK, run_report},
 };
 
@@ -76,6 +84,6 @@ int main(int count, char **words)
             size_t bytes = count > 2 ? strtoul(words[2], NULL, 10) : operations[i].bytes;
             return in_thread(operations[i].run, bytes) && (refusal == 0 || !accepted) ? 0 : 1;
         }
-    fprintf(stderr, "thread: read|settle|question|report [BYTES]\n");
+    fprintf(stderr, "thread: read|settle|question|layers|report [BYTES]\n");
     return 2;
 }

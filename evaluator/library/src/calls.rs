@@ -3,11 +3,14 @@
 //! | name | meaning |
 //! |---|---|
 //! | `Sizes` | how many entries are lent to reading |
-//! | `ASKED_WORDS` | how many words the question answers |
+//! | `ASKED_WORDS`, `LAYERS_WORDS` | how many words the question and the layers answer |
 //! | `ReadDue`, `QuestionDue` | the number, the answer's words and what is written; empty where nothing is touched |
-//! | `read`, `settle`, `question` | make the call and give the complaints |
+//! | `LayersDue` | the same of the layers, where a ring may be any |
+//! | `read`, `settle`, `question`, `layers` | make the call and give the complaints |
+//! | `layers_words` | makes the call and gives the words |
 
-use crate::held::{Held, CLAUSE_WORDS, CONSTRAINT_WORDS, FORMULA_BYTES, NAMES_BYTES, QUERIES, RECORD_WORDS};
+use crate::due::Layering;
+use crate::held::{Held, ATOMS, CLAUSE_WORDS, CONSTRAINT_WORDS, FORMULA_BYTES, NAMES_BYTES, QUERIES, RECORD_WORDS};
 use crate::lent::{Entry, Lent};
 use crate::tests::Complaints;
 use causes::raw;
@@ -36,6 +39,9 @@ impl Sizes {
 /// The words of the question's answer: the verdicts, m, w and the rounds.
 pub const ASKED_WORDS: usize = QUERIES + 3;
 
+/// The words of the layers' answer: whether the case is layered, the number of entries, the entries.
+pub const LAYERS_WORDS: usize = 2 + ATOMS;
+
 /// What a reading should answer and leave in the tables, none where they are not touched.
 #[derive(Clone, PartialEq)]
 pub struct ReadDue {
@@ -51,6 +57,13 @@ pub struct QuestionDue {
     pub answer: Vec<u64>,
     pub list: Vec<u16>,
     pub work: Vec<u8>,
+}
+
+/// What the layers should answer: those of a case, or a refusal's number and zeros, or 1 where nothing is touched.
+pub enum LayersDue<'a> {
+    Told(&'a Layering),
+    Refused(u32),
+    Untouched,
 }
 
 /// The complaint that the number of a refusal is not the one due.
@@ -105,7 +118,7 @@ pub fn read(file: &[u8], sizes: Sizes, nowhere: bool, due: &ReadDue) -> Complain
     complaints.into_iter().flatten().collect()
 }
 
-/// The record and the tables lent to settling or the question.
+/// The record and the tables lent to settling, the question or the layers.
 struct LentCase {
     record: Lent<u64>,
     clauses: Lent<u64>,
@@ -198,4 +211,46 @@ pub fn question(held: &Held, room: Room, due: &QuestionDue) -> Complaints {
         answer.complaint("answer", &due.answer),
     ];
     own.into_iter().chain(case.touched()).flatten().collect()
+}
+
+/// Asks for the layers of `case`; the number answered.
+fn call_layers(case: &LentCase, answer: &mut Lent<u64>) -> u32 {
+    // SAFETY: each pointer comes with the number of entries that its own memory has.
+    unsafe {
+        raw::causes_layers(
+            case.record.at(),
+            case.record.len(),
+            case.clauses.at(),
+            case.clauses.len(),
+            case.constraints.at(),
+            case.constraints.len(),
+            case.formula.at(),
+            case.formula.len(),
+            answer.at_mut(),
+            answer.len(),
+        )
+    }
+}
+
+/// Asks for the layers of `held` with an answer of `words` words.
+pub fn layers(held: &Held, words: usize, due: &LayersDue) -> Complaints {
+    let case = LentCase::of(held);
+    let mut answer = Lent::blank(words);
+    let got = call_layers(&case, &mut answer);
+    let own = match due {
+        LayersDue::Told(layering) => {
+            let told = &answer.lent()[..LAYERS_WORDS.min(words)];
+            [other_number(0, got), layering.complaint(told).or_else(|| answer.complaint("answer", told))]
+        }
+        LayersDue::Refused(number) => [other_number(*number, got), answer.complaint("answer", &[0; LAYERS_WORDS])],
+        LayersDue::Untouched => [other_number(1, got), answer.complaint("answer", &[])],
+    };
+    own.into_iter().chain(case.touched()).flatten().collect()
+}
+
+/// The words that the layers of `held` are answered with.
+pub fn layers_words(held: &Held) -> Vec<u64> {
+    let mut answer = Lent::blank(LAYERS_WORDS);
+    call_layers(&LentCase::of(held), &mut answer);
+    answer.lent().to_vec()
 }

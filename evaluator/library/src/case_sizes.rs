@@ -1,8 +1,9 @@
-//! Families of settling and the question with records, tables and answers of every size, and the order of refusals.
+//! Families of settling, the question and the layers with records, tables and answers of every size, and the order of
+//! refusals.
 
-use crate::calls::{question, settle, Room, ASKED_WORDS};
+use crate::calls::{layers, question, settle, LayersDue, Room, ASKED_WORDS, LAYERS_WORDS};
 use crate::drawn::{drawn, rich, strewn, word};
-use crate::due::{unanswered, unasked, Asking, Settling};
+use crate::due::{unanswered, unasked, Asking, Layering, Settling};
 use crate::held::{Held, CLAUSE_WORDS, CONSTRAINT_WORDS, FORMULAS, FORMULA_BYTES, RECORD_WORDS};
 use crate::tests::Tests;
 use evaluator::random::Random;
@@ -13,11 +14,12 @@ const CASES: u64 = 2;
 /// Memory with which the question of a rich case is asked.
 const ROOM: Room = Room { list: 5, work: 81, answer: ASKED_WORDS };
 
-/// A sound case with what is due: its settling, and its asking.
+/// A sound case with what is due: its settling, its asking and its layering.
 struct Known {
     held: Held,
     settled: [u64; 3],
     asking: Asking,
+    layering: Layering,
 }
 
 impl Known {
@@ -27,20 +29,23 @@ impl Known {
         let shape = rich(&mut random);
         let case = drawn(&mut random, shape);
         let held = strewn(&mut random, &Held::of(&case));
-        Known { held, settled: Settling::of(case.clone()).words(0), asking: Asking::of(case) }
+        let (settled, layering) = (Settling::of(case.clone()).words(0), Layering::of(&case));
+        Known { held, settled, asking: Asking::of(case), layering }
     }
 
-    /// Calls both operations on `held`, which holds this case in memory of other lengths.
+    /// Calls the operations on `held`, which holds this case in memory of other lengths.
     fn accepted(&self, tests: &mut Tests, what: &str, held: &Held) {
         tests.call(|| format!("settle, {what}"), settle(held, 0, 3, (0, &self.settled)));
         tests.call(|| format!("question, {what}"), question(held, ROOM, &self.asking.due(ROOM.list)));
+        tests.call(|| format!("layers, {what}"), layers(held, LAYERS_WORDS, &LayersDue::Told(&self.layering)));
     }
 }
 
-/// Calls both operations on `held`, to be refused with `number`.
+/// Calls the operations on `held`, to be refused with `number`.
 pub fn refused(tests: &mut Tests, what: &str, held: &Held, number: u32) {
     tests.call(|| format!("settle, {what}"), settle(held, 0, 3, (number, &[0; 3])));
     tests.call(|| format!("question, {what}"), question(held, ROOM, &unasked(number)));
+    tests.call(|| format!("layers, {what}"), layers(held, LAYERS_WORDS, &LayersDue::Refused(number)));
 }
 
 /// `held` with a table of `length` elements, cut or with garbage behind.
@@ -59,13 +64,13 @@ fn resized(held: &Held, table: &str, length: usize) -> Held {
 /// Each table at every length below its size, and at some above.
 fn tables(tests: &mut Tests) {
     for (table, size) in [("clauses", CLAUSE_WORDS), ("constraints", CONSTRAINT_WORDS), ("formula", FORMULA_BYTES)] {
-        tests.family(&format!("settle and question: {table} shorter than their size"));
+        tests.family(&format!("settle, question, layers: {table} shorter than their size"));
         for known in (0..CASES).map(Known::of) {
             for length in 0..size {
                 refused(tests, &length.to_string(), &resized(&known.held, table, length), 1);
             }
         }
-        tests.family(&format!("settle and question: {table} longer than their size"));
+        tests.family(&format!("settle, question, layers: {table} longer than their size"));
         for known in (0..CASES).map(Known::of) {
             for length in size..size + 30 {
                 known.accepted(tests, &length.to_string(), &resized(&known.held, table, length));
@@ -76,17 +81,19 @@ fn tables(tests: &mut Tests) {
 
 /// Records of 0 to 21 words, where nothing is touched, and of more than 22.
 fn records(tests: &mut Tests) {
-    tests.family("settle and question: records of 0 to 21 words");
+    tests.family("settle, question, layers: records of 0 to 21 words");
     for known in (0..20).map(Known::of) {
         for length in 0..RECORD_WORDS {
             for held in [known.held.clone(), resized(&known.held, "clauses", 767)] {
                 let short = resized(&held, "record", length);
                 tests.call(|| format!("settle, {length}"), settle(&short, 0, 3, (1, &[])));
                 tests.call(|| format!("question, {length}"), question(&short, ROOM, &unanswered()));
+                let complaints = layers(&short, LAYERS_WORDS, &LayersDue::Untouched);
+                tests.call(|| format!("layers, {length}"), complaints);
             }
         }
     }
-    tests.family("settle and question: records of more than 22 words");
+    tests.family("settle, question, layers: records of more than 22 words");
     for known in (0..20).map(Known::of) {
         for length in RECORD_WORDS + 1..RECORD_WORDS + 14 {
             known.accepted(tests, &length.to_string(), &resized(&known.held, "record", length));
@@ -96,7 +103,7 @@ fn records(tests: &mut Tests) {
 
 /// Answers with too few words, where nothing is touched, and with more than enough.
 fn answers(tests: &mut Tests) {
-    tests.family("settle and question: answers with too few words");
+    tests.family("settle, question, layers: answers with too few words");
     for known in (0..20).map(Known::of) {
         for held in [known.held.clone(), resized(&known.held, "formula", 2_047)] {
             for words in 0..3 {
@@ -107,21 +114,27 @@ fn answers(tests: &mut Tests) {
                 let room = Room { answer, ..ROOM };
                 tests.call(|| format!("question, {room:?}"), question(&held, room, &unanswered()));
             }
+            for words in 0..LAYERS_WORDS {
+                tests.call(|| format!("layers, {words}"), layers(&held, words, &LayersDue::Untouched));
+            }
         }
     }
-    tests.family("settle and question: answers with words to spare");
+    tests.family("settle, question, layers: answers with words to spare");
     for known in (0..20).map(Known::of) {
         for more in 0..16 {
             let room = Room { answer: ASKED_WORDS + more, ..ROOM };
             tests.call(|| format!("settle, {}", 3 + more), settle(&known.held, 0, 3 + more, (0, &known.settled)));
             tests.call(|| format!("question, {room:?}"), question(&known.held, room, &known.asking.due(ROOM.list)));
+            let words = LAYERS_WORDS + more;
+            let complaints = layers(&known.held, words, &LayersDue::Told(&known.layering));
+            tests.call(|| format!("layers, {words}"), complaints);
         }
     }
 }
 
 /// 1 comes before 13, 13 before 14 and 15, 1 before 14 and 15.
 fn order(tests: &mut Tests) {
-    tests.family("settle and question: the order of refusals");
+    tests.family("settle, question, layers: the order of refusals");
     let room = Room { work: 0, ..ROOM };
     for known in (0..40).map(Known::of) {
         let mut unsound = known.held.clone();
@@ -130,9 +143,11 @@ fn order(tests: &mut Tests) {
             let short = resized(held, "constraints", 63);
             tests.call(|| String::from("settle, 1"), settle(&short, u64::MAX, 3, (number, &[0; 3])));
             tests.call(|| String::from("question, 1"), question(&short, room, &unasked(number)));
+            tests.call(|| String::from("layers, 1"), layers(&short, LAYERS_WORDS, &LayersDue::Refused(number)));
         }
         tests.call(|| String::from("settle, 13"), settle(&unsound, u64::MAX, 3, (13, &[0; 3])));
         tests.call(|| String::from("question, 13"), question(&unsound, room, &unasked(13)));
+        tests.call(|| String::from("layers, 13"), layers(&unsound, LAYERS_WORDS, &LayersDue::Refused(13)));
         tests.call(|| String::from("settle, 14"), settle(&known.held, u64::MAX, 3, (14, &[0; 3])));
         tests.call(|| String::from("question, 15"), question(&known.held, room, &unasked(15)));
     }

@@ -1,7 +1,8 @@
-//! A family of chains: each atom follows from the one before it, so that each round decides one atom more.
+//! Families of chains: each atom follows from the one before it, so that each round decides one atom more and each
+//! layer has one atom.
 
-use crate::calls::settle;
-use crate::due::Settling;
+use crate::calls::{layers, settle, LayersDue, LAYERS_WORDS};
+use crate::due::{Layering, Settling};
 use crate::held::Held;
 use crate::tests::Tests;
 use evaluator::case::{Body, Case, Clause};
@@ -69,15 +70,54 @@ fn settings(tests: &mut Tests, chain: Chain, first: Option<Body>, values: &[Opti
     tests.call(|| format!("{chain:?}, setting {past}"), settle(&held, past, 3, (14, &[0; 3])));
 }
 
-/// The family of chains of 1 to 64 atoms.
+/// The layers of `chain`, whose first link has the body `first`: the number of each link is its place.
+fn numbers(tests: &mut Tests, chain: Chain, first: Option<Body>) {
+    let case = chain.case(first);
+    let layering = Layering::of(&case);
+    let mut due = vec![0; chain.atoms];
+    (0..chain.atoms).for_each(|link| due[chain.atom(link)] = link as u64);
+    tests.require(&format!("{chain:?}: the evaluator's numbers"), layering.numbers == Some(due));
+    let complaints = layers(&Held::of(&case), LAYERS_WORDS, &LayersDue::Told(&layering));
+    tests.call(|| format!("{chain:?}, layers"), complaints);
+}
+
+/// The layers of `chain`, whose first link follows from the link `last`: those up to it are the only ring.
+fn ring(tests: &mut Tests, chain: Chain, last: usize) {
+    let body = Body::All(vec![Literal { atom: chain.atom(last), negated: chain.negated }]);
+    let case = chain.case(Some(body));
+    let layering = Layering::of(&case);
+    let due: Vec<u64> = (0..=last).rev().map(|link| chain.atom(link) as u64).collect();
+    tests.require(&format!("{chain:?}, link {last}: the evaluator's ring"), layering.ring_complaint(&due).is_none());
+    let complaints = layers(&Held::of(&case), LAYERS_WORDS, &LayersDue::Told(&layering));
+    tests.call(|| format!("{chain:?}, a ring up to the link {last}"), complaints);
+}
+
+/// The chains of 1 to 64 atoms.
+fn chains() -> impl Iterator<Item = Chain> {
+    let kinds = [(false, false), (false, true), (true, false), (true, true)];
+    (1..=64).flat_map(move |atoms| kinds.map(|(falling, negated)| Chain { atoms, falling, negated }))
+}
+
+/// The families of chains of 1 to 64 atoms.
 pub fn run(tests: &mut Tests) {
     tests.family("settle: chains of 1 to 64 atoms");
-    for atoms in 1..=64 {
-        for (falling, negated) in [(false, false), (false, true), (true, false), (true, true)] {
-            let chain = Chain { atoms, falling, negated };
-            settings(tests, chain, Some(Body::True), &[Some(true)]);
-            settings(tests, chain, Some(Body::False), &[Some(false)]);
-            settings(tests, chain, None, &[None, Some(true), Some(false)]);
+    for chain in chains() {
+        settings(tests, chain, Some(Body::True), &[Some(true)]);
+        settings(tests, chain, Some(Body::False), &[Some(false)]);
+        settings(tests, chain, None, &[None, Some(true), Some(false)]);
+    }
+    tests.family("layers: chains of 1 to 64 atoms");
+    for chain in chains() {
+        for first in [Some(Body::True), Some(Body::False), None] {
+            numbers(tests, chain, first);
+        }
+    }
+    tests.family("layers: chains of 1 to 64 atoms with a ring");
+    for chain in chains() {
+        let mut lasts = vec![0, chain.atoms / 2, chain.atoms - 1];
+        lasts.dedup();
+        for last in lasts.into_iter().filter(|last| *last < chain.atoms) {
+            ring(tests, chain, last);
         }
     }
 }

@@ -101,6 +101,7 @@ pub fn due() -> Vec<(&'static str, u64)> {
         ("READ_WORDS", refused(5, 1).answer.len() as u64),
         ("SETTLE_WORDS", words(M4).len() as u64),
         ("QUESTION_WORDS", unasked(13).answer.len() as u64),
+        ("LAYERS_WORDS", 2 + ATOMS as u64),
         ("REPORT_WORDS", 1),
         ("UNEXPLAINED", verdict("(if p q)\n(if q p)\n(seen p)\n(query q)")),
         ("FOLLOWS", verdict("(query (then a a))")),
@@ -109,6 +110,7 @@ pub fn due() -> Vec<(&'static str, u64)> {
         ("READ_STACK", stack::READ as u64),
         ("SETTLE_STACK", stack::SETTLE as u64),
         ("QUESTION_STACK", stack::QUESTION as u64),
+        ("LAYERS_STACK", stack::LAYERS as u64),
         ("REPORT_STACK", stack::REPORT as u64),
     ];
     rows.extend(REFUSALS.map(|(name, number)| (name, u64::from(number))));
@@ -116,13 +118,14 @@ pub fn due() -> Vec<(&'static str, u64)> {
 }
 
 /// The constants of the Rust module's sizes.
-const SIZES: [(&str, usize); 12] = [
+const SIZES: [(&str, usize); 13] = [
     ("CLAUSE_WORDS", sizes::CLAUSE_WORDS),
     ("CONSTRAINT_WORDS", sizes::CONSTRAINT_WORDS),
     ("FORMULA_BYTES", sizes::FORMULA_BYTES),
     ("PART_BYTES", sizes::PART_BYTES),
     ("NAMES_BYTES", sizes::NAMES_BYTES),
     ("NAME_BYTES", sizes::NAME_BYTES),
+    ("ATOMS", sizes::ATOMS),
     ("RECORD_WORDS", sizes::RECORD_WORDS),
     ("QUERIES", sizes::QUERIES),
     ("FILE_BYTES", sizes::FILE_BYTES),

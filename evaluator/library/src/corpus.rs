@@ -1,10 +1,11 @@
 //! The files that the calls read: stored ones, generated ones, and small ones made here.
 
-use evaluator::check::case_files;
+use evaluator::check::{case_files, files};
 use evaluator::file;
 use evaluator::sample::sample;
 use std::collections::BTreeMap;
-use std::path::Path;
+use std::io;
+use std::path::{Path, PathBuf};
 
 /// A file with its name and, for a stored one, its report.
 pub struct Input {
@@ -28,17 +29,36 @@ pub fn stored(tests: &Path, folder: &str) -> Vec<Input> {
     paths.iter().map(|path| stored_input(path)).collect()
 }
 
-/// Every folder under `tests` with case files, by its name there, and the folder `examples` beside `tests`.
-pub fn folders(tests: &Path) -> BTreeMap<String, Vec<Input>> {
+/// The folders of those files under `tests`, and in the folder `examples` beside it, that `find` finds, by name.
+fn found(
+    tests: &Path,
+    find: impl Fn(&Path) -> io::Result<Vec<PathBuf>>,
+    input: impl Fn(&Path) -> Input,
+) -> BTreeMap<String, Vec<Input>> {
     let root = tests.parent().expect("a repository");
     let mut found: BTreeMap<String, Vec<Input>> = BTreeMap::new();
     for (folder, front) in [(tests, tests), (&root.join("examples"), root)] {
-        for path in case_files(folder).unwrap_or_default() {
+        for path in find(folder).unwrap_or_default() {
             let name = path.parent().and_then(|parent| parent.strip_prefix(front).ok()).expect("a folder");
-            found.entry(name.display().to_string()).or_default().push(stored_input(&path));
+            found.entry(name.display().to_string()).or_default().push(input(&path));
         }
     }
     found
+}
+
+/// Every folder under `tests` with case files, by its name there, and the folder `examples` beside `tests`.
+pub fn folders(tests: &Path) -> BTreeMap<String, Vec<Input>> {
+    found(tests, case_files, stored_input)
+}
+
+/// The same folders with all their case files, those that operations are given on too.
+pub fn all_folders(tests: &Path) -> BTreeMap<String, Vec<Input>> {
+    let input = |path: &Path| Input {
+        name: path.display().to_string(),
+        bytes: std::fs::read(path).expect("a readable case file"),
+        report: None,
+    };
+    found(tests, |folder| files(folder, "case"), input)
 }
 
 /// Whether the evaluator accepts some of `inputs`.

@@ -1,10 +1,11 @@
-//! What is due by the evaluator: of a reading, of a settled setting, of a question.
+//! What is due by the evaluator: of a reading, of a settled setting, of a question, of layers.
 
-use crate::calls::{QuestionDue, ReadDue, ASKED_WORDS};
-use crate::held::{padded, Held, QUERIES, RECORD_WORDS};
+use crate::calls::{QuestionDue, ReadDue, ASKED_WORDS, LAYERS_WORDS};
+use crate::held::{padded, Held, ATOMS, QUERIES, RECORD_WORDS};
 use evaluator::case::Case;
 use evaluator::file;
 use evaluator::formula::{Value, FALSE, TRUE};
+use evaluator::layers::{dependence, is_ring, numbers, Dependence};
 use evaluator::question::{ask, Engine, Findings};
 use evaluator::verdict::Verdict;
 
@@ -116,4 +117,46 @@ pub fn unasked(number: u32) -> QuestionDue {
 /// What a question with too short a record or answer is due: nothing is touched.
 pub fn unanswered() -> QuestionDue {
     QuestionDue { refusal: 1, answer: Vec::new(), list: Vec::new(), work: Vec::new() }
+}
+
+/// What depends on what in a case, and its least numbers, none if it isn't layered.
+#[derive(Clone)]
+pub struct Layering {
+    pub dependence: Dependence,
+    pub numbers: Option<Vec<u64>>,
+}
+
+impl Layering {
+    /// The layering of `case`.
+    pub fn of(case: &Case) -> Layering {
+        let dependence = dependence(case);
+        let numbers = numbers(&dependence);
+        Layering { dependence, numbers }
+    }
+
+    /// The complaint that `atoms` are no ring of a case that isn't layered.
+    pub fn ring_complaint(&self, atoms: &[u64]) -> Option<String> {
+        let places: Vec<usize> = atoms.iter().map(|atom| *atom as usize).collect();
+        let is_told = self.numbers.is_none() && is_ring(&self.dependence, &places);
+        (!is_told).then(|| format!("expected {}, got the ring {atoms:?}", self.told()))
+    }
+
+    /// The complaint on the words of an answer: they are the numbers, or those of a ring, with zeros behind.
+    pub fn complaint(&self, words: &[u64]) -> Option<String> {
+        let [layered, count, entries @ ..] = words else { return Some(String::from("no answer")) };
+        let is_size = words.len() == LAYERS_WORDS && *count <= ATOMS as u64;
+        let (told, behind) = entries.split_at_checked(*count as usize).filter(|_| is_size).unwrap_or_default();
+        let complaint = match (layered, &self.numbers) {
+            (0, None) => self.ring_complaint(told),
+            (1, Some(numbers)) if numbers == told => None,
+            _ => Some(format!("expected {}, got {layered} and {told:?}", self.told())),
+        };
+        let is_zero = behind.iter().all(|word| *word == 0);
+        complaint.or_else(|| (!is_zero).then(|| format!("behind {count} entries: expected zeros, got {behind:?}")))
+    }
+
+    /// What is due, to be shown.
+    fn told(&self) -> String {
+        self.numbers.as_ref().map_or(String::from("a ring"), |numbers| format!("the numbers {numbers:?}"))
+    }
 }

@@ -1,10 +1,10 @@
 //! Families of calls whose memory begins where a page ends that can't be touched; in all others it ends where one
 //! begins.
 
-use crate::calls::{question, read, settle, Room, Sizes, ASKED_WORDS};
+use crate::calls::{layers, question, read, settle, LayersDue, Room, Sizes, ASKED_WORDS, LAYERS_WORDS};
 use crate::corpus::{generated, refused_files, stored, Input, EACH, M4};
 use crate::drawn::strewn;
-use crate::due::{self, Asking, Settling};
+use crate::due::{self, Asking, Layering, Settling};
 use crate::held::Held;
 use crate::lent::fenced_in_front;
 use crate::reports::lengths;
@@ -25,9 +25,9 @@ fn reads(tests: &mut Tests, inputs: &[Input]) {
     }
 }
 
-/// Settles the first and the last setting of each case, and asks its question.
+/// Settles the first and the last setting of each case, asks its question and for its layers.
 fn cases(tests: &mut Tests, inputs: &[Input]) {
-    tests.family("a fence in front: settle and question");
+    tests.family("a fence in front: settle, question, layers");
     for (at, input) in inputs.iter().enumerate() {
         let Ok(case) = file::read(&input.bytes) else { continue };
         let held = strewn(&mut Random::new(at as u64), &Held::of(&case));
@@ -37,6 +37,9 @@ fn cases(tests: &mut Tests, inputs: &[Input]) {
             let due = settling.words(s);
             tests.call(|| format!("{}, setting {s}", input.name), settle(&held, s, 3, (0, &due)));
         }
+        let layering = Layering::of(&case);
+        let complaints = layers(&held, LAYERS_WORDS, &LayersDue::Told(&layering));
+        tests.call(|| format!("{}, layers", input.name), complaints);
         let asking = Asking::of(case);
         let room = Room { list: 2, work: asking.settings(), answer: ASKED_WORDS };
         tests.call(|| format!("{}, {room:?}", input.name), question(&held, room, &asking.due(2)));

@@ -1,10 +1,11 @@
 //! Families of the C headers: a program in C (c/caller.c) that names every constant, calls every function and prints
 //! what it gets, compared with the evaluator.
 
+use crate::calls::LAYERS_WORDS;
 use crate::constants::{due as constants, refusal};
-use crate::corpus::{refused_files, stored, Input, EACH, M4};
-use crate::due::{self, unasked, Asking, Settling};
-use crate::held::{Held, QUERIES};
+use crate::corpus::{all_folders, refused_files, Input, EACH, M4};
+use crate::due::{self, unasked, Asking, Layering, Settling};
+use crate::held::{padded, Held, QUERIES};
 use crate::meanings::{meaning, section};
 use crate::tests::{differing, Complaints, Tests};
 use evaluator::answer::answer;
@@ -39,12 +40,20 @@ fn written(program: &Path, words: &[String], input: &[u8]) -> Result<Vec<u8>, St
 
 /// The complaint that `program` writes another line than is due, the first of them.
 fn compared(program: &Path, words: &[String], input: &[u8], due: &[u8]) -> Complaints {
-    let got = match written(program, words, input) {
-        Ok(got) => got,
-        Err(fault) => return vec![fault],
-    };
-    let lines = |bytes: &[u8]| bytes.split(|b| *b == b'\n').map(<[u8]>::to_vec).collect::<Vec<_>>();
-    let (due, got) = (lines(due), lines(&got));
+    match written(program, words, input) {
+        Ok(got) => other_line(due, &got),
+        Err(fault) => vec![fault],
+    }
+}
+
+/// The lines of `bytes`.
+fn lines(bytes: &[u8]) -> Vec<Vec<u8>> {
+    bytes.split(|b| *b == b'\n').map(<[u8]>::to_vec).collect()
+}
+
+/// The complaint that `got` has another line than is due, the first of them.
+fn other_line(due: &[u8], got: &[u8]) -> Complaints {
+    let (due, got) = (lines(due), lines(got));
     let at = (0..due.len().max(got.len())).find(|i| due.get(*i) != got.get(*i));
     let shown = |line: Option<&Vec<u8>>| line.map(|l| String::from_utf8_lossy(l).chars().take(120).collect::<String>());
     at.map(|i| format!("line {}: expected {:?}, got {:?}", i + 1, shown(due.get(i)), shown(got.get(i))))
@@ -119,6 +128,37 @@ fn question_line((number, words): &(u32, Vec<u64>), count: usize) -> String {
     line("question", [refusal(*number)].into_iter().chain(names))
 }
 
+/// The line of a ring that is right; which one it is stays free.
+const RING: &str = "layers none ring\n";
+
+/// The line of the layers due for `bytes`; a refused file leaves a record that is not sound.
+fn layers_line(bytes: &[u8]) -> String {
+    let (number, words) = match file::read(bytes).map(|case| Layering::of(&case).numbers) {
+        Err(_) => (13, Vec::new()),
+        Ok(None) => return String::from(RING),
+        Ok(Some(numbers)) => (0, [vec![1, numbers.len() as u64], numbers].concat()),
+    };
+    format!("layers {}{}", refusal(number), line("", padded(words, LAYERS_WORDS)))
+}
+
+/// Whether `line` tells a ring of the case of `bytes`.
+fn is_ring_line(bytes: &[u8], line: &[u8]) -> bool {
+    let text = String::from_utf8_lossy(line);
+    let words: Vec<u64> = text.split(' ').skip(2).filter_map(|word| word.parse().ok()).collect();
+    let layering = file::read(bytes).map(|case| Layering::of(&case));
+    layering.is_ok_and(|layering| layering.numbers.is_none() && layering.complaint(&words).is_none())
+}
+
+/// What the program printed for `bytes`, with `RING` for the first ring told, if it is one, and for the same again.
+fn told(bytes: &[u8], printed: &[u8]) -> Vec<u8> {
+    let mut all = lines(printed);
+    let first = all.iter().find(|line| line.starts_with(b"layers none ")).cloned().unwrap_or_default();
+    if is_ring_line(bytes, &first) {
+        all.iter_mut().filter(|line| **line == first).for_each(|line| *line = RING.trim_end().into());
+    }
+    all.join(&b'\n')
+}
+
 /// What the plain calls print for `bytes`.
 fn plain(bytes: &[u8], lent: &Lent) -> Vec<u8> {
     let read = due::read(bytes);
@@ -133,6 +173,7 @@ fn plain(bytes: &[u8], lent: &Lent) -> Vec<u8> {
     lines += &(line("settle", [refusal(answers.settled.0)]) + &line("settled", answers.settled.1));
     lines += &(question_line(&answers.question, QUERIES) + &line("answer", &answers.question.1));
     lines += &(line("list", &answers.list) + &line("work", &answers.work));
+    lines += &layers_line(bytes);
     lines += &line("report", [refusal(if short { 19 } else { 0 })]);
     lines += &line("length", [if short { 0 } else { text.len() }]);
     [lines.as_bytes(), &out, b"\n"].concat()
@@ -161,6 +202,7 @@ fn by_struct(bytes: &[u8], lent: &Lent) -> Vec<u8> {
     let mut rest = format!("settle {} {trues} {falses} {rounds}\n", refusal(answers.settled.0));
     rest += &(question_line(&answers.question, answered) + &line("verdicts", verdicts) + &line("counts", counts));
     rest += &(line("list", &answers.list) + &line("work", &answers.work));
+    rest += &layers_line(bytes);
     rest += &line("read", [refusal(read.refusal)]);
     [lines.into_bytes(), rows.concat(), rest.into_bytes()].concat()
 }
@@ -181,7 +223,11 @@ fn calls(tests: &mut Tests, program: &Path, inputs: &[Input]) {
             let words: Vec<String> =
                 [String::from("calls")].into_iter().chain(numbers.iter().map(u64::to_string)).collect();
             let due = [plain(&input.bytes, &lent), by_struct(&input.bytes, &lent)].concat();
-            tests.call(|| format!("{}, {words:?}", input.name), compared(program, &words, &input.bytes, &due));
+            let complaints = match written(program, &words, &input.bytes) {
+                Ok(got) => other_line(&due, &told(&input.bytes, &got)),
+                Err(fault) => vec![fault],
+            };
+            tests.call(|| format!("{}, {words:?}", input.name), complaints);
         }
     }
 }
@@ -189,9 +235,9 @@ fn calls(tests: &mut Tests, program: &Path, inputs: &[Input]) {
 /// Each lent memory one element short: 1 wherever it has a least size.
 fn short(tests: &mut Tests, program: &Path) {
     tests.family("C: memory one element short");
-    let row = |answers: [u32; 4]| line(refusal(answers[0]), answers[1..].iter().map(|number| refusal(*number)));
-    let four = row([1, 1, 1, 0]);
-    let due = line("read", ["none"]) + &four.repeat(4) + &row([1; 4]) + &row([0; 4]).repeat(2);
+    let row = |answers: [u32; 5]| line(refusal(answers[0]), answers[1..].iter().map(|number| refusal(*number)));
+    let tables = row([1, 1, 1, 1, 0]);
+    let due = line("read", ["none"]) + &tables.repeat(4) + &row([1; 5]) + &row([0; 5]).repeat(2);
     for file in [M4, EACH] {
         tests.call(|| String::from("short"), compared(program, &[String::from("short")], file, due.as_bytes()));
     }
@@ -234,9 +280,9 @@ pub fn run(tests: &mut Tests, root: &Path, program: &Path) {
     let folder = root.join("tests");
     let made = |bytes: Vec<u8>| Input { name: String::from("made here"), bytes, report: None };
     let mut inputs = vec![made(EACH.to_vec())];
-    for part in ["marked", "vectors", "edges", "requests"] {
-        inputs.extend(stored(&folder, part));
-    }
+    let is_called = |name: &str| ["marked", "vectors", "edges"].contains(&name) || name.starts_with("requests");
+    let called = all_folders(&folder).into_iter().filter(|(name, _)| is_called(name));
+    inputs.extend(called.flat_map(|(_, inputs)| inputs));
     inputs.extend(refused_files().into_iter().map(|(_, _, file)| made(file)));
     texts(tests, program, root);
     short(tests, program);

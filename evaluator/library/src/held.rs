@@ -13,6 +13,7 @@
 use evaluator::case::{Body, Case, Clause};
 use evaluator::formula::{Connective, Formula, Literal};
 
+pub const ATOMS: usize = 64;
 pub const CLAUSE_WORDS: usize = 768;
 pub const CONSTRAINT_WORDS: usize = 64;
 pub const QUERIES: usize = 16;

@@ -121,6 +121,11 @@ impl<T: Entry> Lent<T> {
         unsafe { from_raw_parts(self.stretch, self.before.len()) }
     }
 
+    /// The lent entries as they are.
+    pub fn lent(&self) -> &[T] {
+        &self.now()[self.front..self.front + self.length]
+    }
+
     /// The complaint that this memory, called `name`, isn't as before with `written` in front of the lent entries; none
     /// if it is, the entries beside them included.
     pub fn complaint(&self, name: &str, written: &[T]) -> Option<String> {

@@ -1,9 +1,9 @@
 //! Families of sound cases at each limit, and with parts past the formulas that are no formulas.
 
-use crate::calls::{question, settle, Room, ASKED_WORDS};
+use crate::calls::{layers, question, settle, LayersDue, Room, ASKED_WORDS, LAYERS_WORDS};
 use crate::case_sizes::refused;
 use crate::drawn::{deep, drawn, strewn, Shape};
-use crate::due::{Asking, Settling};
+use crate::due::{Asking, Layering, Settling};
 use crate::held::{Held, FORMULAS, NODES, PART_BYTES, QUERIES};
 use crate::sound::broken;
 use crate::tests::Tests;
@@ -24,13 +24,15 @@ const NO_FORMULAS: [(&str, u64, u8); 7] = [
     ("a node past 68", 1, 69),
 ];
 
-/// Settles and asks `case`, held by `held`, as the evaluator does.
+/// Settles, asks and layers `case`, held by `held`, as the evaluator does.
 pub fn accepted(tests: &mut Tests, what: &str, case: Case, held: &Held) {
     let mut settling = Settling::of(case.clone());
     for s in [0, settling.settings() - 1, settling.settings() / 2] {
         let due = settling.words(s);
         tests.call(|| format!("{what}, settle {s}"), settle(held, s, 3, (0, &due)));
     }
+    let layering = Layering::of(&case);
+    tests.call(|| format!("{what}, layers"), layers(held, LAYERS_WORDS, &LayersDue::Told(&layering)));
     let asking = Asking::of(case);
     let room = Room { list: 3, work: asking.settings(), answer: ASKED_WORDS };
     tests.call(|| format!("{what}, question"), question(held, room, &asking.due(3)));

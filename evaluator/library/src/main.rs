@@ -7,7 +7,7 @@
 //! | held, sound, due | tables of a case and back, phrases that a case breaks, what the evaluator finds due |
 //! | corpus, drawn | files, and cases that no file need give |
 //! | reading, read_sizes | reading |
-//! | settling, asking, case_sizes | settling and the question |
+//! | settling, asking, layering, case_sizes | settling, the question, the layers |
 //! | marked, chains | M1 to M10 with their tables, and chains of atoms, worked out by hand |
 //! | vectors | operations that stand in files with their answers |
 //! | breaches, unsound, limits | each phrase of soundness broken alone, and each limit met |
@@ -29,6 +29,7 @@ mod due;
 mod fences;
 mod from_c;
 mod held;
+mod layering;
 mod lent;
 mod limits;
 mod marked;
@@ -67,6 +68,7 @@ fn main() -> ExitCode {
     marked::run(&mut tests, &folder);
     chains::run(&mut tests);
     asking::run(&mut tests, &folder);
+    layering::run(&mut tests, &folder);
     case_sizes::run(&mut tests);
     unsound::run(&mut tests);
     limits::run(&mut tests);

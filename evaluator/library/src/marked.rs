@@ -1,10 +1,10 @@
-//! Families of M1 to M10, read into tables that are worked out by hand, and settled from these.
+//! Families of M1 to M10, read into tables that are worked out by hand; settled and layered from these.
 //!
 //! From: document 01, Ten marked files; Case tables and sound cases.
 
-use crate::calls::{read, settle, ReadDue, Sizes};
+use crate::calls::{layers, read, settle, LayersDue, ReadDue, Sizes, LAYERS_WORDS};
 use crate::corpus::stored;
-use crate::due::{self, Settling};
+use crate::due::{self, Layering, Settling};
 use crate::held::{Held, NODES};
 use crate::tests::Tests;
 use std::path::Path;
@@ -25,6 +25,20 @@ const MARKED: [Marked; 10] = [
     ("m08", [1, 0, 0, 1, 0, 0], &[], &[], &[67, 0, 0], &["a"], 2),
     ("m09", [2, 1, 0, 1, 0, 1], &[128, 2, 2], &[], &[0], &["b", "a"], 4),
     ("m10", [1, 2, 0, 1, 0, 0], &[0, 0, 0, 64, 0, 0], &[], &[0], &["a"], 1),
+];
+
+/// The least numbers of their atoms, none for a ring.
+const NUMBERS: [Option<&[u64]>; 10] = [
+    Some(&[1, 0, 0]),
+    Some(&[0]),
+    None,
+    Some(&[1, 0, 0, 0, 0]),
+    Some(&[1, 0, 0, 0, 0]),
+    Some(&[1, 0, 0, 0, 0]),
+    Some(&[0]),
+    Some(&[0]),
+    Some(&[1, 0]),
+    Some(&[0]),
 ];
 
 const M4_CLAUSES: [u64; 12] = [128, 2, 4, 128, 8, 16, 66, 0, 0, 68, 0, 0];
@@ -86,8 +100,20 @@ fn settles(tests: &mut Tests) {
     }
 }
 
+/// The layers from the tables by hand.
+fn numbers(tests: &mut Tests) {
+    tests.family("layers: M1 to M10, tables by hand");
+    for (row, numbers) in MARKED.into_iter().zip(NUMBERS) {
+        let held = held(row);
+        let layering = Layering::of(&held.case());
+        tests.require(&format!("{}: the evaluator's numbers", row.0), layering.numbers.as_deref() == numbers);
+        tests.call(|| String::from(row.0), layers(&held, LAYERS_WORDS, &LayersDue::Told(&layering)));
+    }
+}
+
 /// All families of the marked files.
 pub fn run(tests: &mut Tests, folder: &Path) {
     reads(tests, folder);
     settles(tests);
+    numbers(tests);
 }

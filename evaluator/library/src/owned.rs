@@ -1,12 +1,12 @@
 //! Families of the Rust module's case, which owns its record and tables, and of its report.
 
-use crate::calls::ASKED_WORDS;
+use crate::calls::{layers_words, ASKED_WORDS};
 use crate::corpus::{stored, Input};
-use crate::due::{Asking, Settling};
+use crate::due::{Asking, Layering, Settling};
 use crate::held::Held;
 use crate::tests::{differing, Complaints, Tests};
-use crate::wrappers::{inputs, record};
-use causes::{Case, Refusal};
+use crate::wrappers::{inputs, layers_inputs, record};
+use causes::{Case, Layer, Layers, Refusal};
 use evaluator::answer::{answer, LIST_SLOTS};
 use evaluator::case::causes;
 use evaluator::file;
@@ -98,6 +98,27 @@ fn asked(said: &evaluator::case::Case, case: &Case) -> Complaints {
     .concat()
 }
 
+/// The layers of each case by name: those of the plain call, which are right.
+fn layers(tests: &mut Tests, inputs: &[Input]) {
+    tests.family("case: layers");
+    let mut met = [0, 0];
+    for input in inputs {
+        let (Ok(said), Ok(case)) = (file::read(&input.bytes), Case::read(&input.bytes)) else { continue };
+        let words = layers_words(&Held::of(&said));
+        let name = || input.name.clone();
+        tests.call(name, Layering::of(&said).complaint(&words).into_iter().collect());
+        met[usize::from(words[0] == 1)] += 1;
+        let entries = words[2..].iter().take(words[1] as usize);
+        let due = if words[0] == 1 {
+            Layers::Numbers(said.names.iter().zip(entries).map(|(name, n)| Layer { name, number: *n }).collect())
+        } else {
+            Layers::Ring(entries.map(|atom| said.names.get(*atom as usize).map_or("", String::as_str)).collect())
+        };
+        tests.call(name, differing(due, case.layers()));
+    }
+    tests.require("layered cases and rings", met.iter().all(|n| *n > 20));
+}
+
 /// The report and the text of each file.
 fn reports(tests: &mut Tests, inputs: &[Input]) {
     tests.family("case: report");
@@ -121,5 +142,6 @@ pub fn run(tests: &mut Tests, folder: &Path) {
     questions(tests, &inputs);
     let longer = inputs.iter().any(|input| answer(&input.bytes).result.is_ok_and(|(_, found)| found > LIST_SLOTS));
     tests.require("a case with more explanations than the program lists", longer);
+    layers(tests, &layers_inputs(folder));
     reports(tests, &inputs);
 }

@@ -1,8 +1,8 @@
 //! A family of calls from several threads at once: each gets what it gets alone.
 
-use crate::calls::{question, read, settle, Room, Sizes, ASKED_WORDS};
+use crate::calls::{layers, question, read, settle, LayersDue, Room, Sizes, ASKED_WORDS, LAYERS_WORDS};
 use crate::corpus::{generated, Input};
-use crate::due::{self, Asking, Settling};
+use crate::due::{self, Asking, Layering, Settling};
 use crate::held::Held;
 use crate::tests::{Complaints, Tests};
 use evaluator::file;
@@ -19,6 +19,7 @@ fn calls(input: &Input) -> Vec<Complaints> {
         let held = Held::of(&case);
         let due = Settling::of(case.clone()).words(0);
         found.push(settle(&held, 0, 3, (0, &due)));
+        found.push(layers(&held, LAYERS_WORDS, &LayersDue::Told(&Layering::of(&case))));
         let asking = Asking::of(case);
         let room = Room { list: 2, work: asking.settings(), answer: ASKED_WORDS };
         found.push(question(&held, room, &asking.due(2)));

@@ -1,5 +1,5 @@
-//! Families of cases that are not sound: each phrase of document 01 broken alone, refused with 13 by settling and by
-//! the question; counts far past the limits; and drawn changes.
+//! Families of cases that are not sound: each phrase of document 01 broken alone, refused with 13 by settling,
+//! the question and the layers; counts far past the limits; and drawn changes.
 
 use crate::breaches::{Breach, COUNTS, ENTRIES, FORMULA};
 use crate::case_sizes::refused;

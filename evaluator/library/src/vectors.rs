@@ -1,5 +1,5 @@
 //! Families of the operations that stand in files: what the library answers by the safe calls, in the plain form of the
-//! answers beside them.
+//! answers beside them; of a ring one of those beside them.
 //!
 //! From: tests/README.md.
 
@@ -60,6 +60,15 @@ impl Lent {
         Ok(Answered::Settled { truths: a.trues, falsehoods: a.falses, rounds: a.rounds })
     }
 
+    /// The answer of the layers, with the ring told.
+    fn layered(&self) -> Result<Answered, Refusal> {
+        let a = lent::layers(&self.record, &self.tables)?;
+        Ok(match a.ring() {
+            Some(ring) => Answered::Rings(vec![ring.iter().map(|atom| *atom as usize).collect()]),
+            None => Answered::Layered(a.numbers().unwrap_or_default().to_vec()),
+        })
+    }
+
     /// The answer of the question, with a list of `slots` slots and a work area of `bytes` bytes.
     fn asked(&self, slots: usize, bytes: usize) -> Result<Answered, Refusal> {
         let (mut list, mut work) = (vec![0; slots], vec![0; bytes]);
@@ -86,6 +95,7 @@ fn answered(vector: &Vector) -> Answered {
         Operation::Read => Ok(Answered::Read(lent.held())),
         Operation::Settle { setting } => lent.settled(setting),
         Operation::Question { slots, bytes } => lent.asked(slots, bytes),
+        Operation::Layers => lent.layered(),
     };
     answer.unwrap_or_else(|refusal| Answered::Refused(refusal.number()))
 }
@@ -101,7 +111,14 @@ pub fn run(tests: &mut Tests, folder: &Path) {
         tests.family(&format!("operations: {}", name.display()));
         for path in paths {
             let complaints = match Vector::load(&path) {
-                Ok(vector) => differing(vector.expected.as_str(), &answered(&vector).text()),
+                Ok(vector) => {
+                    let text = answered(&vector).text();
+                    if vector.allows(&text) {
+                        Vec::new()
+                    } else {
+                        differing(vector.expected.as_str(), &text)
+                    }
+                }
                 Err(fault) => vec![fault],
             };
             tests.call(|| path.display().to_string(), complaints);

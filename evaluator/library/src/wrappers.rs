@@ -1,7 +1,8 @@
 //! Families of the safe calls over lent memory: what the evaluator finds, field by field.
 
-use crate::corpus::{generated, refused_files, stored, Input};
-use crate::due::{self, mask, Asking, Settling};
+use crate::calls::layers_words;
+use crate::corpus::{all_folders, generated, refused_files, stored, Input};
+use crate::due::{self, mask, Asking, Layering, Settling};
 use crate::held::{masks, padded, Held, NODES, QUERIES, RECORD_WORDS};
 use crate::tests::{differing, Complaints, Tests};
 use causes::lent::{self, Record, Tables};
@@ -9,6 +10,7 @@ use causes::Refusal;
 use evaluator::case::Case;
 use evaluator::file;
 use evaluator::formula::{FALSE, TRUE};
+use evaluator::sample::SAMPLES;
 use std::path::Path;
 
 /// The tables of `held` as the safe calls have them.
@@ -130,6 +132,29 @@ fn settled(settling: &mut Settling, s: u64, got: Result<lent::Settled, Refusal>)
     complaints
 }
 
+/// The layers of each case by the safe call: those of the plain call, which are right, and a refusal.
+fn layers(tests: &mut Tests, inputs: &[Input]) {
+    tests.family("safe calls: layers");
+    let mut met = [0, 0];
+    for input in inputs {
+        let Ok(said) = file::read(&input.bytes) else { continue };
+        let held = Held::of(&said);
+        let (record, tables) = (record(&said, &held), tables(&held));
+        let words = layers_words(&held);
+        let name = || input.name.clone();
+        tests.call(name, Layering::of(&said).complaint(&words).into_iter().collect());
+        met[usize::from(words[0] == 1)] += 1;
+        let entries = &words[2..][..words[1].min(64) as usize];
+        let due = if words[0] == 1 { (Some(entries), None) } else { (None, Some(entries)) };
+        let got = lent::layers(&record, &tables);
+        tests.call(name, differing(Ok(due), got.as_ref().map(|a| (a.numbers(), a.ring()))));
+        let mut unsound = record;
+        unsound.atoms = 65;
+        tests.call(name, differing(Err(Refusal::Unsound), lent::layers(&unsound, &tables)));
+    }
+    tests.require("layered cases and rings", met.iter().all(|n| *n > 20));
+}
+
 /// Reports each file by the safe call.
 fn reports(tests: &mut Tests, inputs: &[Input]) {
     tests.family("safe calls: report");
@@ -142,6 +167,13 @@ fn reports(tests: &mut Tests, inputs: &[Input]) {
         let got = lent::report(&input.bytes, &mut out[..text.len() - 1]);
         tests.call(|| input.name.clone(), differing(Err(Refusal::ShortOutput), got));
     }
+}
+
+/// The files of the families of layers: all stored ones, generated ones and those with chains and rings.
+pub fn layers_inputs(folder: &Path) -> Vec<Input> {
+    let mut inputs: Vec<Input> = all_folders(folder).into_values().flatten().collect();
+    inputs.extend(generated(SAMPLES + 400, |seed| !(400..SAMPLES).contains(&seed)));
+    inputs
 }
 
 /// The files of the safe calls' families.
@@ -161,5 +193,6 @@ pub fn run(tests: &mut Tests, folder: &Path) {
     reads(tests, &inputs);
     names(tests, &inputs);
     cases(tests, &inputs);
+    layers(tests, &layers_inputs(folder));
     reports(tests, &inputs);
 }

@@ -1,7 +1,7 @@
 //! Makes each call on a case file from standard input in a thread whose stack has the module's size for it. Where a size
 //! is too small, the system ends the program.
 
-use causes::{stack, Case, Refusal};
+use causes::{lent, stack, Case, Refusal};
 use std::io::{self, Read};
 use std::process::ExitCode;
 use std::thread;
@@ -14,7 +14,7 @@ fn in_thread<R: Send>(bytes: usize, call: impl FnOnce() -> R + Send) -> io::Resu
     })
 }
 
-/// Makes the four calls on `file`; the length of its report.
+/// Makes the five calls on `file`; the length of its report.
 fn calls(file: &[u8]) -> io::Result<Result<usize, Refusal>> {
     let case = match in_thread(stack::READ, || Case::read(file))? {
         Ok(case) => case,
@@ -23,8 +23,10 @@ fn calls(file: &[u8]) -> io::Result<Result<usize, Refusal>> {
     let last = case.settings() - 1;
     let settled = in_thread(stack::SETTLE, || case.settle(last))?;
     let answer = in_thread(stack::QUESTION, || case.question())?;
+    let layers = in_thread(stack::LAYERS, || lent::layers(case.record(), case.tables()))?;
     let report = in_thread(stack::REPORT, || causes::report(file))?;
     println!("{} rounds, the last setting {:?}", answer.rounds, settled.map(|s| s.rounds));
+    println!("layered: {:?}", layers.map(|l| l.numbers().is_some()));
     Ok(report.map(|text| text.len()))
 }
 

@@ -1,6 +1,7 @@
 //! A case that owns what reading gives, and the report of a file.
 
 use crate::answer::{Answer, Cause, Explanation};
+use crate::layers::{Layer, Layers};
 use crate::lent::{self, Record, Settled, Tables};
 use crate::sizes::{MINIMAL, REPORT_BYTES};
 use crate::Refusal;
@@ -79,6 +80,32 @@ impl Case {
         let explanations =
             list[..answer.listed].iter().map(|setting| self.named(&causes, u64::from(*setting))).collect();
         Answer { verdicts: answer.verdicts().to_vec(), rounds: answer.rounds, explanations }
+    }
+
+    /// The least number of each atom, or a ring of rules where there are no numbers.
+    ///
+    /// ```
+    /// use causes::{Case, Layer, Layers};
+    ///
+    /// let case = Case::read(b"(if low shut (not ab))\n(false ab)\n(query shut)\n")?;
+    /// let numbers = [("low", 1), ("shut", 0), ("ab", 0)].map(|(name, number)| Layer { name, number });
+    /// assert_eq!(case.layers(), Layers::Numbers(numbers.to_vec()));
+    /// let case = Case::read(b"(if low low)\n(query low)\n")?;
+    /// assert_eq!(case.layers(), Layers::Ring(vec!["low"]));
+    /// # Ok::<(), causes::Refusal>(())
+    /// ```
+    pub fn layers(&self) -> Layers<'_> {
+        let layers = lent::layers(&self.record, &self.tables).expect("a case that was read is sound");
+        match layers.numbers() {
+            Some(numbers) => {
+                let layer = |(name, number): (_, &u64)| Layer { name, number: *number };
+                Layers::Numbers(self.names().zip(numbers).map(layer).collect())
+            }
+            None => {
+                let name = |atom: &u64| self.name(*atom as usize).expect("a ring has atoms of the case");
+                Layers::Ring(layers.ring().unwrap_or_default().iter().map(name).collect())
+            }
+        }
     }
 
     /// What the setting `setting` adds, by name. Refuses with 14 one that the case doesn't have.

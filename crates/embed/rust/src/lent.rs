@@ -13,9 +13,22 @@
 //! assert_eq!(list[..answer.listed], [0]);
 //! # Ok::<(), causes::Refusal>(())
 //! ```
+//!
+//! The layers of a case, or a ring of its rules, by atom:
+//!
+//! ```
+//! use causes::lent::{layers, read, Tables};
+//!
+//! let mut tables = Tables::new();
+//! let record = read(b"(if a (not b))\n(if b c)\n(query a)", &mut tables)?;
+//! assert_eq!(layers(&record, &tables)?.numbers(), Some(&[2, 1, 0][..]));
+//! let record = read(b"(if a (not a))\n(query a)", &mut tables)?;
+//! assert_eq!(layers(&record, &tables)?.ring(), Some(&[0][..]));
+//! # Ok::<(), causes::Refusal>(())
+//! ```
 
 mod operations;
 mod tables;
 
-pub use operations::{question, read, report, settle, Answer, Settled};
+pub use operations::{layers, question, read, report, settle, Answer, Layers, Settled};
 pub use tables::{Clauses, Constraints, Formula, Names, Record, Tables};

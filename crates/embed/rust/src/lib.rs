@@ -2,9 +2,10 @@
 //!
 //! | name | meaning |
 //! |---|---|
-//! | [`Case`] | a case read from a file; it settles a setting and answers the question |
+//! | [`Case`] | a case read from a file; it settles a setting, answers the question and tells its layers |
 //! | [`Answer`], [`Explanation`], [`Verdict`] | what the question answers, with names |
 //! | [`Settled`] | the least model of a setting |
+//! | [`Layers`], [`Layer`] | the layers of a case, or a ring of its rules, with names |
 //! | [`report`], [`text`] | the text that the program `causes` writes |
 //! | [`Refusal`] | why an operation refuses |
 //! | [`sizes`], [`stack`] | how much memory and how much stack the operations take |
@@ -49,6 +50,7 @@
 
 mod answer;
 mod case;
+mod layers;
 pub mod lent;
 pub mod raw;
 mod refusal;
@@ -58,6 +60,7 @@ mod verdict;
 
 pub use answer::{Answer, Cause, Explanation};
 pub use case::{report, text, Case};
+pub use layers::{Layer, Layers};
 pub use lent::Settled;
 pub use refusal::Refusal;
 pub use verdict::Verdict;

@@ -57,6 +57,20 @@ extern "C" {
         answer_words: usize,
     ) -> u32;
 
+    /// Numbers the atoms of a case by layers, or finds a ring; answer: 1 or 0, the number of entries, 64 entries.
+    pub fn causes_layers(
+        record: *const u64,
+        record_words: usize,
+        clauses: *const u64,
+        clause_words: usize,
+        constraints: *const u64,
+        constraint_words: usize,
+        formula: *const u8,
+        formula_bytes: usize,
+        answer: *mut u64,
+        answer_words: usize,
+    ) -> u32;
+
     /// Writes the report of a case file; answer: the length of the text.
     pub fn causes_report(
         file: *const u8,

@@ -20,6 +20,9 @@ pub const NAMES_BYTES: usize = 1_024;
 /// Bytes of a name's row.
 pub const NAME_BYTES: usize = 16;
 
+/// The most atoms of a case.
+pub const ATOMS: usize = NAMES_BYTES / NAME_BYTES;
+
 /// Words of a case record.
 pub const RECORD_WORDS: usize = 6 + QUERIES;
 

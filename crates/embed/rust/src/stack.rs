@@ -9,5 +9,8 @@ pub const SETTLE: usize = 32_768;
 /// For the question.
 pub const QUESTION: usize = 49_152;
 
+/// For the layers.
+pub const LAYERS: usize = 32_768;
+
 /// For the report.
 pub const REPORT: usize = 131_072;

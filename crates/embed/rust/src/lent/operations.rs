@@ -4,7 +4,7 @@
 //! that the exported functions ask.
 
 use super::tables::{Record, Tables};
-use crate::sizes::{QUERIES, RECORD_WORDS};
+use crate::sizes::{ATOMS, QUERIES, RECORD_WORDS};
 use crate::{raw, Refusal, Verdict};
 
 /// A settled setting: its least model and its round count.
@@ -49,6 +49,28 @@ impl Answer {
     /// The verdict on each formula, in the order of the parts of the formula table.
     pub fn verdicts(&self) -> &[Verdict] {
         &self.verdicts[..self.formulas]
+    }
+}
+
+/// The layers of a case, or a ring of its rules.
+#[derive(Clone, Copy, Debug, PartialEq, Eq)]
+#[non_exhaustive]
+pub struct Layers {
+    is_layered: bool,
+    count: usize,
+    entries: [u64; ATOMS],
+}
+
+impl Layers {
+    /// The least number of each atom, in atom order; none if the case isn't layered.
+    pub fn numbers(&self) -> Option<&[u64]> {
+        self.is_layered.then_some(&self.entries[..self.count])
+    }
+
+    /// The atoms of a ring, each named in a body of the one before and the first in a body of the last; none if the
+    /// case is layered.
+    pub fn ring(&self) -> Option<&[u64]> {
+        (!self.is_layered).then_some(&self.entries[..self.count])
     }
 }
 
@@ -137,6 +159,29 @@ pub fn question(record: &Record, tables: &Tables, list: &mut [u16], work: &mut [
     let [verdicts @ .., minimal, listed, rounds] = words;
     let verdicts = verdicts.map(|number| Verdict::from_number(number).expect("a verdict of document 01"));
     accepted(number, 0).map(|()| Answer { formulas, verdicts, minimal, listed: listed as usize, rounds })
+}
+
+/// Numbers the atoms of a case by layers, or finds a ring where it isn't layered. Refuses with 13.
+pub fn layers(record: &Record, tables: &Tables) -> Result<Layers, Refusal> {
+    let record = record.words();
+    let mut words = [0; ATOMS + 2];
+    // SAFETY: each pointer comes with the length of its slice; the answer's words are local.
+    let number = unsafe {
+        raw::causes_layers(
+            record.as_ptr(),
+            record.len(),
+            tables.clauses.as_ptr(),
+            tables.clauses.len(),
+            tables.constraints.as_ptr(),
+            tables.constraints.len(),
+            tables.formula.as_ptr(),
+            tables.formula.len(),
+            words.as_mut_ptr(),
+            words.len(),
+        )
+    };
+    let [layered, count, entries @ ..] = words;
+    accepted(number, 0).map(|()| Layers { is_layered: layered == 1, count: count as usize, entries })
 }
 
 /// Writes the report of a case file to the front of `out` and answers its length. Refuses with 19 an output that is

@@ -1,0 +1,51 @@
+-- `embed::put_layers` meets its contract: two words, and the entries behind them. Assumes nothing.
+use borrow.Author.Needs.{needs}
+use native.Mathlib.Omega.{arith}
+use Rattle.embed.proofs.Exports.{layers-put}
+use Rattle.embed.proofs.put_layers.Statement.{statement}
+use Rattle.embed.proofs.put_layers.Tie as tie
+
+cast-layered : tie.Need-cast-layered
+cast-layered c = search needs
+
+slice-aggregate-put-words : tie.Need-slice-aggregate-put-words
+slice-aggregate-put-words c = search needs
+
+put-words-requires : tie.Need-put-words-requires
+put-words-requires c κs = search needs
+
+sub-put-words : tie.Need-sub-put-words
+sub-put-words c = search needs
+
+part-put-words-start : tie.Need-part-put-words-start
+part-put-words-start c = search needs
+
+part-put-words-end : tie.Need-part-put-words-end
+part-put-words-end c = search needs
+
+slice-aggregate-put-words-2 : tie.Need-slice-aggregate-put-words-2
+slice-aggregate-put-words-2 c = search needs
+
+put-words-requires-2 : tie.Need-put-words-requires-2
+put-words-requires-2 c κs = omega (arith, slice-aggregate-put-words-2 c)
+
+same-length : tie.Need-same-length
+same-length c = search needs
+
+returns : tie.Need-returns
+returns c = search layers-put
+
+pub put-layers-spec : {M : Type 1} → statement M
+put-layers-spec =
+    tie.close
+    (tie.spec
+    cast-layered
+    slice-aggregate-put-words
+    put-words-requires
+    sub-put-words
+    part-put-words-start
+    part-put-words-end
+    slice-aggregate-put-words-2
+    put-words-requires-2
+    same-length
+    returns)
