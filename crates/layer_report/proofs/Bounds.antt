@@ -3,23 +3,23 @@
 use mathlib.Core.Path.{_≡_, refl, sym, ap, _∙_}
 use mathlib.Core.Bool.{Bool, true, false}
 use mathlib.Core.List.{List, [], _∷_, _++_, map}
-use Prim.Native.Nat.{ℕ, zero, suc, _*_, _≤_, _<_}
-use native.Mathlib.Nat.{suc-ne-zero}
+use Prim.Native.Nat.{ℕ, _≤_, _<_}
 use native.Mathlib.Omega.{arith}
-use lib.ListN.{length, getD, take, drop, length-append, length-take}
+use lib.ListN.{length, getD, length-append}
 use Rattle.words.specs.Lists.{listOf}
 use Rattle.words.proofs.Lists.{list-of-length, list-of-at}
 use Rattle.text.specs.Bytes.{bytes}
-use Rattle.names.specs.Row.{beforeZero, nameIn}
-use Rattle.names.proofs.RowNames.{before-zero-stops, before-zero-more, before-zero-nil}
+use Rattle.names.specs.Row.{nameIn}
+use Rattle.names.proofs.RowNames.{name-short}
 use Rattle.output.specs.Decimal.{decimal}
 use Rattle.output.specs.Forms.{line, spaced}
 use Rattle.output.specs.Writing.{Room}
 use Rattle.output.proofs.Decimals.{decimal-length}
 use Rattle.output.proofs.FormTexts.{lineEnd, line-parts, line-length, spaced-nil, spaced-two}
+use Rattle.wording.proofs.Lengths.{lines-length}
+use Rattle.wording.proofs.Naming.{lines-alike, spacedName, spaced-lines}
 use Rattle.layer_report.specs.Text.{layerLine, layerLines, numbersText, ringText}
 use Rattle.layer_report.specs.Entries.{Atoms, entriesText}
-use Rattle.layer_report.proofs.LineLists.{lines-length, lines-alike, spacedName, spaced-lines}
 
 -- names that agree
 module _ (f g : ℕ → List ℕ) (agree : (a : ℕ) → a < 64 → f a ≡ g a) where
@@ -88,16 +88,6 @@ module _ (name : ℕ → List ℕ) (short : (a : ℕ) → length (name a) ≤ 16
   entries-length false l h = ring-length l h
 
 -- names by the table t
-before-zero-length : (l : List ℕ) → length (beforeZero l) ≤ length l
-before-zero-length [] = rw before-zero-nil (omega arith)
-before-zero-length (zero ∷ l) = rw (before-zero-stops 0 l refl) (omega arith)
-before-zero-length (suc b ∷ l) = rw (before-zero-more (suc b) l (suc-ne-zero b)) (omega (arith, before-zero-length l))
-
-name-short : (t : List ℕ) (a : ℕ) → length (nameIn t a) ≤ 16
-name-short t a =
-    let row = drop (16 * a) t in
-    omega (arith, before-zero-length (take 16 row), length-take 16 row)
-
 module _ (t l : List ℕ) (h : length l ≤ 64) where
   pub numbers-fit : Room (numbersText (nameIn t) l) 0
   numbers-fit = omega (arith, numbers-length (nameIn t) (name-short t) l h)

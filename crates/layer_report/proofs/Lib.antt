@@ -1,11 +1,9 @@
 -- Laws, in reading order.
--- LineLists: the lines of a list, and names with a space before each.
 -- Texts: how the text of layers, and of a ring, is written.
 -- Bounds: names that agree give the same text, and how long a text can be.
 -- Sayings: what is told of what an accepted file says.
 -- Answers: what is told of a file that was read.
 -- Theorems: a proof of each claim of specs/Claims.antt.
-pub mod LineLists
 pub mod Texts
 pub mod Bounds
 pub mod Sayings

@@ -15,10 +15,10 @@ use Rattle.output.specs.Forms.{spaced}
 use Rattle.output.specs.Writing.{Writes, textLimit, Room}
 use Rattle.output.proofs.FormTexts.{lineEnd, line-parts, line-two, spaced-nil}
 use Rattle.output.proofs.Laying.{writes-append, room-front, room-behind}
+use Rattle.wording.proofs.Naming.{spacedName, spaced-lines}
 use Rattle.wording.proofs.Listings.{AtLine, line-start, line-room, line-more, line-end}
 use Rattle.layer_report.specs.Text.{layerLine, layerLines, numbersText, ringText}
 use Rattle.layer_report.specs.Entries.{Atoms, entriesText, Told}
-use Rattle.layer_report.proofs.LineLists.{spacedName, spaced-lines}
 
 -- ---- the line of an atom
 layer-text : (name : ℕ → List ℕ) (ks : List ℕ) (a : ℕ) → layerLine name ks a

@@ -3,9 +3,10 @@
 use mathlib.Core.Path.{_≡_, refl, sym, ap, _∙_, subst}
 use mathlib.Core.List.{List, [], _∷_, _++_}
 use mathlib.Core.Logic.{⊎-elim}
-use Prim.Native.Nat.{ℕ, zero, suc, _-_, _≤_, _<_}
+use Prim.Native.Nat.{ℕ, zero, suc, _-_, _*_, _≤_, _<_}
+use native.Mathlib.Nat.{suc-ne-zero}
 use native.Mathlib.Omega.{arith}
-use lib.ListN.{length, getD, List·getD-eq-default}
+use lib.ListN.{length, getD, take, drop, length-take, List·getD-eq-default}
 use Rattle.words.proofs.Tests.{lt-or-le}
 use Rattle.table.specs.Filled.{padded}
 use Rattle.table.proofs.Filled.{padded-first, padded-split}
@@ -37,7 +38,17 @@ pub before-zero-nil : beforeZero [] ≡ []
 unfolding beforeZero
 before-zero-nil = refl
 
+pub before-zero-length : (l : List ℕ) → length (beforeZero l) ≤ length l
+before-zero-length [] = rw before-zero-nil (omega arith)
+before-zero-length (zero ∷ l) = rw (before-zero-stops 0 l refl) (omega arith)
+before-zero-length (suc b ∷ l) = rw (before-zero-more (suc b) l (suc-ne-zero b)) (omega (arith, before-zero-length l))
+
 -- nameIn
+
+pub name-short : (t : List ℕ) (a : ℕ) → length (nameIn t a) ≤ 16
+name-short t a =
+    let row = drop (16 * a) t in
+    omega (arith, before-zero-length (take 16 row), length-take 16 row)
 
 zeros-behind : {w : List ℕ} (n : ℕ) → NoZero w → beforeZero (w ++ padded n []) ≡ w
 zeros-behind n NoZero.none = before-zero-none (padded n []) (padded-first n)

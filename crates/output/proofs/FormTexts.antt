@@ -38,6 +38,10 @@ unfolding spaced
 line-two w p q =
     line-parts w (p ∷ q ∷ []) ∙ ap (λ (l : List ℕ). bytes "(" ++ l) (rw (append-nil q, append-assoc p, append-assoc w))
 
+pub spaced-parts : (p : List ℕ) (ps : List (List ℕ)) → spaced (p ∷ ps) ≡ bytes " " ++ (p ++ spaced ps)
+unfolding spaced
+spaced-parts p ps = refl
+
 pub spaced-more : (p : List ℕ) (ps : List (List ℕ)) → length (spaced (p ∷ ps)) ≡ 1 + length p + length (spaced ps)
 unfolding spaced
 spaced-more p ps = omega (arith, length-append p (spaced ps))

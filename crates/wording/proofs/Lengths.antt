@@ -14,7 +14,7 @@ use Rattle.wording.specs.Text.{withAbducible, abducibles, causeLine, cau
 
 -- Lines
 
-lines-length : (f : ℕ → List ℕ) (k : ℕ) → ((x : ℕ) → length (f x) ≤ k) → (l : List ℕ)
+pub lines-length : (f : ℕ → List ℕ) (k : ℕ) → ((x : ℕ) → length (f x) ≤ k) → (l : List ℕ)
     → length (linesOf f l) ≤ k * length l
 unfolding linesOf
 lines-length f k h [] = omega arith
