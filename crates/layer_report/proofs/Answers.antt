@@ -3,13 +3,12 @@
 use mathlib.Core.Path.{_≡_, refl, sym, ap, _∙_}
 use mathlib.Core.Bool.{Bool, true, false}
 use mathlib.Core.List.{List, []}
-use Prim.Native.Nat.{ℕ, _-_, _≤_}
+use Prim.Native.Nat.{ℕ, _≤_}
 use native.Mathlib.Omega.{arith}
 use lib.ListN.{length, take}
-use lib.Seq.{take-at}
 use Rattle.words.specs.Choice.{pick}
 use Rattle.table.specs.Filled.{padded}
-use Rattle.table.proofs.Filled.{padded-length, padded-split}
+use Rattle.table.proofs.Filled.{padded-length, padded-front}
 use Rattle.program.proofs.Soundness.{sound-full}
 use Rattle.names.specs.Names.{rowsOf}
 use Rattle.names.specs.Row.{nameIn}
@@ -63,15 +62,12 @@ pub record Shows (f names : List ℕ) (q : Answer) : Type 0 where
 abbrev answerOf : Bool → List ℕ → Answer
 answerOf b l = record { refusal = 0; layered = b; count = length l; entries = padded 64 l }
 
-entries-front : (l : List ℕ) → length l ≤ 64 → take (length l) (padded 64 l) ≡ l
-entries-front l h = ap (take (length l)) (padded-split 64 l h) ∙ take-at l (padded (64 - length l) []) (length l) refl
-
 shows-by : {f names : List ℕ} (b : Bool) (l : List ℕ) → length l ≤ 64 → Told names b l
     → LayersOf f (entriesText (nameIn names) b l) → Shows f names (answerOf b l)
 shows-by b l h t o = record {
   count-fits = omega (arith, padded-length 64 l);
-  told = rw (entries-front l h) t;
-  text-of = rw (entries-front l h) o;
+  told = rw (padded-front 64 l h) t;
+  text-of = rw (padded-front 64 l h) o;
 }
 
 answer-by : (st : Said) (l : List ℕ) (b : Bool)

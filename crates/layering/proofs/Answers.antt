@@ -1,9 +1,9 @@
 -- Laws of what the operation answers: which refusal is due, and the answer with or without one. Assumes nothing.
-use mathlib.Core.Path.{_≡_, sym, ap, ap₂, subst, _∙_}
+use mathlib.Core.Path.{_≡_, refl, sym, ap, ap₂, subst, _∙_}
 use mathlib.Core.Bool.{Bool, true, false, and-true, true≢false}
 use mathlib.Core.List.{List, [], _∷_}
 use mathlib.Core.Logic.{_⊎_, ⊎-elim}
-use Prim.Native.Nat.{ℕ, suc, _≤_, _<_}
+use Prim.Native.Nat.{ℕ, zero, suc, _≤_, _<_}
 use native.Mathlib.Nat.{suc-ne-zero}
 use native.Mathlib.Omega.{arith}
 use lib.Dec.{ltb}
@@ -15,7 +15,7 @@ use Rattle.words.specs.Bits.{has}
 use Rattle.words.specs.Lists.{listOf}
 use Rattle.words.proofs.Tests.{lt-or-le}
 use Rattle.words.proofs.Bits.{has-zero, below-of-has}
-use Rattle.words.proofs.Checks.{first-failed-here, first-failed-behind}
+use Rattle.words.proofs.Checks.{first-failed-here, first-failed-behind, none-failed}
 use Rattle.words.proofs.Lists.{list-of-length, list-of-at}
 use Rattle.table.specs.Filled.{padded}
 use Rattle.table.proofs.Filled.{padded-length, padded-at}
@@ -72,6 +72,20 @@ module _ (c : Case) (cl co fo : List ℕ) where
   pub refusal-none : tablesFull cl co fo ≡ true → sound c cl co fo ≡ true → refusal ≡ 0
   unfolding layersRefusal
   refusal-none e f = first-failed-behind 1 caseCheck e ∙ first-failed-behind 13 [] f
+
+  pub refusal-sound : refusal ≡ 0 → sound c cl co fo ≡ true
+  unfolding layersRefusal
+  refusal-sound e = none-failed (check 1 (tablesFull cl co fo) ∷ caseCheck) refl e .1 .0
+
+  -- an answer that refuses nothing is due where nothing is to be refused
+  pub answer-accepted : {r : Answer} → Layering c cl co fo r → r .refusal ≡ 0 → refusal ≡ 0
+  answer-accepted {r} h z = go refusal refl
+    where
+      go : (n : ℕ) → refusal ≡ n → refusal ≡ 0
+      go zero e = e
+      go (suc n) e =
+          let q : r ≡ refusedWith (suc n) = rw e at (h .answer-is) in
+          absurd (suc-ne-zero n (sym (ap (λ (x : Answer). x .refusal) q) ∙ z))
 
   -- ---- the answer
   pub answer-refused : (n : ℕ) {r : Answer} → refusal ≡ suc n → r ≡ refusedWith (suc n) → Layering c cl co fo r

@@ -1,21 +1,26 @@
--- What is claimed of layers beyond the contract of *layers*, which answers a ring where a sound case isn't layered.
--- Proved in proofs/Theorems.antt.
+-- What is claimed of layers beyond the contract of *layers*. Proved in proofs/Theorems.antt.
 -- From: document 02, request [3].
 --
 --   NumbersOf c cl v     v numbers the atoms of the case: each head's number is greater than that of every atom in its
 --                        bodies, plain or negated
 --   numberOf c cl a      the number that the atom a of a layered case is answered with
+--   NumbersLeast         what the numbers of a layered case are
+--   LayeredExact         when a case is layered
+--   RingExact            what a ring bars, and how long it can be
+--   AnswerExact          when the operation answers a ring, and when numbers
 use mathlib.Core.Path.{_≡_}
 use mathlib.Core.Bool.{true, false}
 use mathlib.Core.List.{List}
 use Prim.Native.Nat.{ℕ, _≤_, _<_}
-use lib.ListN.{length}
+use lib.ListN.{length, take}
+use Rattle.words.specs.Lists.{listOf}
 use Rattle.program.specs.declared.case.Case.{Case}
 use Rattle.program.specs.Case.{headAt}
 use Rattle.program.specs.Program.{headed, names}
 use Rattle.program.specs.Sound.{sound}
+use Rattle.layering.specs.declared.operation.Answer.{Answer}
 use Rattle.layering.specs.Layers.{leastNumber}
-use Rattle.layering.specs.Operation.{dependence, layeredIn, RingIn}
+use Rattle.layering.specs.Operation.{dependence, layeredIn, RingIn, Layering}
 
 abbrev pub NumbersOf : Case → List ℕ → (ℕ → ℕ) → Type 0
 NumbersOf c cl v = (k b : ℕ) → k < c .clauses → names cl k b ≡ true → v b < v (headAt cl k)
@@ -45,3 +50,14 @@ pub record LayeredExact : Type 0 where
 pub record RingExact : Type 0 where
   pub no-numbering : (c : Case) (cl l : List ℕ) → RingIn c cl l → (v : ℕ → ℕ) → NumbersOf c cl v → ⊥
   pub at-most : (c : Case) (cl l : List ℕ) → RingIn c cl l → length l ≤ c .atoms
+
+-- the answer r gives a ring exactly when no numbering exists, and otherwise the least numbers
+pub record AnsweredOf (c : Case) (cl : List ℕ) (r : Answer) : Type 0 where
+  pub ring-where-none : ((v : ℕ → ℕ) → NumbersOf c cl v → ⊥) → r .layered ≡ false
+  pub none-where-ring : r .layered ≡ false → (v : ℕ → ℕ) → NumbersOf c cl v → ⊥
+  pub ring-is : r .layered ≡ false → RingIn c cl (take (r .count) (r .entries))
+  pub numbers-are : r .layered ≡ true → take (r .count) (r .entries) ≡ listOf (c .atoms) (numberOf c cl)
+
+-- whatever the operation answers of a case that it doesn't refuse
+abbrev pub AnswerExact : Type 0
+AnswerExact = (c : Case) (cl co fo : List ℕ) (r : Answer) → Layering c cl co fo r → r .refusal ≡ 0 → AnsweredOf c cl r

@@ -124,6 +124,10 @@ padded-split n l h =
     let e : length l + (n - length l) ≡ n = omega arith in
     rw (e, append-nil) at (padded-behind (n - length l) l [])
 
+pub padded-front : (n : ℕ) (l : List ℕ) → length l ≤ n → take (length l) (padded n l) ≡ l
+padded-front n l h =
+    ap (take (length l)) (padded-split n l h) ∙ take-at l (padded (n - length l) []) (length l) refl
+
 -- filling has zeros behind the list by itself
 filled-zeros : (n k : ℕ) (l old : List ℕ) → filled n (l ++ padded k []) old ≡ filled n l old
 unfolding filled padded

@@ -19,8 +19,11 @@ entry c = tables-known c .before .before .before .before .before .before
 abbrev clauses-read : tie.After-struct-known → tie.After-slice-known9
 clauses-read c = c .before
 
+abbrev tables-read : tie.After-struct-known → tie.After-formula
+tables-read c = clauses-read c .before .before .before
+
 abbrev reading : tie.After-struct-known → tie.After-read
-reading c = clauses-read c .before .before .before .before .before .before .before .before
+reading c = tables-read c .before .before .before .before .before
 
 abbrev passed : tie.After-layers → tie.Else1
 passed c = c .before .before .before .before
