@@ -54,7 +54,7 @@ numbers-least c cl co fo s h = record {
 pub layered-exact : LayeredExact
 layered-exact = record {
   numbered = λ c cl co fo s h. (numberOf c cl, least-by-clauses c cl co fo s h);
-  layered-by = λ c cl co fo s v g. numbering-layered (c .atoms) (dependence c cl) v (by-dependence c cl v g);
+  layered-by = λ c cl v g. numbering-layered (c .atoms) (dependence c cl) v (by-dependence c cl v g);
 }
 
 pub ring-exact : RingExact
@@ -100,7 +100,7 @@ module _ (c : Case) (cl co fo : List ℕ) (r : Answer) (h : Layering c cl co fo 
       let g = h .ring-is none e in
       rw q (record {
         ring-where-none = λ n. refl;
-        none-where-ring = λ f v n. true≢false (sym (layered-exact .layered-by c cl co fo is-sound v n) ∙ e);
+        none-where-ring = λ f v n. true≢false (sym (layered-exact .layered-by c cl v n) ∙ e);
         ring-is = λ f. rw (ring-front g) g;
         numbers-are = λ f. absurd (true≢false (sym f));
       })

@@ -39,12 +39,11 @@ pub record LeastNumbers (c : Case) (cl : List ℕ) : Type 0 where
 abbrev pub NumbersLeast : Type 0
 NumbersLeast = (c : Case) (cl co fo : List ℕ) → sound c cl co fo ≡ true → layeredIn c cl ≡ true → LeastNumbers c cl
 
--- a sound case is layered exactly when it has a numbering
+-- a sound case is layered exactly when it has a numbering; one with a numbering is layered, sound or not
 pub record LayeredExact : Type 0 where
   pub numbered : (c : Case) (cl co fo : List ℕ) → sound c cl co fo ≡ true → layeredIn c cl ≡ true
       → (v : ℕ → ℕ) × NumbersOf c cl v
-  pub layered-by : (c : Case) (cl co fo : List ℕ) → sound c cl co fo ≡ true → (v : ℕ → ℕ) → NumbersOf c cl v
-      → layeredIn c cl ≡ true
+  pub layered-by : (c : Case) (cl : List ℕ) (v : ℕ → ℕ) → NumbersOf c cl v → layeredIn c cl ≡ true
 
 -- a case with a ring has no numbering, and the ring has at most as many atoms as the case
 pub record RingExact : Type 0 where

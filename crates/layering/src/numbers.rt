@@ -1,4 +1,4 @@
-// The least numbers: round after round, the atoms fall out on which a shorter chain ends.
+// The least numbers, round after round: those atoms fall out that depend on none of the atoms left.
 ghost use mathlib.Core.Path.{_≡_};
 ghost use Prim.Native.Nat.{_≤_};
 ghost use lib.ListN.{length};
@@ -19,8 +19,8 @@ fn give(numbers: &mut [u64; 64], w: u64, k: u64)
     }
 }
 
-// Gives each of n atoms its least number, and answers those that have none: from each of them a chain of dependencies
-// starts that has no end. The entries of numbers are 0 at first.
+// Gives the n atoms their least numbers, and answers those that have none: each of these depends on one of them. The
+// entries of numbers are 0 at first.
 pub fn number(dependents: &[u64; 64], n: usize, numbers: &mut [u64; 64]) -> u64
     requires { ⌜ (1 ≤ n) × (n ≤ 64) × Words (now dependents) × (length (now numbers) ≡ 64) × Zeros (now numbers) ⌝ }
     ensures { λ r. ⌜ Numbered n (now (dependents .entry)) r (now (numbers .exit)) ⌝ }
