@@ -13,14 +13,13 @@ use mathlib.Core.Bool.{true, false}
 use mathlib.Core.List.{List}
 use Prim.Native.Nat.{ℕ, _≤_, _<_}
 use lib.ListN.{length, take}
-use Rattle.words.specs.Lists.{listOf}
 use Rattle.program.specs.declared.case.Case.{Case}
 use Rattle.program.specs.Case.{headAt}
 use Rattle.program.specs.Program.{headed, names}
 use Rattle.program.specs.Sound.{sound}
 use Rattle.layering.specs.declared.operation.Answer.{Answer}
 use Rattle.layering.specs.Layers.{leastNumber}
-use Rattle.layering.specs.Operation.{dependence, layeredIn, RingIn, Layering}
+use Rattle.layering.specs.Operation.{dependence, layeredIn, numbersIn, RingIn, Layering}
 
 abbrev pub NumbersOf : Case → List ℕ → (ℕ → ℕ) → Type 0
 NumbersOf c cl v = (k b : ℕ) → k < c .clauses → names cl k b ≡ true → v b < v (headAt cl k)
@@ -55,7 +54,7 @@ pub record AnsweredOf (c : Case) (cl : List ℕ) (r : Answer) : Type 0 where
   pub ring-where-none : ((v : ℕ → ℕ) → NumbersOf c cl v → ⊥) → r .layered ≡ false
   pub none-where-ring : r .layered ≡ false → (v : ℕ → ℕ) → NumbersOf c cl v → ⊥
   pub ring-is : r .layered ≡ false → RingIn c cl (take (r .count) (r .entries))
-  pub numbers-are : r .layered ≡ true → take (r .count) (r .entries) ≡ listOf (c .atoms) (numberOf c cl)
+  pub numbers-are : r .layered ≡ true → take (r .count) (r .entries) ≡ numbersIn c cl
 
 -- whatever the operation answers of a case that it doesn't refuse
 abbrev pub AnswerExact : Type 0
