@@ -34,7 +34,7 @@ all-named-push AllNamed.none g = AllNamed.more g AllNamed.none
 all-named-push (AllNamed.more f a) g = AllNamed.more f (all-named-push a g)
 
 -- two names are the same where their rows are
-same-row : {v w : List ℕ} → Named v → Named w → sameBytes (padded 16 v) (padded 16 w) ≡ sameBytes v w
+pub same-row : {v w : List ℕ} → Named v → Named w → sameBytes (padded 16 v) (padded 16 w) ≡ sameBytes v w
 same-row {v} {w} g h =
     let name-same : sameBytes (padded 16 v) (padded 16 w) ≡ true → v ≡ w =
     λ t. sym (row-name g) ∙ ap beforeZero (same-eq _ _ t) ∙ row-name h
@@ -44,7 +44,7 @@ same-row {v} {w} g h =
 -- Holds
 
 module _ {ns : List (List ℕ)} {t : List ℕ} (h : Holds ns t) (k : nameSize ≤ length t) where
-  held-row : (i : ℕ) → i < 64 → rowAt t i ≡ padded 16 (getD ns i [])
+  pub held-row : (i : ℕ) → i < 64 → rowAt t i ≡ padded 16 (getD ns i [])
   held-row i l = ap (slice (i * 16) (i * 16 + 16)) (h .table-is) ∙ filled-row ns t i k l
 
   module _ {w : List ℕ} (g : Named w) where

@@ -1,12 +1,14 @@
--- The search for the row of a name: a row compared with it byte by byte, and the rows one after the other.
+-- The search for the row of a name: a row's bytes one after the other, and the rows, each compared with what a row can
+-- hold of it.
 -- Assumes nothing.
 use mathlib.Core.Path.{_≡_, sym, _∙_}
 use mathlib.Core.Bool.{Bool, true, false}
 use mathlib.Core.List.{List}
-use Prim.Native.Nat.{ℕ, _+_, _*_, _-_, _≤_, _<_}
+use Prim.Native.Nat.{ℕ, _+_, _*_, _-_, _≤_, _<_, min}
 use native.Mathlib.Nat.{sub-zero}
 use native.Mathlib.Omega.{arith}
 use lib.ListN.{length, getD}
+use lib.Seq.{slice}
 use Rattle.words.specs.Below.{firstFrom}
 use Rattle.words.proofs.Below.{first-le, first-stops, first-more, first-ends}
 use Rattle.program.specs.Case.{nameSize}
@@ -14,7 +16,11 @@ use Rattle.text.specs.Bytes.{sameBytes}
 use Rattle.text.proofs.Same.{SameFrom, same-none, same-more, same-stops, same-ends}
 use Rattle.table.specs.Filled.{padded}
 use Rattle.table.proofs.Filled.{padded-length, padded-at}
+use Rattle.names.specs.declared.compare.Compared.{Compared}
+use Rattle.names.specs.declared.compare.Compared.the-variants.{Same}
 use Rattle.names.specs.Row.{rowAt, rowOf}
+use Rattle.names.specs.Compared.{comparedAs}
+use Rattle.names.proofs.Compared.{isSame, NotSame, is-same, not-same, slice-front, front-compared}
 
 -- row i of t is w if what is left of it from its byte j on is
 pub record RowFrom (t : List ℕ) (i : ℕ) (w : List ℕ) (j : ℕ) : Type 0 where
@@ -69,3 +75,15 @@ module _ {t : List ℕ} {n : ℕ} {w : List ℕ} {i : ℕ} (h : Searched t n w i
       let e = h .row-is ∙ f in
       let k = h .within in
       omega arith
+
+-- row i is compared with the part of l from a to end, what a row can hold of that from a to e, and c is the outcome
+module _ {t : List ℕ} {n : ℕ} (l : List ℕ) (a e : ℕ) {end i : ℕ} {c : Compared} (h : Searched t n (slice a e l) i)
+    (k : i < n) (q : end ≡ min (a + 16) e) (m : c ≡ comparedAs (rowAt t i) (slice a end l)) where
+  outcome-is : isSame c ≡ sameBytes (rowAt t i) (padded 16 (slice a e l))
+  outcome-is = rw (m, q, slice-front a e 16 l) (front-compared (rowAt t i) (slice a e l))
+
+  pub compared-here : c ≡ Same → i ≡ rowOf t n (slice a e l)
+  compared-here s = searched-here h k outcome-is (is-same c s)
+
+  pub compared-more : NotSame c → Searched t n (slice a e l) (i + 1)
+  compared-more s = searched-more h k outcome-is (not-same c s)

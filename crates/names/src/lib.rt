@@ -1,6 +1,8 @@
 // Names in a table of rows of 16 bytes.
+pub mod compare;
+
 ghost use mathlib.Core.Path.{_≡_};
-ghost use Prim.Native.Nat.{_≤_, _<_};
+ghost use Prim.Native.Nat.{_+_, _≤_, _<_, min};
 ghost use lib.ListN.{length};
 ghost use lib.Seq.{slice};
 ghost use Rattle.program.specs.Case.{nameSize};
@@ -10,6 +12,8 @@ ghost use Rattle.text.specs.Words.{namesIn};
 ghost use Rattle.table.specs.Filled.{padded};
 ghost use Rattle.names.specs.Names.{someLong};
 ghost use Rattle.names.specs.Row.{rowAt, rowOf, rows, rowsWith, rowsThrough};
+use compare::Compared;
+use compare::compare;
 use text::name::NextName;
 use text::name::next_name;
 
@@ -29,14 +33,24 @@ pub fn row_is(names: &[u8], i: usize, l: &[u8], a: usize, e: usize) -> bool
     true
 }
 
-// The first of the count rows that is the part of l from a to e, or count where none is.
+// The end of what a row can hold of the part from a to e.
+fn row_end(a: usize, e: usize) -> usize
+    requires { ⌜ a ≤ e ⌝ }
+    ensures { λ r. ⌜ r ≡ min (a + 16) e ⌝ }
+{
+    if 16 < e - a { a + 16 } else { e }
+}
+
+// The first of the count rows that is the part of l from a to e, or count where none is. Of a longer part a row can be
+// the first 16 bytes, and these are compared.
 pub fn find(names: &[u8], count: usize, l: &[u8], a: usize, e: usize) -> usize
     requires { ⌜ (count ≤ 64) × (nameSize ≤ length (now names)) × (a ≤ e) × (e ≤ length (now l)) ⌝ }
     ensures { λ r. ⌜ r ≡ rowOf (now (names .entry)) count (slice a e (now (l .entry))) ⌝ }
 {
+    let end = row_end(a, e);
     let mut i = 0;
     while i < count {
-        if row_is(names, i, l, a, e) {
+        if let Compared::Same = compare(names, i, l, a, end) {
             return i;
         }
         i += 1;
