@@ -107,7 +107,7 @@ impl Bench {
     }
 
     /// Compares the program's output on `input` with each of `expected`, given with its source.
-    fn compared(&self, input: Input, expected: &[(&str, &[u8])]) -> Result<(), String> {
+    pub fn compared(&self, input: Input, expected: &[(&str, &[u8])]) -> Result<(), String> {
         let got = self.output(input)?;
         let complaint = expected.iter().find_map(|(source, bytes)| differing(source, bytes, &got));
         complaint.map_or(Ok(()), Err)

@@ -83,12 +83,20 @@ fn stored_tests(folders: &[&Path], failures: &mut Vec<String>) -> Vec<Test> {
 }
 
 /// A line for each folder of the files of `tests`, and each kind of them, with their number.
-pub fn by_folder(tests: &[Test]) -> Vec<String> {
+pub fn by_folder<'a>(tests: impl IntoIterator<Item = &'a Test>) -> Vec<String> {
     let mut counts: BTreeMap<String, usize> = BTreeMap::new();
     for test in tests {
         *counts.entry(test.group()).or_insert(0) += 1;
     }
     counts.into_iter().map(|(group, count)| format!("{group}: {count} stored files")).collect()
+}
+
+/// Shows `failures`, then `lines`, and the count of tests last; answers whether all passed.
+pub fn concluded(passed: usize, failures: &[String], lines: &[String]) -> bool {
+    failures.iter().for_each(|failure| println!("failed {failure}"));
+    lines.iter().for_each(|line| println!("{line}"));
+    println!("{passed} passed, {} failed", failures.len());
+    failures.is_empty() && passed > 0
 }
 
 /// Runs `program` on the case files under `folders` and on the generated files, each for at most `limit`; answers
@@ -117,11 +125,9 @@ pub fn check(program: &Path, folders: &[&Path], limit: Duration) -> bool {
         }
     }
     failures.extend(tally.missing().into_iter().map(|what| format!("never occurred: {what}")));
-    for failure in &failures {
-        println!("failed {failure}");
-    }
-    println!("generated: {SAMPLES} files; {}", tally.summary());
-    println!("every model gone through: {} settings of {}", counts.searched, counts.settings);
-    println!("{} passed, {} failed", counts.passed, failures.len());
-    failures.is_empty() && counts.passed > 0
+    let lines = [
+        format!("generated: {SAMPLES} files; {}", tally.summary()),
+        format!("every model gone through: {} settings of {}", counts.searched, counts.settings),
+    ];
+    concluded(counts.passed, &failures, &lines)
 }

@@ -1,7 +1,7 @@
 //! The driver of the program `layers`: its tests, their failures, what occurred, and the count.
 
 use crate::bench::{evaluated, generated_input, Bench, Test};
-use crate::check::{by_folder, files, outcomes};
+use crate::check::{by_folder, concluded, files, outcomes};
 use crate::compare::shown;
 use crate::file::Refusal;
 use crate::layers_answer::{layering, told, Layering};
@@ -100,9 +100,6 @@ pub fn check(program: &Path, folders: &[&Path], limit: Duration) -> bool {
         }
     }
     failures.extend(tally.missing().into_iter().map(|what| format!("never occurred: {what}")));
-    failures.iter().for_each(|failure| println!("failed {failure}"));
-    println!("generated: {} files", SAMPLES + SHAPES);
-    tally.lines().iter().for_each(|line| println!("{line}"));
-    println!("{passed} passed, {} failed", failures.len());
-    failures.is_empty() && passed > 0
+    let lines = [vec![format!("generated: {} files", SAMPLES + SHAPES)], tally.lines()].concat();
+    concluded(passed, &failures, &lines)
 }

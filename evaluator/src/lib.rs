@@ -7,12 +7,14 @@
 //! | model, completion | the step and its iterates; models of the weak completion |
 //! | verdict, question, answer | the verdict on a query, minimal explanations, the text of the answer |
 //! | layers, layers_answer | which atoms depend on which: least numbers and rings; what `layers` should write |
+//! | lookup | a word compared with an entry of the names table |
 //! | held, plain, vectors | the record and the tables of a case, the plain form, the vectors of operations |
 //! | random, names, layout, families | drawn lawful files |
 //! | shapes | drawn files with chains and rings |
 //! | edges, lists, damage, sample | files at the limits, damaged files, the file of a seed |
 //! | run, compare, tally, bench, check | the driver |
 //! | layers_tally, layers_check | the driver of the program `layers` |
+//! | lookup_pairs, lookup_tally, lookup_check | the driver of the program `compare`, and the pairs that it draws |
 //! | tables | tables of the manual |
 
 pub mod answer;
@@ -34,6 +36,10 @@ pub mod layers_check;
 pub mod layers_tally;
 pub mod layout;
 pub mod lists;
+pub mod lookup;
+pub mod lookup_check;
+pub mod lookup_pairs;
+pub mod lookup_tally;
 pub mod model;
 pub mod names;
 pub mod plain;

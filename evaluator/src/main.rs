@@ -2,7 +2,7 @@
 
 use evaluator::case::Case;
 use evaluator::vectors::Vector;
-use evaluator::{answer, check, file, layers_check, sample, tables};
+use evaluator::{answer, check, file, layers_check, lookup_check, sample, tables};
 use std::io::{Read, Write};
 use std::path::Path;
 use std::process::ExitCode;
@@ -13,6 +13,7 @@ const USAGE: &str = "evaluator answer < FILE
 evaluator operation NAME.args
 evaluator check PROGRAM SECONDS FOLDER..
 evaluator layers PROGRAM SECONDS FOLDER..
+evaluator compare PROGRAM SECONDS FOLDER..
 evaluator sample SEED
 evaluator settings NAME.. < FILE
 evaluator caps < FILE
@@ -43,8 +44,8 @@ fn written(lines: &[String]) -> bool {
     std::io::stdout().write_all((lines.join("\n") + "\n").as_bytes()).is_ok()
 }
 
-/// Whether `program`, each run of which may take `seconds`, passes `driver` on the files of `folders` and on generated
-/// ones.
+/// Whether `program`, each run of which may take `seconds`, passes `driver` on what stands in `folders` and on what is
+/// generated.
 fn checked(driver: fn(&Path, &[&Path], Duration) -> bool, program: &str, seconds: &str, folders: &[&str]) -> bool {
     let folders: Vec<&Path> = folders.iter().map(Path::new).collect();
     seconds.parse().is_ok_and(|seconds| driver(Path::new(program), &folders, Duration::from_secs(seconds)))
@@ -58,6 +59,7 @@ fn main() -> ExitCode {
         ["operation", path] => operation(path),
         ["check", program, seconds, folders @ ..] => checked(check::check, program, seconds, folders),
         ["layers", program, seconds, folders @ ..] => checked(layers_check::check, program, seconds, folders),
+        ["compare", program, seconds, folders @ ..] => checked(lookup_check::check, program, seconds, folders),
         ["sample", seed] => seed.parse().is_ok_and(|s| std::io::stdout().write_all(&sample::sample(s).bytes).is_ok()),
         ["settings", shown @ ..] => rows(|case| tables::settings(case, shown)),
         ["caps"] => rows(tables::caps),

@@ -10,6 +10,7 @@
 use crate::file::{Refusal, NAME_BYTES};
 use crate::held::{Held, Record, PART_BYTES};
 use crate::layers::turned;
+use crate::lookup::{Outcome, Pair};
 
 /// The labels of the lines that list a record and tables.
 const LABELS: [&str; 11] = [
@@ -27,12 +28,12 @@ const LABELS: [&str; 11] = [
 ];
 
 /// An operation with its arguments.
-#[derive(Clone, Copy)]
 pub enum Operation {
     Read,
     Settle { setting: u64 },
     Question { slots: usize, bytes: usize },
     Layers,
+    Compare(Pair),
 }
 
 /// What an operation answers, with what it writes to lent memory; of rings those that are told.
@@ -44,6 +45,7 @@ pub enum Answered {
     Asked { verdicts: Vec<u64>, minimal: usize, rounds: u64, list: Vec<u16>, work: Vec<u8> },
     Layered(Vec<u64>),
     Rings(Vec<Vec<usize>>),
+    Compared(Outcome),
 }
 
 /// The number that `word` is.
@@ -152,6 +154,9 @@ impl Operation {
             ["settle", setting] => Ok(Operation::Settle { setting: decimal(setting)? }),
             ["question", slots, bytes] => Ok(Operation::Question { slots: decimal(slots)?, bytes: decimal(bytes)? }),
             ["layers"] => Ok(Operation::Layers),
+            ["compare", word, entry] if !word.is_empty() && (1..=NAME_BYTES).contains(&entry.len()) => {
+                Ok(Operation::Compare(Pair { word: String::from(*word), entry: String::from(*entry) }))
+            }
             _ => Err(format!("{line:?} is no operation")),
         }
     }
@@ -175,6 +180,7 @@ impl Answered {
                 let ring = |atoms: &Vec<usize>| format!("ring {}\n", joined(&turned(atoms), " ", |a| a.to_string()));
                 joined(rings, "", ring)
             }
+            Answered::Compared(outcome) => String::from(outcome.line()),
         }
     }
 }

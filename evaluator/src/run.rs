@@ -1,4 +1,4 @@
-//! Running a program on a file, with a limit on its time.
+//! Running a program on a file or with arguments, with a limit on its time.
 
 use std::fs::File;
 use std::io::{Read, Write};
@@ -9,7 +9,7 @@ use std::sync::mpsc::{channel, Receiver, RecvTimeoutError};
 use std::thread;
 use std::time::{Duration, Instant};
 
-/// What stands on the program's standard input.
+/// What the program gets, on its standard input but for the last.
 pub enum Input {
     /// An opened file.
     Stored(PathBuf),
@@ -17,6 +17,8 @@ pub enum Input {
     Piped(Vec<u8>),
     /// A pipe that gets the bytes in two parts with a pause between them.
     Halved(Vec<u8>),
+    /// Arguments, and an empty input.
+    Arguments(Vec<String>),
 }
 
 /// What a program that ended by itself left behind.
@@ -74,10 +76,15 @@ fn start(program: &Path, input: Input) -> std::io::Result<Child> {
     let stdin = match &input {
         Input::Stored(path) => Stdio::from(File::open(path)?),
         Input::Piped(_) | Input::Halved(_) => Stdio::piped(),
+        Input::Arguments(_) => Stdio::null(),
     };
-    let mut child = Command::new(program).stdin(stdin).stdout(Stdio::piped()).stderr(Stdio::piped()).spawn()?;
+    let mut command = Command::new(program);
+    if let Input::Arguments(words) = &input {
+        command.args(words);
+    }
+    let mut child = command.stdin(stdin).stdout(Stdio::piped()).stderr(Stdio::piped()).spawn()?;
     match input {
-        Input::Stored(_) => (),
+        Input::Stored(_) | Input::Arguments(_) => (),
         Input::Piped(bytes) => feed(&mut child, vec![bytes]),
         Input::Halved(mut bytes) => {
             let rest = bytes.split_off(bytes.len() / 2);

@@ -1,5 +1,5 @@
-//! The vectors of document 02's requests that call an operation: `NAME.args` gives it, `NAME.case` or `NAME.tables` what
-//! it runs on, `NAME.out` its answer.
+//! The vectors of document 02's requests that call an operation: `NAME.args` gives it, `NAME.case` or `NAME.tables`
+//! what it runs on if it takes a case, `NAME.out` its answer.
 
 use crate::case::{causes, Case};
 use crate::file;
@@ -10,10 +10,11 @@ use crate::plain::{tables, Answered, Operation};
 use crate::question::{ask, Engine};
 use std::path::Path;
 
-/// What an operation runs on: a case file that is read first, or a record and tables.
+/// What an operation runs on: a case file that is read first, a record and tables, or its arguments alone.
 pub enum Subject {
     File(Vec<u8>),
     Tables(Box<Held>),
+    Nothing,
 }
 
 /// A vector: an operation, what it runs on, and the text of its answer.
@@ -76,8 +77,11 @@ impl Vector {
         let text = |extension| String::from_utf8(bytes(extension)?).map_err(|e| format!(".{extension}: {e}"));
         let operation = Operation::of(&text("args")?)?;
         let given = !matches!(operation, Operation::Read) && path.with_extension("tables").exists();
-        let subject =
-            if given { Subject::Tables(Box::new(tables(&text("tables")?)?)) } else { Subject::File(bytes("case")?) };
+        let subject = match operation {
+            Operation::Compare(_) => Subject::Nothing,
+            _ if given => Subject::Tables(Box::new(tables(&text("tables")?)?)),
+            _ => Subject::File(bytes("case")?),
+        };
         Ok(Vector { operation, subject, expected: text("out")? })
     }
 
@@ -96,12 +100,14 @@ impl Vector {
                 Ok(case) => Held::of(&case),
                 Err(refusal) => return Answered::Unread(refusal),
             },
+            Subject::Nothing => Held::zeros(),
         };
-        match (self.operation, held.case()) {
+        match (&self.operation, held.case()) {
+            (Operation::Compare(pair), _) => Answered::Compared(pair.outcome()),
             (Operation::Read, _) => Answered::Read(held),
             (_, None) => Answered::Refused(13),
-            (Operation::Settle { setting }, Some(case)) => settled(case, setting),
-            (Operation::Question { slots, bytes }, Some(case)) => asked(case, slots, bytes),
+            (Operation::Settle { setting }, Some(case)) => settled(case, *setting),
+            (Operation::Question { slots, bytes }, Some(case)) => asked(case, *slots, *bytes),
             (Operation::Layers, Some(case)) => layers(&case),
         }
     }
