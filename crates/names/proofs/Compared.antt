@@ -4,17 +4,18 @@
 --   NotSame c     it is one of the two others
 -- Assumes nothing.
 use mathlib.Core.Path.{_≡_, refl, sym, ap, ap₂, _∙_}
-use mathlib.Core.Bool.{Bool, true, false, not, _&&_}
+use mathlib.Core.Bool.{Bool, true, false, not, _&&_, and-self}
 use mathlib.Core.List.{List, [], _∷_}
 use mathlib.Core.Logic.{⊎-elim}
-use Prim.Native.Nat.{ℕ, zero, suc, _+_, _-_, _≤_, _<_, min}
+use Prim.Native.Nat.{ℕ, zero, suc, _+_, _*_, _-_, _≤_, _<_, min}
+use native.Mathlib.Nat.{add-zero}
 use native.Mathlib.Omega.{arith}
 use lib.Dec.{eqb}
 use lib.ListN.{length, getD, take, drop, length-take}
-use lib.Seq.{slice, length-slice, take-take, take-all}
+use lib.Seq.{slice, slice-empty, length-slice, take-take, take-all}
 use denote.Enum.Declared.{tagOf}
 use types.Run.{OneOf, miss}
-use borrow.Author.Tests.{eq-eqb}
+use borrow.Author.Tests.{eq-eqb, ne-eqb}
 use Rattle.words.specs.Choice.{pick}
 use Rattle.words.proofs.Tests.{lt-or-le, by-test, failed, passed}
 use Rattle.text.specs.Bytes.{sameBytes}
@@ -22,24 +23,41 @@ use Rattle.text.proofs.Same.{same-eq}
 use Rattle.text.proofs.Slices.{slice-take}
 use Rattle.table.specs.Filled.{padded}
 use Rattle.table.proofs.Filled.{padded-at}
+use Rattle.table.proofs.Stores.{slice-at}
 use Rattle.names.specs.declared.compare.Compared.{Compared}
 use Rattle.names.specs.declared.compare.Compared.the-variants.{EndsDiffer, Another, Same}
+use Rattle.names.specs.Row.{rowAt}
 use Rattle.names.specs.Compared.{lastPlace, agreeAt, endsAgree, comparedAs}
 use Rattle.names.proofs.compare.Compared.{the-type}
 
--- agreeAt, from the two bytes x and y
-pub agree-by : {x y : ℕ} (row w : List ℕ) (j : ℕ) → x ≡ getD row j 0 → y ≡ getD w j 0 → eqb x y ≡ agreeAt row w j
-agree-by row w j p q = ap₂ eqb p q
+-- endsAgree of row i of t and the part of l from a to e, by bytes of the two
+module _ (t : List ℕ) (i : ℕ) (l : List ℕ) (a e : ℕ) where
+  row-first : getD t (i * 16) 0 ≡ getD (rowAt t i) 0 0
+  row-first = ap (λ (j : ℕ). getD t j 0) (sym (add-zero (i * 16))) ∙ slice-at t (i * 16) (i * 16 + 16) 0 (omega arith)
 
--- endsAgree, from the tests r and s of the two ends
-pub ends-first : {r : Bool} (row w : List ℕ) → r ≡ agreeAt row w 0 → r ≡ false → false ≡ endsAgree row w
-unfolding endsAgree
-ends-first row w e h = rw (← e, h)
+  pub ends-none : a ≤ e → e ≤ a → eqb (getD t (i * 16) 0) 0 ≡ endsAgree (rowAt t i) (slice a e l)
+  unfolding endsAgree
+  ends-none h k =
+      let q : a ≡ e = omega arith in
+      rw (q, slice-empty, ← row-first) (sym (and-self (eqb (getD t (i * 16) 0) 0)))
 
-pub ends-last : {r s : Bool} {j : ℕ} (row l : List ℕ) (a e : ℕ) → r ≡ agreeAt row (slice a e l) 0 → r ≡ true
-    → e ≤ length l → j ≡ (e - a) - 1 → s ≡ agreeAt row (slice a e l) j → s ≡ endsAgree row (slice a e l)
-unfolding endsAgree
-ends-last row l a e q h k p t = rw (← q, h, length-slice a e l k, ← p) t
+  module _ (h : a < e) where
+    word-first : getD l a 0 ≡ getD (slice a e l) 0 0
+    word-first = ap (λ (j : ℕ). getD l j 0) (sym (add-zero a)) ∙ slice-at l a e 0 (omega arith)
+
+    first-is : eqb (getD t (i * 16) 0) (getD l a 0) ≡ agreeAt (rowAt t i) (slice a e l) 0
+    first-is = ap₂ eqb row-first word-first
+
+    pub ends-first : (getD t (i * 16) 0 ≡ getD l a 0 → ⊥)
+        → eqb (getD t (i * 16) 0) (getD l a 0) ≡ endsAgree (rowAt t i) (slice a e l)
+    unfolding endsAgree
+    ends-first f = rw (← first-is, ne-eqb _ _ f)
+
+    pub ends-last : {x : ℕ} → e ≤ length l → getD t (i * 16) 0 ≡ getD l a 0
+        → x ≡ getD (rowAt t i) ((e - a) - 1) 0
+        → eqb x (getD l (a + ((e - a) - 1)) 0) ≡ endsAgree (rowAt t i) (slice a e l)
+    unfolding endsAgree
+    ends-last k f q = rw (← first-is, eq-eqb _ _ f, length-slice a e l k) (ap₂ eqb q (slice-at l a e ((e - a) - 1) (omega arith)))
 
 -- comparedAs, from the tests r of the ends and s of all bytes
 module _ {r : Bool} (row w : List ℕ) (e : r ≡ endsAgree row w) where
