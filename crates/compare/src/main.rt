@@ -1,6 +1,6 @@
-// The program `compare`, for the tests: its arguments are pairs of a word of at most 32 bytes and an entry of at most 16.
-// It writes for each pair how the word compares with the entry. Where an argument is missing, empty or longer, or a line
-// cannot be written, it says so on standard error and ends.
+// The program `compare`, for the tests: its arguments are pairs of a word of at most 32 bytes and an entry of at most
+// 16, and it writes for each pair how the word compares with the entry. Where an argument is missing, empty or longer,
+// or a line cannot be written, it says so on standard error and ends.
 ghost use Prim.Native.Nat.{_≤_};
 use libc::STDERR_FILENO;
 use libc::STDOUT_FILENO;
@@ -23,8 +23,7 @@ fn write_outcome(c: Compared) -> bool {
     }
 }
 
-// Compares argument i with argument j, the entry in a row between rows that are full, and answers whether the outcome is
-// written.
+// Compares argument i with argument j, an entry in a row between full ones, and answers whether the outcome is written.
 fn compare_pair(i: usize, j: usize) -> bool {
     let mut word = [0u8; 32];
     let mut entry = [0u8; 16];

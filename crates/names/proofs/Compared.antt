@@ -30,10 +30,13 @@ use Rattle.names.specs.Row.{rowAt}
 use Rattle.names.specs.Compared.{lastPlace, agreeAt, endsAgree, comparedAs}
 use Rattle.names.proofs.compare.Compared.{the-type}
 
+slice-first : (l : List ℕ) (a e : ℕ) → a < e → getD l a 0 ≡ getD (slice a e l) 0 0
+slice-first l a e h = ap (λ (j : ℕ). getD l j 0) (sym (add-zero a)) ∙ slice-at l a e 0 (omega arith)
+
 -- endsAgree of row i of t and the part of l from a to e, by bytes of the two
 module _ (t : List ℕ) (i : ℕ) (l : List ℕ) (a e : ℕ) where
   row-first : getD t (i * 16) 0 ≡ getD (rowAt t i) 0 0
-  row-first = ap (λ (j : ℕ). getD t j 0) (sym (add-zero (i * 16))) ∙ slice-at t (i * 16) (i * 16 + 16) 0 (omega arith)
+  row-first = slice-first t (i * 16) (i * 16 + 16) (omega arith)
 
   pub ends-none : a ≤ e → e ≤ a → eqb (getD t (i * 16) 0) 0 ≡ endsAgree (rowAt t i) (slice a e l)
   unfolding endsAgree
@@ -42,11 +45,8 @@ module _ (t : List ℕ) (i : ℕ) (l : List ℕ) (a e : ℕ) where
       rw (q, slice-empty, ← row-first) (sym (and-self (eqb (getD t (i * 16) 0) 0)))
 
   module _ (h : a < e) where
-    word-first : getD l a 0 ≡ getD (slice a e l) 0 0
-    word-first = ap (λ (j : ℕ). getD l j 0) (sym (add-zero a)) ∙ slice-at l a e 0 (omega arith)
-
     first-is : eqb (getD t (i * 16) 0) (getD l a 0) ≡ agreeAt (rowAt t i) (slice a e l) 0
-    first-is = ap₂ eqb row-first word-first
+    first-is = ap₂ eqb row-first (slice-first l a e h)
 
     pub ends-first : (getD t (i * 16) 0 ≡ getD l a 0 → ⊥)
         → eqb (getD t (i * 16) 0) (getD l a 0) ≡ endsAgree (rowAt t i) (slice a e l)
@@ -57,7 +57,9 @@ module _ (t : List ℕ) (i : ℕ) (l : List ℕ) (a e : ℕ) where
         → x ≡ getD (rowAt t i) ((e - a) - 1) 0
         → eqb x (getD l (a + ((e - a) - 1)) 0) ≡ endsAgree (rowAt t i) (slice a e l)
     unfolding endsAgree
-    ends-last k f q = rw (← first-is, eq-eqb _ _ f, length-slice a e l k) (ap₂ eqb q (slice-at l a e ((e - a) - 1) (omega arith)))
+    ends-last k f q =
+        rw (← first-is, eq-eqb _ _ f, length-slice a e l k)
+        (ap₂ eqb q (slice-at l a e ((e - a) - 1) (omega arith)))
 
 -- comparedAs, from the tests r of the ends and s of all bytes
 module _ {r : Bool} (row w : List ℕ) (e : r ≡ endsAgree row w) where
@@ -76,7 +78,7 @@ module _ {r : Bool} (row w : List ℕ) (e : r ≡ endsAgree row w) where
 
 -- what a row can hold of a word
 
-pub padded-take : (n : ℕ) (w : List ℕ) → padded n (take n w) ≡ padded n w
+padded-take : (n : ℕ) (w : List ℕ) → padded n (take n w) ≡ padded n w
 unfolding padded
 padded-take zero w = refl
 padded-take (suc n) [] = refl
@@ -85,10 +87,16 @@ padded-take (suc n) (b ∷ w) = ap (λ (l : List ℕ). b ∷ l) (padded-take n w
 pub slice-front : (a e n : ℕ) (l : List ℕ) → slice a (min (a + n) e) l ≡ take n (slice a e l)
 slice-front a e n l = ap (drop a) cut ∙ slice-take a n (take e l)
   where
+    within : a + n < e → take (min (a + n) e) l ≡ take (a + n) (take e l)
+    within h = let q : min (a + n) e ≡ a + n = omega arith in rw q (sym (take-take (a + n) e l (omega arith)))
+
+    past : e ≤ a + n → take (min (a + n) e) l ≡ take (a + n) (take e l)
+    past h =
+        let q : min (a + n) e ≡ e = omega arith in
+        rw q (sym (take-all (a + n) (take e l) (omega (arith, length-take e l))))
+
     cut : take (min (a + n) e) l ≡ take (a + n) (take e l)
-    cut = ⊎-elim (λ (h : a + n < e). let q : min (a + n) e ≡ a + n = omega arith in rw q (sym (take-take (a + n) e l (omega arith))))
-        (λ (h : e ≤ a + n). let q : min (a + n) e ≡ e = omega arith in rw q (sym (take-all (a + n) (take e l) (omega (arith, length-take e l)))))
-        (lt-or-le (a + n) e)
+    cut = ⊎-elim within past (lt-or-le (a + n) e)
 
 -- isSame
 
@@ -111,7 +119,7 @@ unfolding isSame
 is-same c e = rw e
 
 -- a row that is a word of at most 16 bytes has its ends
-pub same-ends : (row w : List ℕ) → length w ≤ 16 → sameBytes row (padded 16 w) ≡ true → endsAgree row w ≡ true
+same-ends : (row w : List ℕ) → length w ≤ 16 → sameBytes row (padded 16 w) ≡ true → endsAgree row w ≡ true
 unfolding endsAgree
 same-ends row w h e = ap₂ _&&_ (at 0 (omega arith)) (at (lastPlace w) (omega arith))
   where
@@ -130,4 +138,5 @@ same-compared row w h =
     other false = refl
 
 pub front-compared : (row w : List ℕ) → isSame (comparedAs row (take 16 w)) ≡ sameBytes row (padded 16 w)
-front-compared row w = same-compared row (take 16 w) (omega (arith, length-take 16 w)) ∙ ap (sameBytes row) (padded-take 16 w)
+front-compared row w =
+    same-compared row (take 16 w) (omega (arith, length-take 16 w)) ∙ ap (sameBytes row) (padded-take 16 w)

@@ -1,10 +1,8 @@
--- What specs/Claims.antt claims. Assumes nothing.
+-- What is claimed of names is so. Assumes nothing.
 use mathlib.Core.Path.{sym, subst}
 use mathlib.Core.List.{[]}
-use Prim.Native.Nat.{_≤_, _<_}
 use native.Mathlib.Omega.{arith}
 use lib.ListN.{getD}
-use Rattle.names.specs.Row.{rowAt}
 use Rattle.names.specs.Compared.{comparedAs}
 use Rattle.names.specs.Claims.{OutcomeOf, ComparedExact}
 use Rattle.names.proofs.Held.{all-named-at, held-row}

@@ -27,6 +27,4 @@ unfoldable pub endsAgree : List ℕ → List ℕ → Bool
 endsAgree row w = agreeAt row w 0 && agreeAt row w (lastPlace w)
 
 unfoldable pub comparedAs : List ℕ → List ℕ → Compared
-comparedAs row w =
-    let inner = pick (sameBytes row (padded 16 w)) Same Another in
-    pick (endsAgree row w) inner EndsDiffer
+comparedAs row w = pick (endsAgree row w) (pick (sameBytes row (padded 16 w)) Same Another) EndsDiffer

@@ -1,4 +1,5 @@
 -- A names table that holds names.
+-- From: document 01, "Case tables" (names, 64 × 16 bytes, row i for atom i, zero-filled at the end).
 --
 --   Named w             w is at most 16 bytes long and has no byte 0
 --   Holds ns t          the bytes of the table t that reading fills are the rows of the names ns and zeros

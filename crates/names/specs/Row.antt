@@ -1,4 +1,5 @@
 -- The rows of a names table: the names in them, the row of a name, and names put into rows.
+-- From: document 01, "Case tables" (names, 64 × 16 bytes, row i for atom i, zero-filled at the end).
 --
 --   rowAt t i            row i of the table t, 16 bytes
 --   nameIn t a           the name in row a of the table t: its bytes before the first zero, at most 16

@@ -16,7 +16,8 @@ pub enum Compared {
     Same,
 }
 
-// Whether row i has the first and the last byte of the part of l from a to e at their places; an empty part has 0 there.
+// Whether row i has the first and the last byte of the part of l from a to e at their places; of an empty part both
+// are 0.
 fn ends_agree(names: &[u8], i: usize, l: &[u8], a: usize, e: usize) -> bool
     requires { ⌜ (i < 64) × (nameSize ≤ length (now names)) × (a ≤ e) × (e ≤ length (now l)) ⌝ }
     ensures { λ r. ⌜ r ≡ endsAgree (rowAt (now (names .entry)) i) (slice a e (now (l .entry))) ⌝ }
