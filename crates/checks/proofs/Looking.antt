@@ -12,7 +12,7 @@ use Rattle.text.specs.Bytes.{isAllowed, allOf}
 use Rattle.text.specs.Lines.{isComment}
 use Rattle.text.specs.Tokens.{tokens}
 use Rattle.grammar.specs.declared.line.Form.{Form}
-use Rattle.grammar.specs.declared.line.Form.the-variants.{Skipped, NoForm, Clause, Never, Seen, Query}
+use Rattle.grammar.specs.declared.line.Form.the-variants.{Skipped, NoForm, Clause, Constraint, Seen, Query}
 use Rattle.grammar.specs.Line.{Line, isLine}
 use Rattle.grammar.specs.LineOf.{lineOf, isNoForm}
 use Rattle.grammar.specs.Parsing.{FormIs, FormFound}
@@ -30,7 +30,7 @@ other-form : (l : List ℕ) (x : Form) (y : Line) → OneOf others (tagOf the-ty
 other-form l Skipped y o f = rw f
 other-form l NoForm y o f = absurd (miss others 1 tt o)
 other-form l (Clause k a e at) y o f = rw (f .2 .line-is)
-other-form l (Never at) y o f = rw (f .line-is)
+other-form l (Constraint k at) y o f = rw (f .1 .line-is)
 other-form l (Seen at) y o f = rw (f .line-is)
 other-form l (Query at d) y o f = rw (f .line-is)
 

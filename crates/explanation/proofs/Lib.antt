@@ -8,6 +8,7 @@
 -- Rows: 64 bits of the row of covered settings, and the lanes in which one digit dropped leads to a bit.
 -- Lanes: the bits of a block's settings, and of the settings that lack one digit of them.
 -- Larger: the word of covered settings, taken to its fixed point, is exact.
+-- Theorems: the claims.
 pub mod Explaining
 pub mod Subsets
 pub mod Minimal
@@ -18,3 +19,4 @@ pub mod Shifting
 pub mod Rows
 pub mod Lanes
 pub mod Larger
+pub mod Theorems

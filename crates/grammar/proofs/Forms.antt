@@ -6,13 +6,13 @@ use mathlib.Core.Path.{_≡_, refl, sym, ap, _∙_, subst}
 use mathlib.Core.Bool.{true, false, true≢false}
 use mathlib.Core.List.{List, [], _∷_}
 use mathlib.Core.Option.{Option}
-use Prim.Native.Nat.{ℕ, _≤_}
+use Prim.Native.Nat.{ℕ, _-_, _≤_, _<_}
 use native.Mathlib.Omega.{arith}
 use lib.ListN.{length, drop}
 use lib.Seq.{slice}
 use denote.Enum.Declared.{tagOf}
 use types.Run.{OneOf, miss}
-use borrow.Author.Tests.{eqb-true, ne-eqb}
+use borrow.Author.Tests.{eqb-true, lt-ltb, le-ltb, ne-eqb}
 use Rattle.words.specs.Choice.{pick}
 use Rattle.text.specs.Tokens.{Token, tokens}
 use Rattle.text.specs.Words.{beginsWithLetter}
@@ -33,7 +33,7 @@ use Rattle.grammar.specs.LineOf.{withBody, seenOf, bodyLine, withItems, 
 use Rattle.grammar.specs.Parsing.{endsItems, bodyIn, fitsBody, hasBody, BodyMakes}
 use Rattle.grammar.specs.Parsing.{endsLine, FormAfter, FormFound}
 use Rattle.grammar.specs.declared.line.Form.{Form}
-use Rattle.grammar.specs.declared.line.Form.the-variants.{Skipped, NoForm, Clause, Never, Seen, Query}
+use Rattle.grammar.specs.declared.line.Form.the-variants.{Skipped, NoForm, Clause, Constraint, Seen, Query}
 use Rattle.grammar.proofs.KindLaws.{fit-body, unfit-body, kind-unnamed, kind-named, body-kind}
 
 -- The ways out of `ends_line`
@@ -121,11 +121,11 @@ module _ {l : List ℕ} {at k : ℕ} {r : Next} where
 -- The ways out of `query_form`
 
 query-line : (f : Sentence) (x : Items)
-    → withItems 5 (prepend (Item.formula f) x) ≡ pick (endsItems x) (Line.query f) Line.noForm
+    → withItems 6 (prepend (Item.formula f) x) ≡ pick (endsItems x) (Line.query f) Line.noForm
 query-line f Option.none = refl
 query-line f (Option.some l) = refl
 
-none-line : (x : Items) → beginsFormula x ≡ false → withItems 5 x ≡ Line.noForm
+none-line : (x : Items) → beginsFormula x ≡ false → withItems 6 x ≡ Line.noForm
 none-line Option.none h = refl
 none-line (Option.some []) h = refl
 none-line (Option.some (Item.closing ∷ l)) h = refl
@@ -139,20 +139,20 @@ ends-is (Option.some (Item.closing ∷ [])) h = refl
 ends-is (Option.some (Item.closing ∷ (i ∷ l))) h = absurd (true≢false (sym h))
 
 module _ {l : List ℕ} {at : ℕ} {r : Parse} where
-  pub query-none : r ≡ NoFormula → Parsed l at r → FormAfter l at 5 NoForm
+  pub query-none : r ≡ NoFormula → Parsed l at r → FormAfter l at 6 NoForm
   query-none e p = record { form-is = none-line (itemsOf (tokens (drop at l))) (parsed-as l at p e) }
 
   module _ {next d : ℕ} (e : r ≡ Formula next d) (p : Parsed l at r) where
     formula : FormulaAt l at next d
     formula = parsed-as l at p e
 
-    pub query-unended : endsLine l next ≡ false → FormAfter l at 5 NoForm
+    pub query-unended : endsLine l next ≡ false → FormAfter l at 6 NoForm
     unfolding endsLine
     query-unended h = record {
       form-is = rw (formula .items-are) (query-line (formula .sentence) (itemsOf (tokens (drop next l))) ∙ rw h);
     }
 
-    pub query-found : endsLine l next ≡ true → FormAfter l at 5 (Query at d)
+    pub query-found : endsLine l next ≡ true → FormAfter l at 6 (Query at d)
     unfolding endsLine
     query-found h =
         let q = formula in
@@ -162,23 +162,26 @@ module _ {l : List ℕ} {at : ℕ} {r : Parse} where
             sentence = q .sentence;
             items-are = f;
             depth-is = q .depth-is;
-            line-is = ap (withItems 5) f;
+            line-is = ap (withItems 6) f;
           };
         }
 
 -- The ways out of `form_of_kind`
 
-one-literal : (x : Option (List Literal)) → fitsBody 4 x ≡ true → (a : Literal) × (x ≡ Option.some (a ∷ []))
+one-literal : (x : Option (List Literal)) → fitsBody 5 x ≡ true → (a : Literal) × (x ≡ Option.some (a ∷ []))
 one-literal Option.none h = absurd (true≢false (sym h))
 one-literal (Option.some []) h = absurd (omega (arith, eqb-true 0 1 h))
 one-literal (Option.some (a ∷ [])) h = (a, refl)
 one-literal (Option.some (a ∷ (b ∷ ls))) h = absurd (omega (arith, eqb-true (length (a ∷ (b ∷ ls))) 1 h))
 
-other-kind : (k : ℕ) (ls : List Literal) → (k ≡ 3 → ⊥) → (k ≡ 4 → ⊥) → bodyLine k ls ≡ Line.noForm
-other-kind k ls a b = rw (ne-eqb k 3 a, ne-eqb k 4 b)
+pub constraint-kind : (k : ℕ) (ls : List Literal) → k < 5 → bodyLine k ls ≡ Line.constraint (k - 3) ls
+constraint-kind k ls h = rw (lt-ltb k 5 h)
+
+other-kind : (k : ℕ) (ls : List Literal) → 5 ≤ k → (k ≡ 5 → ⊥) → bodyLine k ls ≡ Line.noForm
+other-kind k ls h n = rw (le-ltb k 5 h, ne-eqb k 5 n)
 
 -- a line of literals alone
-literals-line : (l : List ℕ) (at k : ℕ) → 3 ≤ k → (k ≡ 5 → ⊥)
+literals-line : (l : List ℕ) (at k : ℕ) → 3 ≤ k → (k ≡ 6 → ⊥)
     → withItems k (itemsOf (tokens (drop at l))) ≡ withBody k (bodyLine k) (bodyIn (tokens (drop at l)))
 literals-line l at k i n = body-kind k (itemsOf (tokens (drop at l))) i n
 
@@ -186,28 +189,37 @@ module _ {l : List ℕ} {at k : ℕ} where
   pub form-as : {j : ℕ} {r : Form} → k ≡ j → FormAfter l at j r → FormAfter l at k r
   form-as {r = r} e f = subst (λ j. FormAfter l at j r) (sym e) f
 
-  pub form-unfit : 3 ≤ k → (k ≡ 5 → ⊥) → hasBody l at k ≡ false → FormAfter l at k NoForm
+  pub form-unfit : 3 ≤ k → (k ≡ 6 → ⊥) → hasBody l at k ≡ false → FormAfter l at k NoForm
   unfolding hasBody
   form-unfit i n h = record {
     form-is = literals-line l at k i n ∙ unfit-body k (bodyLine k) (bodyIn (tokens (drop at l))) h;
   }
 
-  pub form-never : k ≡ 3 → hasBody l at k ≡ true → FormAfter l at k (Never at)
-  form-never e h =
-      let makes = body-makes 3 Line.never (literals-line l at 3 (omega arith) (λ z. omega arith)) (rw e at h) in
-      form-as e (record { form-is = makes })
+  pub form-constraint : 3 ≤ k → k < 5 → hasBody l at k ≡ true → FormAfter l at k (Constraint (k - 3) at)
+  form-constraint i j h =
+      let makes = body-makes k (bodyLine k) (literals-line l at k i (λ z. omega arith)) h in
+      record {
+        form-is = (
+          omega arith,
+          record {
+            literals = makes .literals;
+            literals-are = makes .literals-are;
+            line-is = makes .line-is ∙ constraint-kind k (makes .literals) j;
+          },
+        );
+      }
 
-  pub form-seen : k ≡ 4 → hasBody l at k ≡ true → FormAfter l at k (Seen at)
+  pub form-seen : k ≡ 5 → hasBody l at k ≡ true → FormAfter l at k (Seen at)
   unfolding hasBody
   form-seen e h =
       let o = one-literal (bodyIn (tokens (drop at l))) (rw e at h) in
-      let f = literals-line l at 4 (omega arith) (λ z. omega arith) ∙ ap (withBody 4 seenOf) (o .1) in
+      let f = literals-line l at 5 (omega arith) (λ z. omega arith) ∙ ap (withBody 5 seenOf) (o .1) in
       form-as e (record { form-is = record { reading = o .0; literals-are = o .1; line-is = f } })
 
-  pub form-other : 3 ≤ k → (k ≡ 5 → ⊥) → hasBody l at k ≡ true → (k ≡ 3 → ⊥) → (k ≡ 4 → ⊥) → FormAfter l at k NoForm
-  form-other i n h a b =
-      let makes = body-makes k (bodyLine k) (literals-line l at k i n) h in
-      record { form-is = makes .line-is ∙ other-kind k (makes .literals) a b }
+  pub form-other : 5 ≤ k → (k ≡ 6 → ⊥) → hasBody l at k ≡ true → (k ≡ 5 → ⊥) → FormAfter l at k NoForm
+  form-other i n h m =
+      let makes = body-makes k (bodyLine k) (literals-line l at k (omega arith) n) h in
+      record { form-is = makes .line-is ∙ other-kind k (makes .literals) i m }
 
 -- The ways out of `form_of`
 

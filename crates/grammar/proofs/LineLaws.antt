@@ -4,13 +4,13 @@
 --   bringsOf x      what a line of the form x brings
 --   Bodied ls       there is a literal
 --   ClauseShaped k  the literals of a clause of kind k are as many as it takes
---   Shaped n x      the bodies of the line x have a literal, its query at most n / 2 nodes
+--   Shaped n x      the bodies of the line x have a literal, a constraint its kind, a query at most n / 2 nodes
 -- Assumes nothing.
 use mathlib.Core.Path.{_≡_, refl, sym, ap, _∙_, subst}
 use mathlib.Core.Bool.{true, false}
 use mathlib.Core.List.{List, [], _∷_, _++_, append-assoc, append-nil}
 use mathlib.Core.Logic.{inl, inr}
-use Prim.Native.Nat.{ℕ, zero, suc, _*_, _≤_, _<_}
+use Prim.Native.Nat.{ℕ, zero, suc, _+_, _*_, _≤_, _<_}
 use native.Mathlib.Omega.{arith}
 use lib.Dec.{ltb}
 use lib.ListN.{length, getD}
@@ -34,10 +34,11 @@ use Rattle.grammar.specs.Line.{isLine, bodyNames, lineNames, bringing}
 use Rattle.grammar.specs.LineOf.{lineOf}
 use Rattle.grammar.specs.Parsing.{Brought}
 use Rattle.grammar.specs.declared.line.Form.{Form}
-use Rattle.grammar.specs.declared.line.Form.the-variants.{Skipped, NoForm, Clause, Never, Seen, Query}
+use Rattle.grammar.specs.declared.line.Form.the-variants.{Skipped, NoForm, Clause, Constraint, Seen, Query}
 use Rattle.grammar.specs.declared.brings.Brings.{Brings}
 use Rattle.grammar.proofs.line.Form.{the-type}
-use Rattle.grammar.proofs.Spelling.{sentence-read, clause-parts, Right, line-right, line-spells}
+use Rattle.grammar.proofs.Spelling.{sentence-read, clause-parts, constraint-parts}
+use Rattle.grammar.proofs.Spelling.{Right, line-right, line-spells}
 
 -- Names
 
@@ -62,10 +63,10 @@ names-are Line.skipped = names-end
 names-are Line.noForm = names-end
 names-are (Line.clause k w ls) =
     form-names (getD lineWords k []) (Token.word w ∷ bodyTokens ls) (rw (names-name, body-names ls))
-names-are (Line.never ls) = form-names (getD lineWords 3 []) (bodyTokens ls) (body-names ls _)
+names-are (Line.constraint k ls) = form-names (getD lineWords (3 + k) []) (bodyTokens ls) (body-names ls _)
 names-are (Line.seen x) =
-    form-names (getD lineWords 4 []) (tokensOf (ofLiteral x)) (sentence-names (ofLiteral x) _) ∙ literal-names x
-names-are (Line.query f) = form-names (getD lineWords 5 []) (tokensOf f) (sentence-names f _)
+    form-names (getD lineWords 5 []) (tokensOf (ofLiteral x)) (sentence-names (ofLiteral x) _) ∙ literal-names x
+names-are (Line.query f) = form-names (getD lineWords 6 []) (tokensOf f) (sentence-names f _)
 
 pub line-names : (ts : List Token) → isLine (lineOf ts) ≡ true → namesIn ts ≡ lineNames (lineOf ts)
 line-names ts h = sym (ap namesIn (line-spells ts h)) ∙ names-are (lineOf ts)
@@ -87,7 +88,7 @@ line-lettered Line.skipped h = tt
 line-lettered Line.noForm h = tt
 line-lettered (Line.clause k w ls) h =
     let p = clause-parts {k = k} {w = w} {ls = ls} h in (p .head, body-lettered ls (p .body))
-line-lettered (Line.never ls) h = body-lettered ls (and-true-both (areNamed ls) (takes 3 (length ls)) h .0)
+line-lettered (Line.constraint k ls) h = body-lettered ls (constraint-parts {k = k} {ls = ls} h .body)
 line-lettered (Line.seen x) h = rw (literal-names x) at (sentence-lettered (ofLiteral x) h)
 line-lettered (Line.query f) h = sentence-lettered f h
 
@@ -97,7 +98,7 @@ abbrev bringsOf : Form → Brings
 bringsOf Skipped = bringing 0 0 0 0
 bringsOf NoForm = bringing 0 0 0 0
 bringsOf (Clause k a e at) = bringing 1 0 0 0
-bringsOf (Never at) = bringing 0 1 0 0
+bringsOf (Constraint k at) = bringing 0 1 0 0
 bringsOf (Seen at) = bringing 0 0 0 0
 bringsOf (Query at d) = bringing 0 0 1 d
 
@@ -105,7 +106,7 @@ brought : (x : Form) → Brought x (bringsOf x)
 brought Skipped l y h = rw h
 brought NoForm l y h = rw h
 brought (Clause k a e at) l y h = rw (h .2 .line-is)
-brought (Never at) l y h = rw (h .line-is)
+brought (Constraint k at) l y h = rw (h .1 .line-is)
 brought (Seen at) l y h = rw (h .line-is)
 brought (Query at d) l y h = rw (h .line-is, h .depth-is)
 
@@ -114,7 +115,7 @@ pub brought-nothing : (x : Form) → OneOf (0 ∷ (1 ∷ (4 ∷ []))) (tagOf the
 brought-nothing Skipped h = brought Skipped
 brought-nothing NoForm h = brought NoForm
 brought-nothing (Clause k a e at) h = absurd (miss (0 ∷ (1 ∷ (4 ∷ []))) 2 tt h)
-brought-nothing (Never at) h = absurd (miss (0 ∷ (1 ∷ (4 ∷ []))) 3 tt h)
+brought-nothing (Constraint k at) h = absurd (miss (0 ∷ (1 ∷ (4 ∷ []))) 3 tt h)
 brought-nothing (Seen at) h = brought (Seen at)
 brought-nothing (Query at d) h = absurd (miss (0 ∷ (1 ∷ (4 ∷ []))) 5 tt h)
 
@@ -138,7 +139,7 @@ abbrev pub Shaped : ℕ → Line → Type 0
 Shaped n Line.skipped = Unit {0}
 Shaped n Line.noForm = Unit {0}
 Shaped n (Line.clause k w ls) = ClauseShaped k ls
-Shaped n (Line.never ls) = Bodied ls
+Shaped n (Line.constraint k ls) = (k < 2) × Bodied ls
 Shaped n (Line.seen x) = Unit {0}
 Shaped n (Line.query f) = 2 * sizeOf f ≤ n
 
@@ -156,12 +157,17 @@ clause-shaped (suc zero) ls i h = no-literal ls (eqb-true (length ls) 0 h)
 clause-shaped (suc (suc zero)) ls i h = some-literal ls h
 clause-shaped (suc (suc (suc k))) ls i h = absurd (omega arith)
 
+constraint-shaped : (k : ℕ) (ls : List Literal) → k < 2 → takes (3 + k) (length ls) ≡ true → (k < 2) × Bodied ls
+constraint-shaped zero ls i h = (i, some-literal ls h)
+constraint-shaped (suc zero) ls i h = (i, some-literal ls h)
+constraint-shaped (suc (suc k)) ls i h = absurd (omega arith)
+
 shaped : (x : Line) → isLine x ≡ true → Shaped (length (lineTokens x)) x
 unfolding isLine lineTokens
 shaped Line.skipped h = tt
 shaped Line.noForm h = tt
 shaped (Line.clause k w ls) h = let p = clause-parts h in clause-shaped k ls (p .kind-lt) (p .fits)
-shaped (Line.never ls) h = some-literal ls (and-true-both (areNamed ls) (takes 3 (length ls)) h .1)
+shaped (Line.constraint k ls) h = let p = constraint-parts h in constraint-shaped k ls (p .kind-lt) (p .fits)
 shaped (Line.seen x) h = tt
 shaped (Line.query f) h =
     omega (arith, formula-size (tokensOf f ++ (Token.closing ∷ [])) f (Item.closing ∷ []) (sentence-read f h))

@@ -9,11 +9,11 @@ use mathlib.Core.Bool.{Bool, true, false, not, true≢false}
 use mathlib.Core.List.{List, [], _∷_, _++_, append-assoc, append-nil}
 use mathlib.Core.Logic.{_⊎_, inl, inr}
 use mathlib.Core.Option.{Option}
-use Prim.Native.Nat.{ℕ, _≤_, _<_}
+use Prim.Native.Nat.{ℕ, _+_, _-_, _≤_, _<_}
 use native.Mathlib.Omega.{arith}
 use lib.Dec.{eqb, ltb}
 use lib.ListN.{length, getD}
-use borrow.Author.Tests.{ltb-true, lt-ltb, eqb-true}
+use borrow.Author.Tests.{ltb-true, ltb-false, lt-ltb, eqb-true}
 use Rattle.words.specs.Choice.{pick}
 use Rattle.text.specs.Tokens.{Token}
 use Rattle.text.specs.Words.{beginsWithLetter}
@@ -30,7 +30,7 @@ use Rattle.grammar.specs.LineOf.{withSentence, literalsOf, withBody, see
 use Rattle.grammar.specs.LineOf.{withItems, kindOf, lineOf, isNoForm}
 use Rattle.grammar.specs.Parsing.{literalsAmong, bodyIn}
 use Rattle.grammar.proofs.KindLaws.{word-kind, kind-word, fit-body, body-kind}
-use Rattle.grammar.proofs.Forms.{clause-is}
+use Rattle.grammar.proofs.Forms.{clause-is, constraint-kind}
 
 -- What is spelled is read
 
@@ -66,7 +66,7 @@ unfolding lineOf
 word-read k ts h = rw (word-kind k h)
 
 -- and where these are literals
-literals-read : (k : ℕ) (ts : List Token) (ls : List Literal) → k < length lineWords → 3 ≤ k → (k ≡ 5 → ⊥)
+literals-read : (k : ℕ) (ts : List Token) (ls : List Literal) → k < length lineWords → 3 ≤ k → (k ≡ 6 → ⊥)
     → bodyIn (ts ++ (Token.closing ∷ [])) ≡ Option.some ls → takes k (length ls) ≡ true
     → lineOf (formTokens (getD lineWords k []) ts) ≡ bodyLine k ls
 literals-read k ts ls h i n e t =
@@ -96,28 +96,45 @@ clause-read k w ls h =
     word-read k (Token.word w ∷ bodyTokens ls) (omega arith) ∙ clause-is k (omega arith) refl (p .head)
     ∙ ap (withBody k (Line.clause k w)) (body-read ls (p .body)) ∙ fit-body k (Line.clause k w) ls (p .fits)
 
-never-read : (ls : List Literal) → isLine (Line.never ls) ≡ true → lineOf (lineTokens (Line.never ls)) ≡ Line.never ls
-unfolding isLine lineTokens
-never-read ls h =
-    let a = and-true-both (areNamed ls) (takes 3 (length ls)) h in
-    literals-read 3 (bodyTokens ls) ls (omega arith) (omega arith) (λ z. omega arith) (body-read ls (a .0)) (a .1)
+-- what a constraint that passes isLine is made of
+pub record ConstraintParts (k : ℕ) (ls : List Literal) : Type 0 where
+  pub kind-lt : k < 2
+  pub body : areNamed ls ≡ true
+  pub fits : takes (3 + k) (length ls) ≡ true
+
+pub constraint-parts : {k : ℕ} {ls : List Literal} → isLine (Line.constraint k ls) ≡ true → ConstraintParts k ls
+unfolding isLine
+constraint-parts {k} h =
+    let a = and-true-both _ _ h in
+    let b = and-true-both _ _ (a .0) in
+    record { kind-lt = ltb-true k 2 (b .0); body = b .1; fits = a .1 }
+
+constraint-read : (k : ℕ) (ls : List Literal) → isLine (Line.constraint k ls) ≡ true
+    → lineOf (lineTokens (Line.constraint k ls)) ≡ Line.constraint k ls
+unfolding lineTokens
+constraint-read k ls h =
+    let p = constraint-parts h in
+    let e : 3 + k - 3 ≡ k = omega arith in
+    literals-read (3 + k) (bodyTokens ls) ls (omega arith) (omega arith) (λ z. omega arith) (body-read ls (p .body))
+    (p .fits)
+    ∙ constraint-kind (3 + k) ls (omega arith) ∙ ap (λ (i : ℕ). Line.constraint i ls) e
 
 seen-read : (x : Literal) → isLine (Line.seen x) ≡ true → lineOf (lineTokens (Line.seen x)) ≡ Line.seen x
 unfolding isLine lineTokens literalsOf
 seen-read x h =
     let e = ap literalsAmong (sentence-read (ofLiteral x) h) ∙ among-literal x (Option.some (Item.closing ∷ [])) in
-    literals-read 4 (tokensOf (ofLiteral x)) (x ∷ []) (omega arith) (omega arith) (λ z. omega arith) e refl
+    literals-read 5 (tokensOf (ofLiteral x)) (x ∷ []) (omega arith) (omega arith) (λ z. omega arith) e refl
 
 query-read : (f : Sentence) → isLine (Line.query f) ≡ true → lineOf (lineTokens (Line.query f)) ≡ Line.query f
 unfolding isLine lineTokens
-query-read f h = word-read 5 (tokensOf f) (omega arith) ∙ ap (withItems 5) (sentence-read f h)
+query-read f h = word-read 6 (tokensOf f) (omega arith) ∙ ap (withItems 6) (sentence-read f h)
 
 pub line-read : (x : Line) → isLine x ≡ true → lineOf (lineTokens x) ≡ x
 unfolding isLine lineTokens lineOf
 line-read Line.skipped h = refl
 line-read Line.noForm h = absurd (true≢false (sym h))
 line-read (Line.clause k w ls) h = clause-read k w ls h
-line-read (Line.never ls) h = never-read ls h
+line-read (Line.constraint k ls) h = constraint-read k ls h
 line-read (Line.seen x) h = seen-read x h
 line-read (Line.query f) h = query-read f h
 
@@ -177,7 +194,7 @@ module _ (w : List ℕ) (ts : List Token) where
       (λ ls b t.
       inr (rw (lt-ltb k 3 i, ← name-is-sentence v, h .1 .0, b .1, t), rw (e, h .0, name-tokens, b .0)))
 
-  query-right : (m : List Item) → w ≡ getD lineWords 5 [] → Spells ts (Option.some m) → Right opened (queryOf m)
+  query-right : (m : List Item) → w ≡ getD lineWords 6 [] → Spells ts (Option.some m) → Right opened (queryOf m)
   unfolding spelledItems lineTokens isLine
   query-right [] e h = inl refl
   query-right (Item.closing ∷ m) e h = inl refl
@@ -187,7 +204,7 @@ module _ (w : List ℕ) (ts : List Token) where
   query-right (Item.formula f ∷ (Item.closing ∷ [])) e h = inr (h .1 .0, rw (e, h .0))
 
   -- lines of literals alone
-  seen-right : (m : List Item) (ls : List Literal) → w ≡ getD lineWords 4 [] → Spells ts (Option.some m)
+  seen-right : (m : List Item) (ls : List Literal) → w ≡ getD lineWords 5 [] → Spells ts (Option.some m)
       → BodySpells m (Option.some ls) → Right opened (seenOf ls)
   unfolding lineTokens isLine areNamed bodyTokens
   seen-right m [] e h b = inl refl
@@ -195,26 +212,30 @@ module _ (w : List ℕ) (ts : List Token) where
   seen-right m (x ∷ []) e h b = inr (and-true-both _ _ (b .1) .0, rw (e, h .0, b .0, append-nil))
 
   module _ (m : List Item) (ls : List Literal) (h : Spells ts (Option.some m)) (b : BodySpells m (Option.some ls)) where
-    never-right : w ≡ getD lineWords 3 [] → takes 3 (length ls) ≡ true → Right opened (Line.never ls)
+    constraint-right : (k : ℕ) → k < 2 → w ≡ getD lineWords (3 + k) [] → takes (3 + k) (length ls) ≡ true
+        → Right opened (Line.constraint k ls)
     unfolding lineTokens isLine
-    never-right e t = inr (rw (b .1, t), rw (e, h .0, b .0))
+    constraint-right k i e t = inr (rw (lt-ltb k 2 i, b .1, t), rw (e, h .0, b .0))
 
-    literals-right : (k : ℕ) → (k < length lineWords → w ≡ getD lineWords k []) → takes k (length ls) ≡ true
+    literals-right : (k : ℕ) → 3 ≤ k → (k < length lineWords → w ≡ getD lineWords k []) → takes k (length ls) ≡ true
         → Right opened (bodyLine k ls)
-    literals-right k e t =
-        picked-right (eqb k 3) (Line.never ls) _
-        (λ q. let z = eqb-true k 3 q in never-right (rw z at (e (omega arith))) (rw z at t))
-        (λ _. picked-right (eqb k 4) (seenOf ls) _
-        (λ q. let z = eqb-true k 4 q in seen-right m ls (rw z at (e (omega arith))) h b) (λ _. inl refl))
+    literals-right k i e t =
+        picked-right (ltb k 5) (Line.constraint (k - 3) ls) _
+        (λ q.
+        let j = ltb-true k 5 q in
+        let z : k ≡ 3 + (k - 3) = omega arith in
+        constraint-right (k - 3) (omega arith) (rw z at (e (omega arith))) (rw z at t))
+        (λ _. picked-right (eqb k 5) (seenOf ls) _
+        (λ q. let z = eqb-true k 5 q in seen-right m ls (rw z at (e (omega arith))) h b) (λ _. inl refl))
 
   kind-right : (k : ℕ) (m : List Item) → (k < length lineWords → w ≡ getD lineWords k []) → Spells ts (Option.some m)
       → Right opened (ofKind k m)
   kind-right k m e h =
       picked-right (ltb k 3) (clauseOf k m) _ (λ q. let i = ltb-true k 3 q in clause-right k m i (e (omega arith)) h)
-      (λ _. picked-right (eqb k 5) (queryOf m) _
-      (λ q. let z = eqb-true k 5 q in query-right m (rw z at (e (omega arith))) h)
+      (λ q. picked-right (eqb k 6) (queryOf m) _
+      (λ q. let z = eqb-true k 6 q in query-right m (rw z at (e (omega arith))) h)
       (λ _. body-right k (bodyLine k) m (literalsOf m) (body-spells m (h .1))
-      (λ ls b t. literals-right m ls h b k e t)))
+      (λ ls b t. literals-right m ls h b k (ltb-false k 3 q) e t)))
 
   items-right : (k : ℕ) (x : Items) → (k < length lineWords → w ≡ getD lineWords k []) → Spells ts x
       → Right opened (withItems k x)
@@ -239,7 +260,7 @@ unfolding isLine
 form-true Line.skipped h = refl
 form-true Line.noForm h = absurd (true≢false (sym h))
 form-true (Line.clause k w ls) h = refl
-form-true (Line.never ls) h = refl
+form-true (Line.constraint k ls) h = refl
 form-true (Line.seen x) h = refl
 form-true (Line.query f) h = refl
 

@@ -1,16 +1,17 @@
 -- The forms of a line, and how they are spelled.
 -- From: document 01, "The file" ("Every other line is one form of nested brackets: `(true N)`, `(false N)`,
--- `(if N L..)`, `(never L..)`, `(seen L)`, `(query F)`, with at least one L"; "L is N or `(not N)`").
+-- `(if N L..)`, `(never L..)`, `(seen L)`, `(query F)`, with at least one L"; "L is N or `(not N)`"); document 02, [5]
+-- (`(avoid L..)`).
 --
 --   Literal         a name or its negation: L
---   Line            what a line is: skipped, one of the six forms, or no form
+--   Line            what a line is: skipped, one of the seven forms, or no form
 --   lineTokens x    the tokens of the line x; a skipped one has none
 --   isLine x        x is a skipped line or one of the forms, with names where names stand and literals where they must
 --   lineNames x     the names of the line x in order
 --   brings x        how many clauses, constraints and queries the line x brings, and the depth of its formula
 use mathlib.Core.Bool.{Bool, true, false, _&&_}
 use mathlib.Core.List.{List, [], _∷_, _++_}
-use Prim.Native.Nat.{ℕ}
+use Prim.Native.Nat.{ℕ, _+_}
 use lib.Dec.{eqb, ltb}
 use lib.ListN.{length, getD}
 use Rattle.words.specs.Choice.{pick}
@@ -24,19 +25,22 @@ use Rattle.grammar.specs.declared.brings.Brings.{Brings}
 pub data Literal : Type 0 where
   literal : Bool → List ℕ → Literal
 
--- a clause by its kind (0 fact, 1 assumption, 2 rule), its head and its literals
+-- a clause by its kind (0 fact, 1 assumption, 2 rule), its head and its literals; a constraint by its kind (0 never,
+-- 1 avoid) and its literals
 pub data Line : Type 0 where
   skipped : Line
   noForm : Line
   clause : ℕ → List ℕ → List Literal → Line
-  never : List Literal → Line
+  constraint : ℕ → List Literal → Line
   seen : Literal → Line
   query : Sentence → Line
 
--- the words of the kinds of clauses, of constraints, of readings and of the query
+-- the words of the kinds of clauses, of the kinds of constraints, of readings and of queries
 abbrev pub lineWords : List (List ℕ)
 lineWords =
-    bytes "true" ∷ bytes "false" ∷ bytes "if" ∷ bytes "never" ∷ bytes "seen" ∷ bytes "query" ∷ []
+    bytes "true" ∷ bytes "false" ∷ bytes "if"
+    ∷ bytes "never" ∷ bytes "avoid"
+    ∷ bytes "seen" ∷ bytes "query" ∷ []
 
 -- the formula that a literal is
 abbrev pub ofLiteral : Literal → Sentence
@@ -51,24 +55,24 @@ unfoldable pub lineTokens : Line → List Token
 lineTokens Line.skipped = []
 lineTokens Line.noForm = []
 lineTokens (Line.clause k w l) = formTokens (getD lineWords k []) (Token.word w ∷ bodyTokens l)
-lineTokens (Line.never l) = formTokens (getD lineWords 3 []) (bodyTokens l)
-lineTokens (Line.seen x) = formTokens (getD lineWords 4 []) (tokensOf (ofLiteral x))
-lineTokens (Line.query f) = formTokens (getD lineWords 5 []) (tokensOf f)
+lineTokens (Line.constraint k l) = formTokens (getD lineWords (3 + k) []) (bodyTokens l)
+lineTokens (Line.seen x) = formTokens (getD lineWords 5 []) (tokensOf (ofLiteral x))
+lineTokens (Line.query f) = formTokens (getD lineWords 6 []) (tokensOf f)
 
 -- each literal is one of a name
 unfoldable pub areNamed : List Literal → Bool
 areNamed [] = true
 areNamed (x ∷ l) = isSentence (ofLiteral x) && areNamed l
 
--- a line of kind k takes n literals: a fact and an assumption none, a reading one, a rule and a constraint one or more
+-- a line of kind k takes n literals: a fact and an assumption none, a reading one, a rule or a constraint some
 abbrev pub takes : ℕ → ℕ → Bool
-takes k n = pick (ltb k 2) (eqb n 0) (pick (eqb k 4) (eqb n 1) (ltb 0 n))
+takes k n = pick (ltb k 2) (eqb n 0) (pick (eqb k 5) (eqb n 1) (ltb 0 n))
 
 unfoldable pub isLine : Line → Bool
 isLine Line.skipped = true
 isLine Line.noForm = false
 isLine (Line.clause k w l) = ltb k 3 && beginsWithLetter w && areNamed l && takes k (length l)
-isLine (Line.never l) = areNamed l && takes 3 (length l)
+isLine (Line.constraint k l) = ltb k 2 && areNamed l && takes (3 + k) (length l)
 isLine (Line.seen x) = isSentence (ofLiteral x)
 isLine (Line.query f) = isSentence f
 
@@ -80,7 +84,7 @@ abbrev pub lineNames : Line → List (List ℕ)
 lineNames Line.skipped = []
 lineNames Line.noForm = []
 lineNames (Line.clause k w l) = w ∷ bodyNames l
-lineNames (Line.never l) = bodyNames l
+lineNames (Line.constraint k l) = bodyNames l
 lineNames (Line.seen x) = bodyNames (x ∷ [])
 lineNames (Line.query f) = sentenceNames f
 
@@ -92,6 +96,6 @@ abbrev pub brings : Line → Brings
 brings Line.skipped = bringing 0 0 0 0
 brings Line.noForm = bringing 0 0 0 0
 brings (Line.clause k w l) = bringing 1 0 0 0
-brings (Line.never l) = bringing 0 1 0 0
+brings (Line.constraint k l) = bringing 0 1 0 0
 brings (Line.seen x) = bringing 0 0 0 0
 brings (Line.query f) = bringing 0 0 1 (depthOf f)

@@ -1,13 +1,14 @@
 -- The form of a line, read from its tokens. That this reads exactly the lines that forms spell is a claim (LineExact).
 --
 --   literalsOf l    the literals that the items l are, up to the line's closing bracket, or that they are none
---   kindOf w        the kind of the line with the word w: 0 true, 1 false, 2 if, 3 never, 4 seen, 5 query; otherwise 6
+--   kindOf w        the kind of the line with the word w: 0 true, 1 false, 2 if, 3 never, 4 avoid, 5 seen, 6 query;
+--                   otherwise 7
 --   lineOf ts       the line with the tokens ts
 --   isNoForm x      the line x is no form
 use mathlib.Core.Bool.{Bool, true, false}
 use mathlib.Core.List.{List, [], _∷_}
 use mathlib.Core.Option.{Option}
-use Prim.Native.Nat.{ℕ}
+use Prim.Native.Nat.{ℕ, _-_}
 use lib.Dec.{eqb, ltb}
 use lib.ListN.{length}
 use Rattle.words.specs.Choice.{pick}
@@ -65,11 +66,11 @@ queryOf l = withFirst Line.noForm (λ f m. pick (isEnd m) (Line.query f) Line.no
 
 -- the line of kind k with these literals alone: a constraint or a reading
 abbrev pub bodyLine : ℕ → List Literal → Line
-bodyLine k l = pick (eqb k 3) (Line.never l) (pick (eqb k 4) (seenOf l) Line.noForm)
+bodyLine k l = pick (ltb k 5) (Line.constraint (k - 3) l) (pick (eqb k 5) (seenOf l) Line.noForm)
 
 -- the line of kind k with these items
 abbrev pub ofKind : ℕ → List Item → Line
-ofKind k l = pick (ltb k 3) (clauseOf k l) (pick (eqb k 5) (queryOf l) (withBody k (bodyLine k) (literalsOf l)))
+ofKind k l = pick (ltb k 3) (clauseOf k l) (pick (eqb k 6) (queryOf l) (withBody k (bodyLine k) (literalsOf l)))
 
 abbrev pub withItems : ℕ → Option (List Item) → Line
 withItems k Option.none = Line.noForm
@@ -91,6 +92,6 @@ abbrev pub isNoForm : Line → Bool
 isNoForm Line.skipped = false
 isNoForm Line.noForm = true
 isNoForm (Line.clause k w l) = false
-isNoForm (Line.never l) = false
+isNoForm (Line.constraint k l) = false
 isNoForm (Line.seen x) = false
 isNoForm (Line.query f) = false

@@ -19,7 +19,7 @@ use Rattle.formulas.specs.Items.{prepend, Item, itemsOf}
 use Rattle.grammar.specs.declared.literal.Lit.{Lit}
 use Rattle.grammar.specs.declared.literal.Lit.the-variants as lit
 use Rattle.grammar.specs.declared.line.Form.{Form}
-use Rattle.grammar.specs.declared.line.Form.the-variants.{Skipped, NoForm, Clause, Never, Seen, Query}
+use Rattle.grammar.specs.declared.line.Form.the-variants.{Skipped, NoForm, Clause, Constraint, Seen, Query}
 use Rattle.grammar.specs.declared.brings.Brings.{Brings}
 use Rattle.grammar.specs.Line.{Line, Literal, takes, brings}
 use Rattle.grammar.specs.LineOf.{literalsOf, isEnd, withItems, lineOf}
@@ -94,7 +94,7 @@ abbrev pub FormIs : List ℕ → Form → Line → Type 0
 FormIs l Skipped x = x ≡ Line.skipped
 FormIs l NoForm x = x ≡ Line.noForm
 FormIs l (Clause k a e at) x = (k ≤ 2) × Part l a e × BodyMakes l at (Line.clause k (slice a e l)) x
-FormIs l (Never at) x = BodyMakes l at Line.never x
+FormIs l (Constraint k at) x = (k ≤ 1) × BodyMakes l at (Line.constraint k) x
 FormIs l (Seen at) x = SeenMakes l at x
 FormIs l (Query at d) x = QueryMakes l at d x
 

@@ -14,26 +14,26 @@ use text::name::is_name;
 use text::tokens::Next;
 use text::tokens::token;
 
-// The form of a line with the places of its parts: a clause's kind and the ends of its head, the place where literals
-// or a formula begin, and a formula's depth.
+// The form of a line with the places of its parts: a clause's kind and the ends of its head, a constraint's kind, the
+// place where literals or a formula begin, and a formula's depth.
 pub enum Form {
     Skipped,
     NoForm,
     Clause(usize, usize, usize, usize),
-    Never(usize),
+    Constraint(usize, usize),
     Seen(usize),
     Query(usize, usize),
 }
 
 // The words of lines, in the order of their kinds, each behind its length.
-const LINE_WORDS: [u8; 31] = *b"\x04true\x05false\x02if\x05never\x04seen\x05query";
+const LINE_WORDS: [u8; 37] = *b"\x04true\x05false\x02if\x05never\x05avoid\x04seen\x05query";
 
-// The kind of the line whose word is the part of l from a to e, or 6.
+// The kind of the line whose word is the part of l from a to e, or 7.
 fn kind_of(l: &[u8], a: usize, e: usize) -> usize
     requires { ⌜ (a ≤ e) × (e ≤ length (now l)) ⌝ }
     ensures { λ r. ⌜ r ≡ kindOf (slice a e (now (l .entry))) ⌝ }
 {
-    place_of(l, a, e, &LINE_WORDS, 6)
+    place_of(l, a, e, &LINE_WORDS, 7)
 }
 
 // Whether a closing bracket is all that is left of a line from a place on.
@@ -68,7 +68,7 @@ fn clause_form(l: &[u8], at: usize, kind: usize) -> Form
 
 // A query from behind its word on.
 fn query_form(l: &[u8], at: usize) -> Form
-    ensures { λ r. ⌜ FormAfter (now (l .entry)) at 5 r ⌝ }
+    ensures { λ r. ⌜ FormAfter (now (l .entry)) at 6 r ⌝ }
 {
     let Parse::Formula(next, depth) = formula_at(l, at) else {
         return Form::NoForm;
@@ -87,16 +87,16 @@ fn form_of_kind(l: &[u8], at: usize, kind: usize) -> Form
     if kind <= 2 {
         return clause_form(l, at, kind);
     }
-    if kind == 5 {
+    if kind == 6 {
         return query_form(l, at);
     }
     if !has_body(l, at, kind) {
         return Form::NoForm;
     }
-    if kind == 3 {
-        return Form::Never(at);
+    if kind < 5 {
+        return Form::Constraint(kind - 3, at);
     }
-    if kind == 4 {
+    if kind == 5 {
         return Form::Seen(at);
     }
     Form::NoForm
@@ -130,7 +130,7 @@ pub fn brings(x: Form) -> Brings
             queries: 0,
             depth: 0,
         },
-        Form::Never(_) => Brings {
+        Form::Constraint(_, _) => Brings {
             clauses: 0,
             constraints: 1,
             queries: 0,

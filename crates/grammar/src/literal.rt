@@ -67,7 +67,7 @@ fn takes(kind: usize, n: usize) -> bool
     if kind < 2 {
         return n == 0;
     }
-    if kind == 4 {
+    if kind == 5 {
         return n == 1;
     }
     0 < n

@@ -12,7 +12,7 @@ use Rattle.program.specs.Setting.{choicesFor, product, digits, digitOf, setting
 use Rattle.program.specs.Sound.{fewCauses}
 use Rattle.settle.specs.Step.{bodiesOf, someTrue, allFalse, nextValue, step}
 use Rattle.settle.specs.Rounds.{rounds, roundCount, settled}
-use Rattle.explanation.specs.Explanation.{observedTrue, noneBroken, explainsUnder, setExplains}
+use Rattle.explanation.specs.Explanation.{observedTrue, allMet, explainsUnder, setExplains}
 use Rattle.explanation.specs.Subset.{subsetOf, properOf, someProper, minimal}
 use Rattle.verdict.specs.Walk.{minimalsBelow, roundsBelow, trueInAll, falseInAll, verdictOf, verdictsOf}
 use Rattle.text.specs.Bytes.{isWordByte, isAllowed, allOf, sameBytes}
@@ -36,8 +36,8 @@ use Rattle.marked.specs.Marked.{MarkedRows}
 pub marked-rows : MarkedRows
 unfolding ones onesIn has word valueOf literalsBelow nodes withNode spelled formulaOf clauseAt clausesOf addedBelow
     headsOf causesAmong causesOf atomsFrom choicesFor product digits digitOf settingsOf additionsOf fewCauses bodiesOf
-    someTrue allFalse nextValue step rounds roundCount settled observedTrue noneBroken explainsUnder setExplains
-    subsetOf properOf someProper minimal minimalsBelow roundsBelow trueInAll falseInAll verdictOf verdictsOf listOf
+    someTrue allFalse nextValue step rounds roundCount settled observedTrue allMet explainsUnder setExplains subsetOf
+    properOf someProper minimal minimalsBelow roundsBelow trueInAll falseInAll verdictOf verdictsOf listOf
     nodesOf isWordByte isAllowed allOf sameBytes linesFrom isComment tokensFrom padded namesFrom someLong placeOf
     withName withNames rowsOf nodeOf beginsWithLetter depthOf withForm itemsOf literalsOf lineOf someOn atomsBy
     encodedBy saidBy lookRefusal formRefusal lineRefusal saidAfter clauseWords ending readLines readFile constraintWords

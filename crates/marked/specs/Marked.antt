@@ -1,12 +1,12 @@
--- The ten marked files of document 01, from their bytes to list, rounds and verdicts: claim 7 of the design, one table
--- of rows and one statement. Proved in proofs/Marking.antt by computation.
--- From: document 01, "Ten marked files".
+-- The ten marked files of document 01, and M6 with `avoid`, from their bytes to list, rounds and verdicts: claim 7 of
+-- the design, one table of rows and one statement. Proved in proofs/Marking.antt by computation.
+-- From: document 01, "Ten marked files"; document 02, [5] (M6).
 --
 --   Result         refused with a number at a line, or accepted: the minimal settings, the rounds over all, a verdict
 --                  for each query
 --   Row            a file's bytes and its result
 --   resultOf f     the result of the file f by the definitions of reading and of the question
---   marked         the ten rows
+--   marked         the eleven rows
 --   MarkedRows     the result in each of them is that of its file
 use mathlib.Core.Path.{_≡_}
 use mathlib.Core.List.{List, [], _∷_, _++_, map}
@@ -60,6 +60,11 @@ m5 = row (shutOrStopped ++ bytes "(seen (not low))\n(query (not shut))") (Result
 abbrev pub m6 : Row
 m6 =
     row (shutOrStopped ++ bytes "(seen low)\n(query shut)\n(never stopped)")
+    (Result.accepted (7 ∷ []) 15 (Follows ∷ []))
+
+abbrev pub m6Avoid : Row
+m6Avoid =
+    row (shutOrStopped ++ bytes "(seen low)\n(query shut)\n(avoid stopped)")
     (Result.accepted (1 ∷ []) 15 (Follows ∷ []))
 
 abbrev pub m7 : Row
@@ -75,7 +80,7 @@ abbrev pub m10 : Row
 m10 = row (bytes "(true a)\n(false a)\n(query a)") (Result.accepted (0 ∷ []) 1 (Follows ∷ []))
 
 abbrev pub marked : List Row
-marked = m1 ∷ m2 ∷ m3 ∷ m4 ∷ m5 ∷ m6 ∷ m7 ∷ m8 ∷ m9 ∷ m10 ∷ []
+marked = m1 ∷ m2 ∷ m3 ∷ m4 ∷ m5 ∷ m6 ∷ m6Avoid ∷ m7 ∷ m8 ∷ m9 ∷ m10 ∷ []
 
 abbrev pub MarkedRows : Type 0
 MarkedRows = map (λ (r : Row). resultOf (r .file)) marked ≡ map (λ (r : Row). r .result) marked

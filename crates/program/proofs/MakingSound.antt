@@ -45,9 +45,9 @@ pub clauses-pass : (n m : ℕ) (cl : List ℕ) → ((k : ℕ) → k < m → clau
 unfolding soundClauses
 clauses-pass n m cl h = every-true m _ h
 
-pub constraint-passes : (n p q : ℕ) → within n p q ≡ true → bare p q ≡ false → soundConstraint n p q ≡ true
+pub constraint-passes : (n p q k : ℕ) → within n p q ≡ true → bare p q ≡ false → k < 2 → soundConstraint n p q k ≡ true
 unfolding soundConstraint
-constraint-passes n p q w b = rw (w, b)
+constraint-passes n p q k w b l = rw (w, b) (lt-ltb k 2 l)
 
 pub constraints-pass : (n m : ℕ) (co : List ℕ) → ((k : ℕ) → k < m → constraintTest n co k ≡ true)
     → soundConstraints n co m ≡ true

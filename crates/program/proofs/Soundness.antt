@@ -13,8 +13,8 @@ use Rattle.words.proofs.Tests.{and-true-l}
 use Rattle.words.proofs.Below.{every-at}
 use Rattle.logic.specs.Nodes.{oneFormula}
 use Rattle.program.specs.declared.case.Case.{Case}
-use Rattle.program.specs.Case.{formulaSize, tablesFull, headAt, plainAt, negatedAt, forbidden, forbiddenNot}
-use Rattle.program.specs.Case.{partSize, nodesOf}
+use Rattle.program.specs.Case.{clauseSize, constraintSize, formulaSize, partSize, tablesFull, headAt, plainAt}
+use Rattle.program.specs.Case.{negatedAt, forbidden, forbiddenNot, constraintKind, nodesOf}
 use Rattle.program.specs.Cause.{causesOf}
 use Rattle.program.specs.Sound.{limitsHold, within, bare, shaped, soundClause, soundClauses, soundConstraint}
 use Rattle.program.specs.Sound.{soundConstraints, fewCauses, soundFormula, soundFormulas, sound}
@@ -94,12 +94,27 @@ module _ (n first p q : ℕ) where
   unfolding soundClause
   clause-shaped l e f g = rw (lt-ltb (first % 64) n l, e) (g ∙ ap (shaped (first / 64)) f)
 
+-- ---- a constraint: the first test that fails, or the last
+module _ (n p q k : ℕ) where
+  pub constraint-outside : within n p q ≡ false → false ≡ soundConstraint n p q k
+  unfolding soundConstraint
+  constraint-outside w = rw w
+
+  module _ (w : within n p q ≡ true) {b : Bool} (e : b ≡ bare p q) where
+    pub constraint-bare : b ≡ true → false ≡ soundConstraint n p q k
+    unfolding soundConstraint
+    constraint-bare h = rw (w, ← e, h)
+
+    pub constraint-kinded : b ≡ false → ltb k 2 ≡ soundConstraint n p q k
+    unfolding soundConstraint
+    constraint-kinded h = rw (w, ← e, h)
+
 -- ---- the entries of a table
 abbrev pub clauseTest : ℕ → List ℕ → ℕ → Bool
 clauseTest n cl k = soundClause n (getD cl (3 * k) 0) (plainAt cl k) (negatedAt cl k)
 
 abbrev pub constraintTest : ℕ → List ℕ → ℕ → Bool
-constraintTest n co k = soundConstraint n (forbidden co k) (forbiddenNot co k)
+constraintTest n co k = soundConstraint n (forbidden co k) (forbiddenNot co k) (constraintKind co k)
 
 clause-head : (n first p q : ℕ) → soundClause n first p q ≡ true → first % 64 < n
 unfolding soundClause
@@ -124,17 +139,20 @@ seven true true true true true false g h = absurd (false≢true h)
 
 -- ---- full tables
 module _ (cl co fo : List ℕ) (h : tablesFull cl co fo ≡ true) where
-  sizes : Seven true true true true (leb 768 (length cl)) (leb 64 (length co)) (leb formulaSize (length fo))
+  sizes : Seven true true true true (leb clauseSize (length cl)) (leb constraintSize (length co))
+      (leb formulaSize (length fo))
   unfolding tablesFull
-  sizes = seven true true true true (leb 768 (length cl)) (leb 64 (length co)) (leb formulaSize (length fo)) h
+  sizes =
+      seven true true true true (leb clauseSize (length cl)) (leb constraintSize (length co))
+      (leb formulaSize (length fo)) h
 
-  pub full-clauses : 768 ≤ length cl
+  pub full-clauses : clauseSize ≤ length cl
   unfolding Seven
-  full-clauses = leb-true 768 (length cl) (sizes .4)
+  full-clauses = leb-true clauseSize (length cl) (sizes .4)
 
-  pub full-constraints : 64 ≤ length co
+  pub full-constraints : constraintSize ≤ length co
   unfolding Seven
-  full-constraints = leb-true 64 (length co) (sizes .5)
+  full-constraints = leb-true constraintSize (length co) (sizes .5)
 
   pub full-formula : formulaSize ≤ length fo
   unfolding Seven
@@ -173,7 +191,7 @@ module _ (c : Case) (cl co fo : List ℕ) (f : tablesFull cl co fo ≡ true) (h 
       let n = limits-clauses c h in
       (a .0, a .1, n, omega (arith, full-clauses cl co fo f))
 
-  pub constraints-held : (1 ≤ c .atoms) × (c .atoms ≤ 64) × (c .constraints ≤ 32) × (2 * c .constraints ≤ length co)
+  pub constraints-held : (1 ≤ c .atoms) × (c .atoms ≤ 64) × (c .constraints ≤ 32) × (3 * c .constraints ≤ length co)
   constraints-held =
       let a = limits-atoms c h in
       let n = limits-constraints c h in

@@ -1,12 +1,13 @@
 -- The lent tables of a case.
--- From: document 01, "Case tables and sound cases".
+-- From: document 01, "Case tables and sound cases"; document 02, [5] (a third word for each constraint).
 --
 --   clauseSize, ..           the sizes of the lent tables, names among them
 --   partSize                 the size of one formula's part of the formula table
 --   tablesFull cl co fo      clauses, constraints and formula have their full sizes
 --   headAt, kindAt           head and kind of clause k: its first word is head + 64 × kind
 --   plainAt, negatedAt       the plain and the negated atoms of clause k
---   forbidden, forbiddenNot  the plain and the negated atoms of constraint k
+--   forbidden, forbiddenNot  the plain and the negated atoms of the body of constraint k
+--   constraintKind           the kind of constraint k: 0 never, 1 avoid
 --   nodesOf ns fo q          the nodes of formula q: the first in part q of the formula table, as many as ns says
 use mathlib.Core.Bool.{Bool, _&&_}
 use mathlib.Core.List.{List}
@@ -19,7 +20,7 @@ abbrev pub clauseSize : ℕ
 clauseSize = 768
 
 abbrev pub constraintSize : ℕ
-constraintSize = 64
+constraintSize = 96
 
 abbrev pub formulaSize : ℕ
 formulaSize = 2048
@@ -47,10 +48,13 @@ abbrev pub negatedAt : List ℕ → ℕ → ℕ
 negatedAt cl k = getD cl (3 * k + 2) 0
 
 abbrev pub forbidden : List ℕ → ℕ → ℕ
-forbidden co k = getD co (2 * k) 0
+forbidden co k = getD co (3 * k) 0
 
 abbrev pub forbiddenNot : List ℕ → ℕ → ℕ
-forbiddenNot co k = getD co (2 * k + 1) 0
+forbiddenNot co k = getD co (3 * k + 1) 0
+
+abbrev pub constraintKind : List ℕ → ℕ → ℕ
+constraintKind co k = getD co (3 * k + 2) 0
 
 -- ns has the node count of each formula
 unfoldable pub nodesOf : List ℕ → List ℕ → ℕ → List ℕ

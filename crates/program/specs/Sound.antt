@@ -1,12 +1,12 @@
 -- Sound cases.
--- From: document 01, "Case tables and sound cases", phrase by phrase.
+-- From: document 01, "Case tables and sound cases", phrase by phrase; document 02, [5] (a constraint's third word).
 --
 --   limitsHold c          1 to 64 atoms, at most 256 clauses and 32 constraints, 1 to 16 formulas
 --   within n p q          every bit of the two words names one of n atoms
 --   bare p q              neither word has a bit
 --   shaped k b            facts and assumptions have no literal (b), rules have one or more; there is no other kind
 --   soundClause           a clause's three words, over n atoms
---   soundConstraint       a constraint's two words, over n atoms
+--   soundConstraint       a constraint's three words, over n atoms; its kind is 0 never or 1 avoid
 --   fewCauses             at most 10 causes
 --   soundFormula          the nodes of formula q, at most 128, are exactly one formula of depth at most 16 over n atoms
 --   sound c cl co fo      the case c with the tables cl, co, fo is sound
@@ -19,7 +19,8 @@ use lib.ListN.{getD}
 use Rattle.words.specs.Below.{every}
 use Rattle.logic.specs.Nodes.{oneFormula}
 use Rattle.program.specs.declared.case.Case.{Case}
-use Rattle.program.specs.Case.{partSize, tablesFull, plainAt, negatedAt, forbidden, forbiddenNot, nodesOf}
+use Rattle.program.specs.Case.{partSize, tablesFull, plainAt, negatedAt, forbidden, forbiddenNot}
+use Rattle.program.specs.Case.{constraintKind, nodesOf}
 use Rattle.program.specs.Program.{headsOf}
 use Rattle.program.specs.Cause.{causesAmong}
 
@@ -51,11 +52,12 @@ soundClause n first p q = ltb (first % 64) n && within n p q && shaped (first / 
 unfoldable pub soundClauses : ℕ → List ℕ → ℕ → Bool
 soundClauses n cl m = every m (λ k. soundClause n (getD cl (3 * k) 0) (plainAt cl k) (negatedAt cl k))
 
-unfoldable pub soundConstraint : ℕ → ℕ → ℕ → Bool
-soundConstraint n p q = within n p q && not (bare p q)
+unfoldable pub soundConstraint : ℕ → ℕ → ℕ → ℕ → Bool
+soundConstraint n p q k = within n p q && not (bare p q) && ltb k 2
 
 unfoldable pub soundConstraints : ℕ → List ℕ → ℕ → Bool
-soundConstraints n co m = every m (λ k. soundConstraint n (forbidden co k) (forbiddenNot co k))
+soundConstraints n co m =
+    every m (λ k. soundConstraint n (forbidden co k) (forbiddenNot co k) (constraintKind co k))
 
 unfoldable pub fewCauses : ℕ → List ℕ → ℕ → Bool
 fewCauses n cl m = leb (ones (causesAmong n (headsOf cl m))) 10

@@ -30,7 +30,7 @@ impl Case {
     // Sizes of the lent tables: words of clauses, words of constraints, bytes of the formulas and of the names.
     pub const CLAUSE_WORDS: usize = 768;
 
-    pub const CONSTRAINT_WORDS: usize = 64;
+    pub const CONSTRAINT_WORDS: usize = 96;
 
     pub const FORMULA_BYTES: usize = 2048;
 

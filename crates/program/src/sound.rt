@@ -96,27 +96,36 @@ pub fn clauses_sound(atoms: usize, clauses: &[u64], n: usize) -> bool
     true
 }
 
-// Whether a constraint's two words are sound; top is the word of all atoms.
-pub fn constraint_sound(atoms: usize, top: u64, plain: u64, negated: u64) -> bool
+// Whether a constraint's three words are sound; top is the word of all atoms.
+pub fn constraint_sound(atoms: usize, top: u64, plain: u64, negated: u64, kind: u64) -> bool
     requires { ⌜ top + 1 ≡ 2 ^ atoms ⌝ }
-    ensures { λ r. ⌜ r ≡ soundConstraint atoms plain negated ⌝ }
+    ensures { λ r. ⌜ r ≡ soundConstraint atoms plain negated kind ⌝ }
 {
     if !is_within(atoms, top, plain, negated) {
         return false;
     }
-    !is_bare(plain, negated)
+    if is_bare(plain, negated) {
+        return false;
+    }
+    kind < 2
 }
 
 // Whether the first n constraints are sound.
 pub fn constraints_sound(atoms: usize, constraints: &[u64], n: usize) -> bool
-    requires { ⌜ (1 ≤ atoms) × (atoms ≤ 64) × (n ≤ 32) × (2 * n ≤ length (now constraints)) ⌝ }
+    requires { ⌜ (1 ≤ atoms) × (atoms ≤ 64) × (n ≤ 32) × (3 * n ≤ length (now constraints)) ⌝ }
     ensures { λ r. ⌜ r ≡ soundConstraints atoms (now (constraints .entry)) n ⌝ }
 {
     let top = words::lowest(atoms as u32);
     let mut k = 0;
     while k < n {
-        let at = 2 * k;
-        if !constraint_sound(atoms, top, constraints[at], constraints[at + 1]) {
+        let at = 3 * k;
+        if !constraint_sound(
+            atoms,
+            top,
+            constraints[at],
+            constraints[at + 1],
+            constraints[at + 2],
+        ) {
             return false;
         }
         k += 1;

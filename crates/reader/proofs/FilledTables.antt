@@ -1,7 +1,7 @@
--- The clauses and the bodies of constraints that are taken back from filled tables, and their causes.
+-- The clauses and the constraints that are taken back from filled tables, and their causes.
 --
---   rowClause r     the clause that a row is
---   rowBody r       the body that a constraint's row is
+--   rowClause r        the clause that a row is
+--   rowConstraint r    the constraint that a row is
 -- Assumes nothing.
 use mathlib.Core.Path.{_≡_, refl, sym, _∙_}
 use mathlib.Core.List.{List, [], _∷_, _++_, map}
@@ -9,8 +9,8 @@ use Prim.Native.Nat.{ℕ, suc, _+_, _*_, _/_, _%_, _≤_, _<_}
 use native.Mathlib.Omega.{arith}
 use lib.ListN.{length, getD, length-map, List·getD-map}
 use Rattle.words.proofs.Lists.{list-of-is, list-of-grown}
-use Rattle.logic.specs.Formula.{Formula, body}
-use Rattle.program.specs.Case.{clauseSize, constraintSize, forbidden, forbiddenNot}
+use Rattle.logic.specs.Formula.{body}
+use Rattle.program.specs.Case.{clauseSize, constraintSize}
 use Rattle.program.specs.Program.{Clause, clause, byKind, clauseAt, clausesOf}
 use Rattle.program.specs.Sound.{fewCauses}
 use Rattle.program.proofs.MakingSound.{few-causes-ext}
@@ -19,14 +19,14 @@ use Rattle.table.proofs.Filled.{filled-at}
 use Rattle.text.proofs.Each.{Each, each-at}
 use Rattle.store.specs.Saying.{ClauseRow, ConstraintRow}
 use Rattle.store.specs.Tables.{clauseWords, constraintWords}
-use Rattle.store.proofs.FilledRows.{noRow, noPair, clause-is, constraint-is}
-use Rattle.reader.specs.Contents.{constraintsOf}
+use Rattle.store.proofs.FilledRows.{noRow, noConstraint, clause-is, constraint-is}
+use Rattle.reader.specs.Contents.{Constraint, constraint, constraintAt, constraintsOf}
 
 abbrev pub rowClause : ClauseRow → Clause
 rowClause r = clause (r .head) (byKind (r .kind) (body (r .plain) (r .negated)))
 
-abbrev pub rowBody : ConstraintRow → Formula
-rowBody r = body (r .plain) (r .negated)
+abbrev pub rowConstraint : ConstraintRow → Constraint
+rowConstraint r = constraint (r .kind) (body (r .plain) (r .negated))
 
 -- a list that grows by f k is the list of the entries of l, where f k is that of the k-th
 grown-all : {A B : Type 0} (l : List A) (d : A) (h : A → B) (g : ℕ → List B) (f : ℕ → B) → g 0 ≡ []
@@ -65,8 +65,8 @@ module _ (cs : List ConstraintRow) (old : List ℕ) (long : constraintSize ≤ l
   abbrev co : List ℕ
   co = filled constraintSize (constraintWords cs) old
 
-  pub constraints-filled : constraintsOf co (length cs) ≡ map rowBody cs
+  pub constraints-filled : constraintsOf co (length cs) ≡ map rowConstraint cs
   unfolding constraintsOf
   constraints-filled =
-      grown-all cs noPair rowBody (constraintsOf co) (λ k. body (forbidden co k) (forbiddenNot co k)) refl (λ k. refl)
-      (λ k l. let w = constraint-is cs old long few k l in rw (w .plain-is, w .negated-is))
+      grown-all cs noConstraint rowConstraint (constraintsOf co) (constraintAt co) refl (λ k. refl)
+      (λ k l. let w = constraint-is cs old long few k l in rw (w .plain-is, w .negated-is, w .kind-is))

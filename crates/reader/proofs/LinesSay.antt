@@ -25,7 +25,7 @@ use Rattle.checks.proofs.After.{after-comment, after-line}
 use Rattle.reader.specs.Claims.{saidThrough, allPass}
 use Rattle.reader.specs.Contents.{formOf, namesOf, namesThrough, Content, noContent, andThen, contentOf, contents}
 use Rattle.reader.proofs.FirstBad.{first-passes}
-use Rattle.reader.proofs.FilledTables.{rowClause, rowBody}
+use Rattle.reader.proofs.FilledTables.{rowClause, rowConstraint}
 use Rattle.reader.proofs.WellFormedLines.{line-known}
 
 -- The names
@@ -66,14 +66,14 @@ module _ (ns : List (List ℕ)) where
   -- st says x, by the names ns
   pub record Saying (st : Said) (x : Content) : Type 0 where
     pub clauses-are : map rowClause (st .clauses) ≡ x .clauses
-    pub constraints-are : map rowBody (st .constraints) ≡ x .constraints
+    pub constraints-are : map rowConstraint (st .constraints) ≡ x .constraints
     pub plain-are : Has false (st .plain) (x .observed)
     pub negated-are : Has true (st .negated) (x .observed)
     pub queries-are : st .queries ≡ x .queries
 
   -- by its parts
   saying : (st : Said) (x : Content) → map rowClause (st .clauses) ≡ x .clauses
-      → map rowBody (st .constraints) ≡ x .constraints → Has false (st .plain) (x .observed)
+      → map rowConstraint (st .constraints) ≡ x .constraints → Has false (st .plain) (x .observed)
       → Has true (st .negated) (x .observed) → st .queries ≡ x .queries → Saying st x
   saying st x c d p q f =
       record { clauses-are = c; constraints-are = d; plain-are = p; negated-are = q; queries-are = f }
@@ -113,7 +113,7 @@ module _ (ns : List (List ℕ)) where
         saying _ _
         (rw (h .0, atoms-same _ _ false l (h .1), atoms-same _ _ true l (h .1), map-append, s .clauses-are))
         (none .constraints-are) (none .plain-are) (none .negated-are) (none .queries-are)
-    line-saying (Line.never l) h =
+    line-saying (Line.constraint k l) h =
         saying _ _ (none .clauses-are)
         (rw (atoms-same _ _ false l h, atoms-same _ _ true l h, map-append, s .constraints-are))
         (none .plain-are) (none .negated-are) (none .queries-are)

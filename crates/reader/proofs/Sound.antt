@@ -20,7 +20,7 @@ use Rattle.store.specs.Held.{Long}
 use Rattle.store.specs.Saying.{ClauseRow, ConstraintRow, Said}
 use Rattle.store.specs.Tables.{clauseWords, caseSaid, constraintWords, formulaParts, nodeCounts}
 use Rattle.store.proofs.Formulas.{over-some}
-use Rattle.store.proofs.FilledRows.{noRow, noPair, clause-is, constraint-is, count-is, formula-is}
+use Rattle.store.proofs.FilledRows.{noRow, noConstraint, clause-is, constraint-is, count-is, formula-is}
 use Rattle.reader.proofs.WellFormed.{Rows, ClauseFormed, ConstraintFormed, QueryFormed, query-spells}
 use Rattle.reader.proofs.WellFormedLines.{Ended}
 use Rattle.reader.proofs.FilledTables.{few-causes-filled}
@@ -34,9 +34,10 @@ module _ (n : ℕ) where
       let w = within-below n _ _ (r .below .plain-lt) (r .below .negated-lt) in
       clause-passes n (c .head) (c .kind) (c .plain) (c .negated) h (r .head-lt) w (r .shape)
 
-  constraint-sound : (c : ConstraintRow) → ConstraintFormed n c → soundConstraint n (c .plain) (c .negated) ≡ true
+  constraint-sound : (c : ConstraintRow) → ConstraintFormed n c
+      → soundConstraint n (c .plain) (c .negated) (c .kind) ≡ true
   constraint-sound c r =
-      constraint-passes n _ _ (within-below n _ _ (r .below .plain-lt) (r .below .negated-lt)) (r .some)
+      constraint-passes n _ _ _ (within-below n _ _ (r .below .plain-lt) (r .below .negated-lt)) (r .some) (r .kind-lt)
 
   clauses-sound : (cs : List ClauseRow) (old : List ℕ) → n ≤ 64 → clauseSize ≤ length old
       → Rows (ClauseFormed n) 256 cs → soundClauses n (filled clauseSize (clauseWords cs) old) (length cs) ≡ true
@@ -53,7 +54,7 @@ module _ (n : ℕ) where
       constraints-pass n (length cs) _
       (λ k l.
       let w = constraint-is cs old t (r .few) k l in
-      rw (w .plain-is, w .negated-is) (constraint-sound _ (each-at _ cs k noPair (r .each) l)))
+      rw (w .plain-is, w .negated-is, w .kind-is) (constraint-sound _ (each-at _ cs k noConstraint (r .each) l)))
 
 -- The case
 

@@ -61,6 +61,7 @@ pub record ClauseFormed (n : ℕ) (c : ClauseRow) : Type 0 where
 pub record ConstraintFormed (n : ℕ) (c : ConstraintRow) : Type 0 where
   pub below : BitsBelow n (c .plain) (c .negated)
   pub some : bare (c .plain) (c .negated) ≡ false
+  pub kind-lt : c .kind < 2
 
 pub record QueryFormed (n : ℕ) (f : Formula) : Type 0 where
   pub over-atoms : over n f ≡ true
@@ -105,7 +106,7 @@ module _ (m n : ℕ) (h : m ≤ n) where
   clause-mono c r = record { head-lt = omega (arith, r .head-lt); below = below-mono _ _ (r .below); shape = r .shape }
 
   constraint-mono : (c : ConstraintRow) → ConstraintFormed m c → ConstraintFormed n c
-  constraint-mono c r = record { below = below-mono _ _ (r .below); some = r .some }
+  constraint-mono c r = record { below = below-mono _ _ (r .below); some = r .some; kind-lt = r .kind-lt }
 
   query-mono : (f : Formula) → QueryFormed m f → QueryFormed n f
   query-mono f r =

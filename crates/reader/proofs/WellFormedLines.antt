@@ -3,7 +3,7 @@
 use mathlib.Core.Path.{_≡_, refl, ap, subst}
 use mathlib.Core.Bool.{true, false, not}
 use mathlib.Core.List.{List, [], _∷_}
-use Prim.Native.Nat.{ℕ, zero, suc, _*_, _≤_}
+use Prim.Native.Nat.{ℕ, zero, suc, _*_, _≤_, _<_}
 use native.Mathlib.Omega.{arith}
 use lib.ListN.{length}
 use borrow.Author.Tests.{leb-true}
@@ -58,9 +58,10 @@ module _ (ns : List (List ℕ)) (h : length ns ≤ 64) where
       go (suc (suc zero)) d = ap not (body-not-bare (atomOf ns) _ l h d e)
       go (suc (suc (suc i))) d = absurd d
 
-  never-formed : (l : List Literal) → Bodied l → Each (Known ns) (bodyNames l)
-      → ConstraintFormed (length ns) (constraintRow ns l)
-  never-formed l b e = record { below = literals-below l e; some = body-not-bare (atomOf ns) _ l h b e }
+  constraint-formed : (k : ℕ) (l : List Literal) → (k < 2) × Bodied l → Each (Known ns) (bodyNames l)
+      → ConstraintFormed (length ns) (constraintRow ns k l)
+  constraint-formed k l b e =
+      record { below = literals-below l e; some = body-not-bare (atomOf ns) _ l h (b .1) e; kind-lt = b .0 }
 
   sentence-formed : (f : Sentence) → Each (Known ns) (sentenceNames f) → 2 * sizeOf f ≤ 200 → depthOf f ≤ 16
       → QueryFormed (length ns) (encoded ns f)
@@ -82,10 +83,10 @@ module _ (ns : List (List ℕ)) (h : length ns ≤ 64) where
         well-formed _ (r .names)
         (rows-push _ 256 _ _ (r .clauses) (omega (arith, m .clauses-few)) (row-formed k w l (p .0) b (p .1)))
         (r .constraints) (r .observed) (r .queries)
-    said-formed (Line.never l) p b d m =
+    said-formed (Line.constraint k l) p b d m =
         well-formed _ (r .names) (r .clauses)
-        (rows-push _ 32 _ _ (r .constraints) (omega (arith, m .constraints-few)) (never-formed l b p)) (r .observed)
-        (r .queries)
+        (rows-push _ 32 _ _ (r .constraints) (omega (arith, m .constraints-few)) (constraint-formed k l b p))
+        (r .observed) (r .queries)
     said-formed (Line.seen x) p b d m =
         let o = literals-below (x ∷ []) p in
         well-formed _ (r .names) (r .clauses) (r .constraints)

@@ -1,15 +1,17 @@
 -- What a case file says, from its lines to clauses, constraints, observed literals, queries and names; and what it is
 -- for a record and tables to say the same.
--- From: document 01, "The file", "Interpretations and the step" and "Case tables and sound cases".
+-- From: document 01, "The file", "Interpretations and the step" and "Case tables and sound cases"; document 02, [5]
+-- (constraints of two kinds).
 --
 --   formOf l             the form of the line l; a comment says nothing
 --   namesOf l            the names of the line l in order; a comment has none
 --   fileNames f          the names of the file f in the order of first appearance: the a-th is the name of atom a
 --   bodyOf ns ls         the body with the literals ls, by the names ns
---   Content              clauses, bodies of constraints, observed literals and queries, in file order
+--   Constraint           a constraint by its kind (0 never, 1 avoid) and its body
+--   Content              clauses, constraints, observed literals and queries, in file order
 --   contentOf ns x       what the form x says, by the names ns
 --   fileContent f        what the lines of the file f say, by its names
---   constraintsOf co n   the bodies of the first n constraints of a table
+--   constraintsOf co n   the first n constraints of a table
 --   Says f c t           the record c and the tables t say what the file f says
 use mathlib.Core.Path.{_≡_}
 use mathlib.Core.List.{List, [], _∷_, _++_}
@@ -21,7 +23,7 @@ use Rattle.words.specs.Lists.{listOf}
 use Rattle.logic.specs.Formula.{Formula, body}
 use Rattle.logic.specs.Nodes.{formulaOf}
 use Rattle.program.specs.declared.case.Case.{Case}
-use Rattle.program.specs.Case.{forbidden, forbiddenNot, nodesOf}
+use Rattle.program.specs.Case.{forbidden, forbiddenNot, constraintKind, nodesOf}
 use Rattle.program.specs.Program.{Clause, clause, byKind, clausesOf}
 use Rattle.text.specs.Lines.{lines, isComment}
 use Rattle.text.specs.Tokens.{tokens}
@@ -50,14 +52,22 @@ fileNames f = withNames [] (namesThrough (lines f))
 abbrev pub bodyOf : List (List ℕ) → List Literal → Formula
 bodyOf ns ls = body (plainAtoms ns ls) (negatedAtoms ns ls)
 
+pub record Constraint : Type 0 where
+  pub kind : ℕ
+  pub body : Formula
+
+-- a constraint by its parts
+abbrev pub constraint : ℕ → Formula → Constraint
+constraint k f = record { kind = k; body = f }
+
 pub record Content : Type 0 where
   pub clauses : List Clause
-  pub constraints : List Formula
+  pub constraints : List Constraint
   pub observed : List Literal
   pub queries : List Formula
 
 -- a content by its parts
-abbrev pub content : List Clause → List Formula → List Literal → List Formula → Content
+abbrev pub content : List Clause → List Constraint → List Literal → List Formula → Content
 content cs ds ls fs = record { clauses = cs; constraints = ds; observed = ls; queries = fs }
 
 abbrev pub noContent : Content
@@ -74,7 +84,7 @@ unfoldable pub contentOf : List (List ℕ) → Line → Content
 contentOf ns Line.skipped = noContent
 contentOf ns Line.noForm = noContent
 contentOf ns (Line.clause k w l) = content (clause (atomOf ns w) (byKind k (bodyOf ns l)) ∷ []) [] [] []
-contentOf ns (Line.never l) = content [] (bodyOf ns l ∷ []) [] []
+contentOf ns (Line.constraint k l) = content [] (constraint k (bodyOf ns l) ∷ []) [] []
 contentOf ns (Line.seen x) = content [] [] (x ∷ []) []
 contentOf ns (Line.query f) = content [] [] [] (encoded ns f ∷ [])
 
@@ -86,9 +96,13 @@ contents ns (l ∷ ls) = andThen (contentOf ns (formOf l)) (contents ns ls)
 abbrev pub fileContent : List ℕ → Content
 fileContent f = contents (fileNames f) (lines f)
 
-unfoldable pub constraintsOf : List ℕ → ℕ → List Formula
+-- constraint k of a table
+abbrev pub constraintAt : List ℕ → ℕ → Constraint
+constraintAt co k = constraint (constraintKind co k) (body (forbidden co k) (forbiddenNot co k))
+
+unfoldable pub constraintsOf : List ℕ → ℕ → List Constraint
 constraintsOf co zero = []
-constraintsOf co (suc k) = constraintsOf co k ++ (body (forbidden co k) (forbiddenNot co k) ∷ [])
+constraintsOf co (suc k) = constraintsOf co k ++ (constraintAt co k ∷ [])
 
 -- row a of the names is the a-th name and zeros; clausesOf is the program that settling takes from the table; the two
 -- observed words have the atoms of the plain and of the negated observed literals; part q of the formula table has the

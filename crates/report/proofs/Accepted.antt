@@ -14,7 +14,7 @@ use Rattle.words.proofs.Tests.{lt-or-le}
 use Rattle.logic.specs.Nodes.{formulaOf}
 use Rattle.table.specs.Filled.{padded}
 use Rattle.table.proofs.Filled.{filled-exact, padded-length, padded-split}
-use Rattle.program.specs.Case.{tablesFull, nodesOf}
+use Rattle.program.specs.Case.{clauseSize, constraintSize, formulaSize, nameSize, tablesFull, nodesOf}
 use Rattle.program.specs.Cause.{atomsIn}
 use Rattle.program.specs.Sound.{sound}
 use Rattle.program.proofs.Soundness.{sound-full, sound-atoms, sound-formulas, sound-few}
@@ -73,7 +73,7 @@ module _ (l old : List ℕ) (n : ℕ) where
 
 -- tables of zeros, exactly of their sizes
 zeros : Lent
-zeros = lent (padded 768 []) (padded 64 []) (padded 2048 []) (padded 1024 [])
+zeros = lent (padded clauseSize []) (padded constraintSize []) (padded formulaSize []) (padded nameSize [])
 
 zeros-fit : tablesFit zeros ≡ true
 unfolding zeros tablesFit tablesFull padded
@@ -82,10 +82,10 @@ zeros-fit = refl
 zeros-long : Long zeros
 unfolding zeros
 zeros-long = record {
-  clauses-long = omega (arith, padded-length 768 []);
-  constraints-long = omega (arith, padded-length 64 []);
-  formula-long = omega (arith, padded-length 2048 []);
-  names-long = omega (arith, padded-length 1024 []);
+  clauses-long = omega (arith, padded-length clauseSize []);
+  constraints-long = omega (arith, padded-length constraintSize []);
+  formula-long = omega (arith, padded-length formulaSize []);
+  names-long = omega (arith, padded-length nameSize []);
 }
 
 numbers-length : (st : Said) → length (verdictNumbers st) ≡ length (st .queries)
@@ -96,9 +96,10 @@ module _ (f : List ℕ) (st : Said) (e : readFile f ≡ Outcome.case st) where
   unfolding zeros
   said-sound =
       rw (
-        filled-exact 768 (clauseWords (st .clauses)) (padded 768 []) (padded-length 768 []),
-        filled-exact 64 (constraintWords (st .constraints)) (padded 64 []) (padded-length 64 []),
-        filled-exact 2048 (formulaParts (st .queries)) (padded 2048 []) (padded-length 2048 []),
+        filled-exact clauseSize (clauseWords (st .clauses)) (padded clauseSize []) (padded-length clauseSize []),
+        filled-exact constraintSize (constraintWords (st .constraints)) (padded constraintSize [])
+            (padded-length constraintSize []),
+        filled-exact formulaSize (formulaParts (st .queries)) (padded formulaSize []) (padded-length formulaSize []),
       )
       at (accepted-sound f st zeros zeros-fit e)
 
@@ -108,7 +109,7 @@ module _ (f : List ℕ) (st : Said) (e : readFile f ≡ Outcome.case st) where
   unfolding zeros
   said-formulas =
       let u = filledWith (wordsOf st) zeros in
-      rw (filled-exact 2048 (formulaParts (st .queries)) (padded 2048 []) (padded-length 2048 []))
+      rw (filled-exact formulaSize (formulaParts (st .queries)) (padded formulaSize []) (padded-length formulaSize []))
       at (says f st e (caseSaid st) zeros u zeros-long refl refl refl refl refl .queries-are)
 
   pub said-named : (a : ℕ) → Named (nameOf st a)
@@ -116,7 +117,7 @@ module _ (f : List ℕ) (st : Said) (e : readFile f ≡ Outcome.case st) where
       let n = accepted-names f st e .are-names a h in
       record { short = n .short; no-zero = no-zero (nameOf st a) (n .word-bytes) })
 
-  pub said-table : (a : ℕ) → a < 64 → nameIn (padded 1024 (rowsOf (st .names))) a ≡ nameOf st a
+  pub said-table : (a : ℕ) → a < 64 → nameIn (padded nameSize (rowsOf (st .names))) a ≡ nameOf st a
   said-table = table-name (st .names) (λ a h. said-named a)
 
   said-settings : settingsIn (caseSaid st) (clauseTable st) ≤ 59049
@@ -188,11 +189,11 @@ module _ (f : List ℕ) (st : Said) (e : readFile f ≡ Outcome.case st) (list w
     pub asked-fits : r .written ≤ length listAfter
     asked-fits = rw (answer-is, list-is) (front-fits (minimalsOf st) list 1024 full)
 
-    pub asked-text : (names : List ℕ) (causes : ℕ) → names ≡ padded 1024 (rowsOf (st .names)) → causes ≡ causesIn st
+    pub asked-text : (names : List ℕ) (causes : ℕ) → names ≡ padded nameSize (rowsOf (st .names)) → causes ≡ causesIn st
         → answerText (nameIn names) causes (take (length (st .queries)) (r .verdicts)) (r .rounds) (r .minimal)
         (take (r .written) listAfter) ≡ saidText st
     unfolding saidText
     asked-text names causes n c =
         rw (n, c, verdicts-are, answer-is, list-is, front-written (minimalsOf st) list 1024)
-        (answer-alike (nameIn (padded 1024 (rowsOf (st .names)))) (nameOf st) (said-table f st e) (causesIn st)
+        (answer-alike (nameIn (padded nameSize (rowsOf (st .names)))) (nameOf st) (said-table f st e) (causesIn st)
         (verdictNumbers st) (roundsOf st) (length (minimalsOf st)) (take listLength (minimalsOf st)))

@@ -10,7 +10,7 @@ use lib.ListN.{length, take}
 use Rattle.words.proofs.Tests.{lt-or-le}
 use Rattle.table.specs.Filled.{padded}
 use Rattle.table.proofs.Filled.{filled-exact, padded-length}
-use Rattle.program.specs.Case.{tablesFull}
+use Rattle.program.specs.Case.{clauseSize, constraintSize, formulaSize, nameSize, tablesFull}
 use Rattle.program.specs.Program.{headsOf}
 use Rattle.program.specs.Cause.{causesAmong}
 use Rattle.program.specs.Sound.{sound}
@@ -48,7 +48,7 @@ pub record Accepted (f : List ℕ) (u : Lent) (r : Answer) : Type 0 where
   pub clauses-are : u .clauses ≡ clauseTable said
   pub constraints-are : u .constraints ≡ constraintTable said
   pub formula-is : u .formula ≡ formulaTable said
-  pub names-are : u .names ≡ padded 1024 (rowsOf (said .names))
+  pub names-are : u .names ≡ padded nameSize (rowsOf (said .names))
 
 -- the file f was read into the tables t of their sizes, which became u, with the answer r
 module _ {f : List ℕ} {t u : Lent} {r : Answer}
@@ -98,10 +98,11 @@ module _ {f : List ℕ} {t u : Lent} {r : Answer}
         read-is = e;
         text-is = λ text. file-read text f l ∙ ap (outcomeText text) e;
         case-is = rw (z, e) at (h .case-is);
-        clauses-are = rw (n, e) at (h .clauses-are) ∙ filled-exact 768 _ (t .clauses) (x .clauses-full);
-        constraints-are = rw (n, e) at (h .constraints-are) ∙ filled-exact 64 _ (t .constraints) (x .constraints-full);
-        formula-is = rw (n, e) at (h .formula-is) ∙ filled-exact 2048 _ (t .formula) (x .formula-full);
-        names-are = rw (n, e) at (h .names-are) ∙ filled-exact 1024 _ (t .names) (x .names-full);
+        clauses-are = rw (n, e) at (h .clauses-are) ∙ filled-exact clauseSize _ (t .clauses) (x .clauses-full);
+        constraints-are =
+            rw (n, e) at (h .constraints-are) ∙ filled-exact constraintSize _ (t .constraints) (x .constraints-full);
+        formula-is = rw (n, e) at (h .formula-is) ∙ filled-exact formulaSize _ (t .formula) (x .formula-full);
+        names-are = rw (n, e) at (h .names-are) ∙ filled-exact nameSize _ (t .names) (x .names-full);
       }
 
   accepted-by : (o : Outcome) → readFile f ≡ o → Numbered o → refusalOf o ≡ 0 → length f ≤ 32768 → Accepted f u r
@@ -127,7 +128,7 @@ textOf r u causes q list =
 -- what the report shows of the answer q and its list, with the record of the answer r and the tables u
 pub record Answered (f : List ℕ) (r : Answer) (u : Lent) (causes : ℕ) (q : question.Answer) (list : List ℕ) : Type 0
   where
-    pub names-fit : 1024 ≤ length (u .names)
+    pub names-fit : nameSize ≤ length (u .names)
     pub queries-fit : r .found .formulas ≤ length (q .verdicts)
     pub list-fits : q .written ≤ length list
     pub text-fits : Room (textOf r u causes q list) 0
@@ -145,14 +146,15 @@ module _ {f : List ℕ} {u : Lent} {r : Answer} (a : Accepted f u r) where
       (sound-full (r .found) (u .clauses) (u .constraints) (u .formula) accepted-sound)
       (sound-limits (r .found) (u .clauses) (u .constraints) (u .formula) accepted-sound)
 
-  pub accepted-clauses : length (u .clauses) ≡ 768
-  accepted-clauses = ap length (a .clauses-are) ∙ padded-length 768 (clauseWords (a .said .clauses))
+  pub accepted-clauses : length (u .clauses) ≡ clauseSize
+  accepted-clauses = ap length (a .clauses-are) ∙ padded-length clauseSize (clauseWords (a .said .clauses))
 
-  pub accepted-constraints : length (u .constraints) ≡ 64
-  accepted-constraints = ap length (a .constraints-are) ∙ padded-length 64 (constraintWords (a .said .constraints))
+  pub accepted-constraints : length (u .constraints) ≡ constraintSize
+  accepted-constraints =
+      ap length (a .constraints-are) ∙ padded-length constraintSize (constraintWords (a .said .constraints))
 
-  pub accepted-formula : length (u .formula) ≡ 2048
-  accepted-formula = ap length (a .formula-is) ∙ padded-length 2048 (formulaParts (a .said .queries))
+  pub accepted-formula : length (u .formula) ≡ formulaSize
+  accepted-formula = ap length (a .formula-is) ∙ padded-length formulaSize (formulaParts (a .said .queries))
 
   module _ {list work listAfter workAfter : List ℕ} {q : question.Answer} (full : length list ≡ 1024)
       (room : length work ≡ 59049)
@@ -172,7 +174,7 @@ module _ {f : List ℕ} {u : Lent} {r : Answer} (a : Accepted f u r) where
         (asked-text f st (a .read-is) list work full room q listAfter workAfter asked-said (u .names) causes
         (a .names-are) e) in
         record {
-          names-fit = omega (arith, ap length (a .names-are), padded-length 1024 (rowsOf (st .names)));
+          names-fit = omega (arith, ap length (a .names-are), padded-length nameSize (rowsOf (st .names)));
           queries-fit = rw (a .case-is)
               (asked-queries f st (a .read-is) list work full room q listAfter workAfter asked-said);
           list-fits = asked-fits f st (a .read-is) list work full room q listAfter workAfter asked-said;

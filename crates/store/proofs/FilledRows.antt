@@ -1,7 +1,7 @@
 -- The rows of tables that are filled with clauses, constraints and queries.
 --
---   noRow, noPair    a row of zeros
---   ClauseIs ..      the three words of clause k of a table are a row's; ConstraintIs is alike
+--   noRow, noConstraint    a row of zeros
+--   ClauseIs ..            the three words of clause k of a table are a row's; ConstraintIs is alike
 -- Assumes nothing.
 use mathlib.Core.Path.{_≡_, refl, _∙_}
 use mathlib.Core.List.{List, [], _∷_}
@@ -13,7 +13,7 @@ use lib.Seq.{ext-getD, getD-take, getD-drop, length-take-le}
 use Rattle.logic.specs.Formula.{Formula}
 use Rattle.logic.specs.Nodes.{nodes}
 use Rattle.program.specs.Case.{clauseSize, constraintSize, formulaSize, partSize, plainAt, negatedAt, forbidden}
-use Rattle.program.specs.Case.{forbiddenNot, nodesOf}
+use Rattle.program.specs.Case.{forbiddenNot, constraintKind, nodesOf}
 use Rattle.table.specs.Filled.{filled, padded}
 use Rattle.table.proofs.Filled.{filled-length, padded-at}
 use Rattle.table.proofs.Rows.{filled-row-at}
@@ -24,8 +24,8 @@ use Rattle.store.proofs.Rows.{clauseRowWords, constraintRowWords, claus
 abbrev pub noRow : ClauseRow
 noRow = record { head = 0; kind = 0; plain = 0; negated = 0 }
 
-abbrev pub noPair : ConstraintRow
-noPair = record { plain = 0; negated = 0 }
+abbrev pub noConstraint : ConstraintRow
+noConstraint = record { plain = 0; negated = 0; kind = 0 }
 
 -- Clauses
 
@@ -54,20 +54,22 @@ module _ (cs : List ClauseRow) (old : List ℕ) (long : clauseSize ≤ length ol
 pub record ConstraintIs (co : List ℕ) (k : ℕ) (r : ConstraintRow) : Type 0 where
   pub plain-is : forbidden co k ≡ r .plain
   pub negated-is : forbiddenNot co k ≡ r .negated
+  pub kind-is : constraintKind co k ≡ r .kind
 
 module _ (cs : List ConstraintRow) (old : List ℕ) (long : constraintSize ≤ length old) (few : length cs ≤ 32) where
   abbrev co : List ℕ
   co = filled constraintSize (constraintWords cs) old
 
-  constraint-word : (k j i : ℕ) → k < length cs → j < 2 → i ≡ 2 * k + j
-      → getD co i 0 ≡ getD (constraintRowWords (getD cs k noPair)) j 0
+  constraint-word : (k j i : ℕ) → k < length cs → j < 3 → i ≡ 3 * k + j
+      → getD co i 0 ≡ getD (constraintRowWords (getD cs k noConstraint)) j 0
   constraint-word k j i l m e =
-      filled-row-at constraint-rows constraintSize noPair cs old k j i long (omega arith) l m e
+      filled-row-at constraint-rows constraintSize noConstraint cs old k j i long (omega arith) l m e
 
-  pub constraint-is : (k : ℕ) → k < length cs → ConstraintIs co k (getD cs k noPair)
+  pub constraint-is : (k : ℕ) → k < length cs → ConstraintIs co k (getD cs k noConstraint)
   constraint-is k l = record {
     plain-is = constraint-word k 0 _ l (omega arith) (omega arith);
     negated-is = constraint-word k 1 _ l (omega arith) (omega arith);
+    kind-is = constraint-word k 2 _ l (omega arith) (omega arith);
   }
 
 -- Queries

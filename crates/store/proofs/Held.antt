@@ -147,11 +147,13 @@ module _ (st : Said) (c : Case) (t : Lent) (h : Held st c t) where
           }
 
       module _ (known : withNames (st .names) (bodyNames ls) ≡ st .names) where
-        pub constraint-held : {r : Case} {u : List ℕ} → c .constraints < 32 → ConstraintStored m c (t .constraints) r u
-            → Held (withConstraint st (constraintRow (st .names) ls)) r (lent (t .clauses) u (t .formula) (t .names))
+        pub constraint-held : (kind : ℕ) {r : Case} {u : List ℕ} → c .constraints < 32
+            → ConstraintStored m kind c (t .constraints) r u
+            → Held (withConstraint st (constraintRow (st .names) kind ls)) r
+            (lent (t .clauses) u (t .formula) (t .names))
         unfolding padded
-        constraint-held room s =
-            let row = constraintRow (st .names) ls in
+        constraint-held kind room s =
+            let row = constraintRow (st .names) kind ls in
             let a = masks-are (each-agree (bodyNames ls) known) in
             let n = length-append (st .constraints) (row ∷ []) in
             let room' : length (st .constraints) < 32 = rw (h .case-is) at room in

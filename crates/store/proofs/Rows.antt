@@ -27,9 +27,9 @@ unfolding clauseWords
 clause-rows = record { none-is = refl; more-are = λ c cs. refl; width = λ c. refl }
 
 abbrev pub constraintRowWords : ConstraintRow → List ℕ
-constraintRowWords c = c .plain ∷ (c .negated ∷ [])
+constraintRowWords c = c .plain ∷ (c .negated ∷ (c .kind ∷ []))
 
-pub constraint-rows : RowTable 2 constraintRowWords constraintWords
+pub constraint-rows : RowTable 3 constraintRowWords constraintWords
 unfolding constraintWords
 constraint-rows = record { none-is = refl; more-are = λ c cs. refl; width = λ c. refl }
 

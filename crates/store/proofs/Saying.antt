@@ -13,7 +13,7 @@ unfolding saidBy
 said-names st Line.skipped = refl
 said-names st Line.noForm = refl
 said-names st (Line.clause k w l) = refl
-said-names st (Line.never l) = refl
+said-names st (Line.constraint k l) = refl
 said-names st (Line.seen x) = refl
 said-names st (Line.query f) = refl
 

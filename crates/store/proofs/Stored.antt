@@ -15,7 +15,7 @@ use Rattle.table.proofs.Kept.{kept-refl, sets-kept}
 use Rattle.formulas.specs.Parsing.{sizeOf}
 use Rattle.formulas.proofs.Sizes.{first-formula-size}
 use Rattle.grammar.specs.declared.line.Form.{Form}
-use Rattle.grammar.specs.declared.line.Form.the-variants.{Skipped, NoForm, Clause, Never, Seen, Query}
+use Rattle.grammar.specs.declared.line.Form.the-variants.{Skipped, NoForm, Clause, Constraint, Seen, Query}
 use Rattle.grammar.specs.Line.{Line, Literal}
 use Rattle.grammar.specs.Parsing.{FormIs, bodyIn}
 use Rattle.names.specs.Row.{rowOf}
@@ -55,9 +55,9 @@ module _ {l : List ℕ} {x : Form} {c : Case} {y : Line} (s : Storable l x c y) 
         let room = rw (form-told q .2 .line-is) at (s .room .clauses-fit) in
         omega arith
 
-  pub never-room : {at : ℕ} → x ≡ Never at → c .constraints < 32
-  never-room q =
-      let room = rw (form-told q .line-is) at (s .room .constraints-fit) in
+  pub constraint-room : {k at : ℕ} → x ≡ Constraint k at → c .constraints < 32
+  constraint-room q =
+      let room = rw (form-told q .1 .line-is) at (s .room .constraints-fit) in
       omega arith
 
   pub query-room : {at d : ℕ} → x ≡ Query at d → c .formulas < 16
@@ -92,21 +92,22 @@ module _ {l : List ℕ} {x : Form} {c : Case} {y : Line} (s : Storable l x c y) 
                 (rw (f .line-is) at known) room d);
           }
 
-      pub never-stored : {m : Masks} {u : List ℕ} → x ≡ Never at → MasksOf l at na (c .atoms) m
-          → ConstraintStored m c co r u → StoredAs y c (lent cl co fo na) r (lent cl u fo na)
+      pub constraint-stored : {k : ℕ} {m : Masks} {u : List ℕ} → x ≡ Constraint k at → MasksOf l at na (c .atoms) m
+          → ConstraintStored m k c co r u → StoredAs y c (lent cl co fo na) r (lent cl u fo na)
       unfolding saidBy
-      never-stored q i d =
-          let f = form-told q in
-          let room = never-room q in
+      constraint-stored {k} q i d =
+          let f = form-told q .1 in
+          let room = constraint-room q in
           record {
             kept =
                 lent-same (kept-refl _ cl)
-                (rw (d .table-is) (sets-kept constraintSize (_ ∷ (_ ∷ [])) co (2 * c .constraints) (omega arith)))
+                (rw (d .table-is)
+                (sets-kept constraintSize (_ ∷ (_ ∷ (_ ∷ []))) co (3 * c .constraints) (omega arith)))
                 (kept-refl _ fo) (kept-refl _ na);
             held = λ st h known.
                 rw (f .line-is)
                 (constraint-held st c _ h long (f .literals) (i (f .literals) (f .literals-are))
-                (rw (f .line-is) at known) room d);
+                (rw (f .line-is) at known) k room d);
           }
 
       pub seen-stored : {m : Masks} → x ≡ Seen at → MasksOf l at na (c .atoms) m → ObservedStored m c r

@@ -1,5 +1,5 @@
 -- What a file says: names, clauses, constraints, observed literals and the query, by atom numbers.
--- From: document 01, "The file" and "Case tables and sound cases".
+-- From: document 01, "The file" and "Case tables and sound cases"; document 02, [5] (the kind of a constraint).
 --
 --   Said               what was read so far; plain and negated are the observed atoms, bit i for atom i
 --   nothingSaid        what was read before the first line; renamed and with.. are st with a part exchanged
@@ -27,10 +27,11 @@ pub record ClauseRow : Type 0 where
   pub plain : ℕ
   pub negated : ℕ
 
--- a constraint by the atoms of its literals
+-- a constraint by the atoms of its literals and its kind (0 never, 1 avoid)
 pub record ConstraintRow : Type 0 where
   pub plain : ℕ
   pub negated : ℕ
+  pub kind : ℕ
 
 pub record Said : Type 0 where
   pub names : List (List ℕ)
@@ -72,8 +73,8 @@ encoded ns f = encodedBy (atomOf ns) f
 abbrev pub clauseRow : List (List ℕ) → ℕ → List ℕ → List Literal → ClauseRow
 clauseRow ns k w l = record { head = atomOf ns w; kind = k; plain = plainAtoms ns l; negated = negatedAtoms ns l }
 
-abbrev pub constraintRow : List (List ℕ) → List Literal → ConstraintRow
-constraintRow ns l = record { plain = plainAtoms ns l; negated = negatedAtoms ns l }
+abbrev pub constraintRow : List (List ℕ) → ℕ → List Literal → ConstraintRow
+constraintRow ns k l = record { plain = plainAtoms ns l; negated = negatedAtoms ns l; kind = k }
 
 -- the atoms of two words
 abbrev pub orAtoms : ℕ → ℕ → ℕ
@@ -103,6 +104,6 @@ unfoldable pub saidBy : Said → Line → Said
 saidBy st Line.skipped = st
 saidBy st Line.noForm = st
 saidBy st (Line.clause k w l) = withClause st (clauseRow (st .names) k w l)
-saidBy st (Line.never l) = withConstraint st (constraintRow (st .names) l)
+saidBy st (Line.constraint k l) = withConstraint st (constraintRow (st .names) k l)
 saidBy st (Line.seen x) = withObserved st (x ∷ [])
 saidBy st (Line.query f) = withQuery st (encoded (st .names) f)

@@ -45,9 +45,9 @@ pub record ClauseStored (w : List ℕ) (kind : ℕ) (m : Masks) (c : Case) (na c
   pub counted : r ≡ withRows c (c .clauses + 1) (c .constraints)
   pub table-is : u ≡ sets cl (3 * c .clauses) ((rowOf na (c .atoms) w + 64 * kind) ∷ (m .plain ∷ (m .negated ∷ [])))
 
-pub record ConstraintStored (m : Masks) (c : Case) (co : List ℕ) (r : Case) (u : List ℕ) : Type 0 where
+pub record ConstraintStored (m : Masks) (kind : ℕ) (c : Case) (co : List ℕ) (r : Case) (u : List ℕ) : Type 0 where
   pub counted : r ≡ withRows c (c .clauses) (c .constraints + 1)
-  pub table-is : u ≡ sets co (2 * c .constraints) (m .plain ∷ (m .negated ∷ []))
+  pub table-is : u ≡ sets co (3 * c .constraints) (m .plain ∷ (m .negated ∷ (kind ∷ [])))
 
 abbrev pub ObservedStored : Masks → Case → Case → Type 0
 ObservedStored m c r = r ≡ withObservedAtoms c (orAtoms (c .plain) (m .plain)) (orAtoms (c .negated) (m .negated))

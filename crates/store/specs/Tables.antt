@@ -1,8 +1,8 @@
 -- The record and the words of the tables that hold what was read.
--- From: document 01, "Case tables and sound cases".
+-- From: document 01, "Case tables and sound cases"; document 02, [5] (a third word for each constraint).
 --
 --   clauseWords cs       the words of clauses: three each
---   constraintWords cs   the words of constraints: two each
+--   constraintWords cs   the words of constraints: three each
 --   formulaParts fs      the parts of formulas: 128 bytes each, its nodes and zeros behind them
 --   nodeCounts fs        how many nodes each formula has
 --   wordsOf st           the four tables' words for what was read
@@ -24,10 +24,10 @@ unfoldable pub clauseWords : List ClauseRow → List ℕ
 clauseWords [] = []
 clauseWords (c ∷ cs) = (c .head + 64 * c .kind) ∷ (c .plain ∷ (c .negated ∷ clauseWords cs))
 
--- two words a constraint
+-- three words a constraint
 unfoldable pub constraintWords : List ConstraintRow → List ℕ
 constraintWords [] = []
-constraintWords (c ∷ cs) = c .plain ∷ (c .negated ∷ constraintWords cs)
+constraintWords (c ∷ cs) = c .plain ∷ (c .negated ∷ (c .kind ∷ constraintWords cs))
 
 -- a part a formula
 unfoldable pub formulaParts : List Formula → List ℕ

@@ -45,13 +45,13 @@ fn store_clause(
     next
 }
 
-// Stores a constraint with the atoms of its literals.
-fn store_constraint(m: Masks, c: Case, constraints: &mut [u64]) -> Case
+// Stores a constraint with the atoms of its literals and its kind.
+fn store_constraint(m: Masks, kind: usize, c: Case, constraints: &mut [u64]) -> Case
     requires { ⌜ (c .constraints < 32) × (constraintSize ≤ length (now constraints)) ⌝ }
-    ensures { λ r. ⌜ ConstraintStored m c (now (constraints .entry)) r (now (constraints .exit)) ⌝ }
+    ensures { λ r. ⌜ ConstraintStored m kind c (now (constraints .entry)) r (now (constraints .exit)) ⌝ }
 {
     let n = c.constraints;
-    table::put_two(constraints, 2 * n, m.plain, m.negated);
+    table::put_three(constraints, 3 * n, m.plain, m.negated, kind as u64);
     let mut next = c;
     next.constraints = n + 1;
     next
@@ -106,9 +106,9 @@ pub fn store_form(
             let m = masks_of(l, at, names, c.atoms);
             store_clause(l, kind, a, e, m, c, names, clauses)
         }
-        Form::Never(at) => {
+        Form::Constraint(kind, at) => {
             let m = masks_of(l, at, names, c.atoms);
-            store_constraint(m, c, constraints)
+            store_constraint(m, kind, c, constraints)
         }
         Form::Seen(at) => {
             let m = masks_of(l, at, names, c.atoms);

@@ -36,15 +36,6 @@ pub fn put_three(t: &mut [u64], at: usize, a: u64, b: u64, c: u64)
     t[at + 2] = c;
 }
 
-// Stores two words from a place on.
-pub fn put_two(t: &mut [u64], at: usize, a: u64, b: u64)
-    requires { ⌜ at + 2 ≤ length (now t) ⌝ }
-    ensures { λ _. ⌜ now (t .exit) ≡ sets (now (t .entry)) at (a ∷ b ∷ []) ⌝ }
-{
-    t[at] = a;
-    t[at + 1] = b;
-}
-
 // Byte i of the part of s from a to e, or 0 past its end.
 pub fn byte_or_zero(s: &[u8], a: usize, e: usize, i: usize) -> u8
     requires { ⌜ (a ≤ e) × (e ≤ length (now s)) ⌝ }

@@ -9,7 +9,7 @@ use native.Mathlib.Omega.{arith}
 use lib.ListN.{length}
 use lib.Pow.{pow-mono}
 use Rattle.program.specs.declared.case.Case.{Case}
-use Rattle.program.specs.Case.{formulaSize}
+use Rattle.program.specs.Case.{constraintSize, formulaSize}
 use Rattle.program.specs.Cause.{causesOf}
 use Rattle.program.specs.Setting.{settingsOf}
 use Rattle.program.specs.Sound.{sound}
@@ -38,7 +38,7 @@ module _ (c : Case) (cl co fo : List ℕ) (h : sound c cl co fo ≡ true) where
       let f = full-clauses cl co fo (sound-full c cl co fo h) in
       (l, omega arith)
 
-  pub constraints-fit : (c .constraints ≤ 32) × (64 ≤ length co)
+  pub constraints-fit : (c .constraints ≤ 32) × (constraintSize ≤ length co)
   constraints-fit = (sound-constraints c cl co fo h, full-constraints cl co fo (sound-full c cl co fo h))
 
   pub formula-fits : formulaSize ≤ length fo

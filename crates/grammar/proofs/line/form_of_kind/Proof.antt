@@ -1,7 +1,7 @@
 -- `line::form_of_kind` meets its contract: each return is one law of the lines of a kind. Assumes nothing.
 use borrow.Author.Needs.{needs}
 use Rattle.words.proofs.Tests.{failed, passed}
-use Rattle.grammar.proofs.Forms.{form-as, form-unfit, form-never, form-seen, form-other}
+use Rattle.grammar.proofs.Forms.{form-as, form-unfit, form-constraint, form-seen, form-other}
 use Rattle.grammar.proofs.line.form_of_kind.Statement.{statement}
 use Rattle.grammar.proofs.line.form_of_kind.Tie as tie
 
@@ -24,7 +24,7 @@ returns-3 : tie.Need-returns-3
 returns-3 c = search (needs, form-unfit, failed)
 
 returns-4 : tie.Need-returns-4
-returns-4 c = search (needs, form-never, passed)
+returns-4 c = search (needs, form-constraint, passed)
 
 returns-5 : tie.Need-returns-5
 returns-5 c = search (needs, form-seen, passed)
@@ -42,6 +42,7 @@ form-of-kind-spec =
     returns-2
     has-body-requires
     returns-3
+    (λ c. search needs)
     returns-4
     returns-5
     returns-6)

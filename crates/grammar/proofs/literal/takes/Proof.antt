@@ -10,12 +10,12 @@ returns c = rw (lt-ltb (c .before .args .kind) 2 (c .if1 .taken))
 returns-2 : tie.Need-returns-2
 returns-2 c =
     let kind = c .before .before .args .kind in
-    rw (le-ltb kind 2 (omega arith), eq-eqb kind 4 (c .if2 .taken))
+    rw (le-ltb kind 2 (omega arith), eq-eqb kind 5 (c .if2 .taken))
 
 returns-3 : tie.Need-returns-3
 returns-3 c =
     let kind = c .before .before .args .kind in
-    rw (le-ltb kind 2 (omega arith), ne-eqb kind 4 (c .if2 .left))
+    rw (le-ltb kind 2 (omega arith), ne-eqb kind 5 (c .if2 .left))
 
 pub takes-spec : {M : Type 1} → statement M
 takes-spec = tie.close (tie.spec returns returns-2 returns-3)

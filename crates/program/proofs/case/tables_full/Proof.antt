@@ -1,21 +1,21 @@
 -- `program::case::tables_full` meets its contract: each test decides one size. Assumes nothing.
 use lib.ListN.{length}
 use borrow.Author.Tests.{lt-leb, le-leb}
-use Rattle.program.specs.Case.{tablesFull}
+use Rattle.program.specs.Case.{clauseSize, constraintSize, tablesFull}
 use Rattle.program.proofs.case.tables_full.Statement.{statement}
 use Rattle.program.proofs.case.tables_full.Tie as tie
 
 returns : tie.Need-returns
 unfolding tablesFull
-returns c = rw (lt-leb 768 (length (c .before .args .clauses .now)) (c .if1 .taken))
+returns c = rw (lt-leb clauseSize (length (c .before .args .clauses .now)) (c .if1 .taken))
 
 returns-2 : tie.Need-returns-2
 unfolding tablesFull
 returns-2 c =
     let a = c .before .before .args in
     rw (
-      le-leb 768 (length (a .clauses .now)) (c .before .if1 .left),
-      lt-leb 64 (length (a .constraints .now)) (c .if2 .taken),
+      le-leb clauseSize (length (a .clauses .now)) (c .before .if1 .left),
+      lt-leb constraintSize (length (a .constraints .now)) (c .if2 .taken),
     )
 
 returns-3 : tie.Need-returns-3
@@ -23,8 +23,8 @@ unfolding tablesFull
 returns-3 c =
     let a = c .before .before .args in
     rw (
-      le-leb 768 (length (a .clauses .now)) (c .before .if1 .left),
-      le-leb 64 (length (a .constraints .now)) (c .if2 .left),
+      le-leb clauseSize (length (a .clauses .now)) (c .before .if1 .left),
+      le-leb constraintSize (length (a .constraints .now)) (c .if2 .left),
     )
 
 pub tables-full-spec : {M : Type 1} → statement M

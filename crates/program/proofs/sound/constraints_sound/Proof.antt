@@ -15,49 +15,20 @@ use Rattle.program.proofs.sound.constraints_sound.Tie as tie
 
 abbrev Inv-loop : tie.InvT-loop
 Inv-loop atoms constraints n top k₀ k =
-    (k ≤ n) × (top + 1 ≡ 2 ^ atoms)
-    × (every k (constraintTest atoms constraints) ≡ true)
+    (k ≤ n) × (top + 1 ≡ 2 ^ atoms) × (every k (constraintTest atoms constraints) ≡ true)
 
 abbrev μ-loop : tie.MeasureT-loop
 μ-loop atoms constraints n top k₀ k = n - k
 
 -- the places before: the loop, and the entry
 abbrev looped : tie.After-constraint-sound Inv-loop μ-loop → tie.At-loop Inv-loop μ-loop
-looped c = c .before .before .before .before
+looped c = c .before .before .before .before .before
 
 abbrev entry : tie.At-loop Inv-loop μ-loop → tie.Start Inv-loop μ-loop
 entry c = c .before .before .before
 
-cast-lowest : tie.Need-cast-lowest Inv-loop μ-loop
-cast-lowest c = search needs
-
-lowest-requires : tie.Need-lowest-requires Inv-loop μ-loop
-lowest-requires c κs = search needs
-
 loop-holds : tie.Need-loop-holds Inv-loop μ-loop
 loop-holds c = (search needs, c .lowest .ensures, refl)
-
-mul-at : tie.Need-mul-at Inv-loop μ-loop
-mul-at c = search needs
-
-mul-constraint-sound : tie.Need-mul-constraint-sound Inv-loop μ-loop
-mul-constraint-sound c = search needs
-
-shared-slice-read-constraint-sound : tie.Need-shared-slice-read-constraint-sound Inv-loop μ-loop
-shared-slice-read-constraint-sound c = search needs
-
-add-constraint-sound : tie.Need-add-constraint-sound Inv-loop μ-loop
-add-constraint-sound c = search needs
-
-mul-constraint-sound-2 : tie.Need-mul-constraint-sound-2 Inv-loop μ-loop
-mul-constraint-sound-2 c = search needs
-
-shared-slice-read-constraint-sound-2 :
-    tie.Need-shared-slice-read-constraint-sound-2 Inv-loop μ-loop
-shared-slice-read-constraint-sound-2 c = search needs
-
-constraint-sound-requires : tie.Need-constraint-sound-requires Inv-loop μ-loop
-constraint-sound-requires c κs = search needs
 
 returns : tie.Need-returns Inv-loop μ-loop
 unfolding soundConstraints
@@ -67,12 +38,6 @@ returns c =
     let t = constraintTest (a .atoms) (a .constraints .now) in
     sym (every-false (a .n) t (l .loop .k) (omega arith)
     (failed {t = t (l .loop .k)} (c .before .constraint-sound .ensures) (c .if1 .taken)))
-
-add-k : tie.Need-add-k Inv-loop μ-loop
-add-k c = search needs
-
-loop-less : tie.Need-loop-less Inv-loop μ-loop
-loop-less c = search needs
 
 loop-again : tie.Need-loop-again Inv-loop μ-loop
 loop-again c =
@@ -99,18 +64,21 @@ constraints-sound-spec =
     (tie.spec
     Inv-loop
     μ-loop
-    cast-lowest
-    lowest-requires
+    (λ c. search needs)
+    (λ c κs. search needs)
     loop-holds
-    mul-at
-    mul-constraint-sound
-    shared-slice-read-constraint-sound
-    add-constraint-sound
-    mul-constraint-sound-2
-    shared-slice-read-constraint-sound-2
-    constraint-sound-requires
+    (λ c. search needs)
+    (λ c. search needs)
+    (λ c. search needs)
+    (λ c. search needs)
+    (λ c. search needs)
+    (λ c. search needs)
+    (λ c. search needs)
+    (λ c. search needs)
+    (λ c. search needs)
+    (λ c κs. search needs)
     returns
-    add-k
-    loop-less
+    (λ c. search needs)
+    (λ c. search needs)
     loop-again
     returns-2)

@@ -1,8 +1,8 @@
 -- `form::store_form` meets its contract: each arm by the law of its kind of line. Assumes nothing.
 use borrow.Author.Needs.{needs}
-use Rattle.store.proofs.Stored.{clause-kind, head-onward, head-within, clause-room, never-room}
-use Rattle.store.proofs.Stored.{skipped-stored, no-form-stored, clause-stored, never-stored, seen-stored}
-use Rattle.store.proofs.Stored.{query-room, query-stored}
+use Rattle.store.proofs.Stored.{clause-kind, head-onward, head-within, clause-room, constraint-room}
+use Rattle.store.proofs.Stored.{skipped-stored, no-form-stored, clause-stored, constraint-stored}
+use Rattle.store.proofs.Stored.{seen-stored, query-room, query-stored}
 use Rattle.store.proofs.form.store_form.Statement.{statement}
 use Rattle.store.proofs.form.store_form.Tie as tie
 
@@ -10,7 +10,7 @@ store-clause-requires : tie.Need-store-clause-requires
 store-clause-requires c κs = search (needs, clause-kind, head-onward, head-within, clause-room)
 
 store-constraint-requires : tie.Need-store-constraint-requires
-store-constraint-requires c κs = search (needs, never-room)
+store-constraint-requires c κs = search (needs, constraint-room)
 
 store-query-requires : tie.Need-store-query-requires
 store-query-requires c κs = search (needs, query-room)
@@ -25,7 +25,7 @@ returns-3 : tie.Need-returns-3
 returns-3 c = search (needs, clause-stored)
 
 returns-4 : tie.Need-returns-4
-returns-4 c = search (needs, never-stored)
+returns-4 c = search (needs, constraint-stored)
 
 returns-5 : tie.Need-returns-5
 returns-5 c = search (needs, seen-stored)
