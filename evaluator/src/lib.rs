@@ -2,7 +2,7 @@
 //!
 //! | file | holds |
 //! |---|---|
-//! | formula, case | values and formulas; what a case file says |
+//! | formula, constraint, case | values and formulas; kinds of constraints; what a case file says |
 //! | tree, form, file | a line as a tree, the form of a tree, the checks of a file |
 //! | model, completion | the step and its iterates; models of the weak completion |
 //! | verdict, question, answer | the verdict on a query, minimal explanations, the text of the answer |
@@ -23,6 +23,7 @@ pub mod case;
 pub mod check;
 pub mod compare;
 pub mod completion;
+pub mod constraint;
 pub mod damage;
 pub mod edges;
 pub mod families;
