@@ -12,7 +12,7 @@
 //! | random, names, layout, families | drawn lawful files |
 //! | shapes | drawn files with chains and rings |
 //! | edges, lists, damage, sample | files at the limits, damaged files, the file of a seed |
-//! | run, compare, tally, bench, check | the driver |
+//! | run, compare, tally, kinds_tally, bench, check | the driver |
 //! | layers_tally, layers_check | the driver of the program `layers` |
 //! | lookup_pairs, lookup_tally, lookup_check | the driver of the program `compare`, and the pairs that it draws |
 //! | tables | tables of the manual |
@@ -31,6 +31,7 @@ pub mod file;
 pub mod form;
 pub mod formula;
 pub mod held;
+pub mod kinds_tally;
 pub mod layers;
 pub mod layers_answer;
 pub mod layers_check;

@@ -192,10 +192,14 @@ pub fn ask(case: Case) -> Findings {
     found
 }
 
+/// The answer to the question on `case`, in which what is settled is not held to the definition.
+pub fn ask_unheld(case: Case) -> Findings {
+    findings(Engine { held: false, ..Engine::new(case) })
+}
+
 /// The answer to the question on `case` with `query` as its one query, all atoms kept.
 fn ask_alone(case: &Case, query: &Formula<usize>) -> Findings {
-    let own = Case { queries: vec![query.clone()], ..case.clone() };
-    findings(Engine { held: false, ..Engine::new(own) })
+    ask_unheld(Case { queries: vec![query.clone()], ..case.clone() })
 }
 
 /// The wrong answer of a walk that ends each setting after `cap` rounds; its own count of rounds says nothing.
