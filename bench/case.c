@@ -106,7 +106,7 @@ static void query(void) {
     formula();
 }
 
-static void clause(Kind kind) {
+static void clause(ClauseKind kind) {
     if (reading->clauses == MOST_CLAUSES) fail("too many clauses");
     Clause *c = &reading->clause[reading->clauses++];
     c->kind = kind;
@@ -114,9 +114,11 @@ static void clause(Kind kind) {
     literals(&c->body);
 }
 
-static void constraint(void) {
+static void constraint(ConstraintKind kind) {
     if (reading->constraints == MOST_CONSTRAINTS) fail("too many constraints");
-    literals(&reading->constraint[reading->constraints++]);
+    Constraint *k = &reading->constraint[reading->constraints++];
+    k->kind = kind;
+    literals(&k->body);
 }
 
 // Takes the form of one line, told by the first letter of its word.
@@ -127,7 +129,8 @@ static void form(void) {
     case 't': clause(FACT); break;
     case 'f': clause(ASSUMPTION); break;
     case 'i': clause(RULE); break;
-    case 'n': constraint(); break;
+    case 'n': constraint(NEVER); break;
+    case 'a': constraint(AVOID); break;
     case 's': literals(&reading->observed); break;
     case 'q': query(); break;
     default: fail("a line that is no form");

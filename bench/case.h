@@ -20,19 +20,27 @@ typedef struct {
     uint64_t plain, negated;
 } Body;
 
-typedef enum { FACT, ASSUMPTION, RULE } Kind;
+typedef enum { FACT, ASSUMPTION, RULE } ClauseKind;
 
 typedef struct {
     int head;
-    Kind kind;
+    ClauseKind kind;
     Body body;
 } Clause;
+
+// A constraint of kind NEVER is met where its body is false, one of kind AVOID where its body isn't true.
+typedef enum { NEVER, AVOID } ConstraintKind;
+
+typedef struct {
+    ConstraintKind kind;
+    Body body;
+} Constraint;
 
 // Clauses, constraints and queries stand in file order, names by atom number.
 typedef struct {
     int atoms, clauses, constraints, queries;
     Clause clause[MOST_CLAUSES];
-    Body constraint[MOST_CONSTRAINTS];
+    Constraint constraint[MOST_CONSTRAINTS];
     Body observed;
     uint8_t formula[MOST_QUERIES][MOST_NODES];
     char name[MOST_ATOMS][MOST_NAME + 1];
@@ -47,8 +55,8 @@ static inline int lowest(uint64_t word) { return __builtin_ctzll(word); }
 // Ends the program with status 2 and a word on standard error.
 void fail(const char *why);
 
-// Reads a case file that document 01 accepts from standard input. A file that it refuses is not told from a good one,
-// except where it would not fit.
+// Reads a case file that documents 01 and 02 accept from standard input. A file that they refuse is not told from a
+// good one, except where it would not fit.
 void read_case(Case *c);
 
 #endif

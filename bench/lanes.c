@@ -132,10 +132,16 @@ static long settle(const Program *p, uint64_t valid) {
     return rounds;
 }
 
-// The lanes in which every observation is true and no constraint's body.
+// The lanes in which a constraint is met.
+static inline uint64_t met(const Constraint *k) {
+    Lanes b = body_value(k->body);
+    return k->kind == NEVER ? b.falses : ~b.trues;
+}
+
+// The lanes in which every observation is true and every constraint met.
 static uint64_t explaining(const Case *c) {
     uint64_t lanes = body_value(c->observed).trues;
-    for (int k = 0; k < c->constraints && lanes != 0; k++) lanes &= ~body_value(c->constraint[k]).trues;
+    for (int k = 0; k < c->constraints && lanes != 0; k++) lanes &= met(&c->constraint[k]);
     return lanes;
 }
 

@@ -39,11 +39,16 @@ static Settled settle(const Program *p, Added x) {
     }
 }
 
-// Whether every observation is true and no constraint's body.
+// Whether a constraint is met in an interpretation.
+static inline int met(const Constraint *k, Interpretation i) {
+    return k->kind == NEVER ? body_false(k->body, i) : !body_true(k->body, i);
+}
+
+// Whether every observation is true and every constraint met.
 static int explains_in(const Case *c, Interpretation i) {
     if (!body_true(c->observed, i)) return 0;
-    for (int k = 0; k < c->constraints; k++)
-        if (body_true(c->constraint[k], i)) return 0;
+    for (const Constraint *k = c->constraint; k < c->constraint + c->constraints; k++)
+        if (!met(k, i)) return 0;
     return 1;
 }
 

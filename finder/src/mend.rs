@@ -12,7 +12,7 @@ pub fn mend(refusal: Refusal) -> &'static str {
             "Shorten the names, or name a part of the form; a long comment needs `;` as its line's first byte."
         }
         Refusal::BadByte { .. } => "Write names in small letters, digits and `-`, and a comment on its own line.",
-        Refusal::NotAForm { .. } => "Write one whole form on the line: true, false, if, never, seen or query.",
+        Refusal::NotAForm { .. } => "Write one whole form on the line: true, false, if, never, avoid, seen or query.",
         Refusal::LongName { .. } => "Shorten the name, on every line that has it.",
         Refusal::DeepFormula { .. } => "Name a part of the query by a rule, and ask for that name.",
         Refusal::ManyNames { .. } => "Leave out the names that no reading and no query needs.",

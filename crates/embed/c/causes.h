@@ -1,8 +1,8 @@
 /* The cause finder's operations: read a case file, settle one setting, answer the question, number the atoms by layers
  * or find a ring of rules, write the report.
  *
- * From: document 01, "Case tables and sound cases" and "What each operation refuses"; document 02, [1] and [3]. Link
- * libembed.a (x86-64).
+ * From: document 01, "Case tables and sound cases" and "What each operation refuses"; document 02, [1], [3] and [5].
+ * Link libembed.a (x86-64).
  *
  * Lent memory is a pointer and a number of elements. The pointer is aligned for its type and reaches that many
  * elements; memory that a call writes overlaps no other memory lent to the same call. A pointer to no elements isn't
@@ -25,20 +25,22 @@ extern "C" {
 #endif
 
 /* The version of this header and of the Rust module beside it. */
-#define CAUSES_VERSION "0.2.2"
+#define CAUSES_VERSION "0.3.0"
 
 /* Sizes of the lent tables, in elements. A longer table is lawful; what is past its size keeps its contents. */
 enum {
     CAUSES_CLAUSE_WORDS = 768,    /* 3 a clause: head + 64 * kind, plain atoms, negated atoms */
-    CAUSES_CONSTRAINT_WORDS = 64, /* 2 a constraint: plain atoms, negated atoms */
+    CAUSES_CONSTRAINT_WORDS = 96, /* 3 a constraint: plain atoms, negated atoms, kind */
     CAUSES_FORMULA_BYTES = 2048,  /* 16 parts: formula q at the front of part q */
     CAUSES_PART_BYTES = 128,      /* nodes in prefix order: 0 to 63 an atom, then CAUSES_NOT to CAUSES_SAME */
     CAUSES_NAMES_BYTES = 1024,    /* 16 an atom, zero-filled at the end */
     CAUSES_NAME_BYTES = 16
 };
 
-/* Kinds of clauses and nodes of formulas. */
+/* Kinds of clauses, kinds of constraints and nodes of formulas; another kind is unsound. A constraint's body is all its
+ * literals together: with CAUSES_NEVER it must be false, with CAUSES_AVOID it must not be true. */
 enum { CAUSES_FACT = 0, CAUSES_ASSUMPTION = 1, CAUSES_RULE = 2 };
+enum { CAUSES_NEVER = 0, CAUSES_AVOID = 1 };
 enum { CAUSES_NOT = 64, CAUSES_AND = 65, CAUSES_OR = 66, CAUSES_THEN = 67, CAUSES_SAME = 68 };
 
 /* Bounds: sizes that are enough for every file and every case. */

@@ -1,6 +1,6 @@
 /* A case with its tables in one struct, over the calls of causes.h: the sizes go with it, and a name is a text.
  *
- * A struct is 9,904 bytes. Calls on different structs are independent; all but reading only read theirs.
+ * A struct is 10,160 bytes. Calls on different structs are independent; all but reading only read theirs.
  */
 #ifndef CAUSES_CASE_H
 #define CAUSES_CASE_H

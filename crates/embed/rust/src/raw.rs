@@ -39,7 +39,7 @@ extern "C" {
         answer_words: usize,
     ) -> u32;
 
-    /// Answers the question of a case; answer: 16 verdicts, number of minimal explanations, how many are listed, rounds.
+    /// Answers the question of a case; answer: 16 verdicts, number of minimal explanations, how many listed, rounds.
     pub fn causes_question(
         record: *const u64,
         record_words: usize,

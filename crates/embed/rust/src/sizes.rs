@@ -1,12 +1,12 @@
 //! The sizes of lent memory, in elements.
 //!
-//! From: document 01, Case tables and sound cases; What each operation refuses.
+//! From: document 01, Case tables and sound cases; What each operation refuses; document 02, `[1]` and `[5]`.
 
 /// Words of the clause table, three a clause.
 pub const CLAUSE_WORDS: usize = 768;
 
-/// Words of the constraint table, two a constraint.
-pub const CONSTRAINT_WORDS: usize = 64;
+/// Words of the constraint table, three a constraint.
+pub const CONSTRAINT_WORDS: usize = 96;
 
 /// Bytes of the formula table: a part for each query.
 pub const FORMULA_BYTES: usize = QUERIES * PART_BYTES;

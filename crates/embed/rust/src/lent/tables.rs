@@ -1,13 +1,14 @@
 //! The case record and the lent tables.
 //!
-//! From: document 01, Case tables and sound cases.
+//! From: document 01, Case tables and sound cases; document 02, [1] and [5].
 
 use crate::sizes::{CLAUSE_WORDS, CONSTRAINT_WORDS, FORMULA_BYTES, NAMES_BYTES, NAME_BYTES, QUERIES, RECORD_WORDS};
 
 /// Clauses: three words each, head + 64 × kind (0 fact, 1 assumption, 2 rule), plain atoms, negated atoms.
 pub type Clauses = [u64; CLAUSE_WORDS];
 
-/// Constraints: two words each, plain atoms, negated atoms.
+/// Constraints: three words each, plain atoms, negated atoms, kind (0 never, the body must be false; 1 avoid, it must
+/// not be true).
 pub type Constraints = [u64; CONSTRAINT_WORDS];
 
 /// Formulas: 128 bytes each, in prefix order, 0 to 63 an atom, 64 not, 65 and, 66 or, 67 then, 68 same.
