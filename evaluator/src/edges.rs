@@ -140,17 +140,23 @@ fn clause_count(random: &mut Random, past: usize) -> Sample {
     sample(file(random, &lines), past, 9)
 }
 
-/// 32 constraints, or 33, of both kinds in half of the draws, else of one.
+/// 32 constraints, or 33, of both kinds in half of the draws, else of one. In two of three draws all but one of them are
+/// met wherever the reading is true, and that one is often the last.
 fn constraint_count(random: &mut Random, past: usize) -> Sample {
     let all: Vec<String> = (0..4).map(|i| format!("n{i}")).collect();
-    let mut lines = vec![String::from("(if n0 n1 n2)"), String::from("(seen n0)"), formula(random, &all, 3)];
-    lines[2] = format!("(query {})", lines[2]);
+    let mut lines: Vec<String> = ["(if n0 n1 n2)", "(if n0 n3)", "(seen n0)"].map(String::from).to_vec();
+    lines.push(format!("(query {})", formula(random, &all, 3)));
     let kinds = *random.pick(&[&KINDS[..1], &KINDS[1..], &KINDS[..], &KINDS[..]]);
-    let negated = *random.pick(&[80, 100, 100]);
-    for _ in 0..CONSTRAINTS + past {
-        let (first, second) = (random.pick(&all), random.pick(&all));
-        let kind = random.pick(kinds).word();
-        lines.push(format!("({kind} {first} {})", literal(random, second, negated)));
+    let drawn = random.below(CONSTRAINTS);
+    let alone = *random.pick(&[None, Some(drawn), Some(CONSTRAINTS - 1)]);
+    for at in 0..CONSTRAINTS + past {
+        let (first, second) = (random.pick(&all), random.pick(&all[1..]));
+        let body = match alone {
+            None => format!("{first} {}", literal(random, second, 90)),
+            Some(place) if at == place => literal(random, second, 30),
+            Some(_) => format!("{first} (not n0)"),
+        };
+        lines.push(format!("({} {body})", random.pick(kinds).word()));
     }
     sample(file(random, &lines), past, 9)
 }

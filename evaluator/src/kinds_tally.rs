@@ -1,5 +1,5 @@
 //! How many generated files stand at the limit of both kinds of constraints together, and how many would be answered
-//! otherwise under a wrong reading of the kinds.
+//! otherwise under a wrong reading of their constraints.
 //!
 //! From: document 02, [5].
 
@@ -14,7 +14,7 @@ use crate::tree::tokens;
 type Misreading = (&'static str, fn(&[Constraint]) -> Vec<Constraint>);
 
 /// The wrong readings.
-const MISREADINGS: [Misreading; 7] = [
+const MISREADINGS: [Misreading; 9] = [
     ("other with never as avoid", |all| with_kinds(all, |_| Kind::Avoid)),
     ("other with avoid as never", |all| with_kinds(all, |_| Kind::Never)),
     ("other with never and avoid exchanged", |all| with_kinds(all, exchanged)),
@@ -22,6 +22,8 @@ const MISREADINGS: [Misreading; 7] = [
     ("other with each literal of a never false", |all| all.iter().flat_map(taken_apart).collect()),
     ("other without never", |all| all.iter().filter(|c| c.kind != Kind::Never).cloned().collect()),
     ("other without avoid", |all| all.iter().filter(|c| c.kind != Kind::Avoid).cloned().collect()),
+    ("other with the first 21 constraints only", |all| all.iter().take(21).cloned().collect()),
+    ("other with the first 31 constraints only", |all| all.iter().take(31).cloned().collect()),
 ];
 
 /// What stands at the limit: the words, and the kind of the constraint past it, if there is one.
