@@ -82,7 +82,7 @@ pub const EACH: &[u8] = b"; each table
 (false ab)
 (true fan)
 (never stopped (not fan))
-(avoid (not shut) fan)
+(avoid stopped (not ab))
 (seen (not low))
 (seen fan)
 (query (then (or shut low) (same stopped (not ab))))
