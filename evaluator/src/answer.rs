@@ -35,7 +35,7 @@ pub fn answer(bytes: &[u8]) -> Answer {
 }
 
 /// The lines that give `findings`, with atoms named by `names`.
-fn text(findings: &Findings, names: &[String]) -> String {
+pub fn text(findings: &Findings, names: &[String]) -> String {
     let found = findings.minimal.len();
     let listed = found.min(LIST_SLOTS);
     let mut text: String = findings.verdicts.iter().map(|v| format!("(verdict {})\n", v.word())).collect();

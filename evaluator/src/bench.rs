@@ -3,6 +3,7 @@
 
 use crate::answer::{answer, Answer};
 use crate::compare::{differing, shown, unmeant};
+use crate::kinds_tally::{met, Met};
 use crate::run::{bad_end, run, Fault, Input};
 use crate::sample::sample;
 use crate::vectors::Vector;
@@ -24,9 +25,11 @@ pub enum Test {
     Generated(u64),
 }
 
-/// What a test gave: the evaluator's answer, and the complaint if it failed.
+/// What a test gave: the evaluator's answer, what is counted of a generated file by its kinds of constraints, and the
+/// complaint if it failed.
 pub struct Outcome {
     pub own: Option<Answer>,
+    pub kinds: Option<Met>,
     pub complaint: Option<String>,
 }
 
@@ -75,7 +78,11 @@ pub fn evaluated<T>(evaluate: impl FnOnce() -> T + UnwindSafe) -> Result<T, Stri
 fn answered(path: &Path) -> Result<Outcome, String> {
     let vector = Vector::load(path)?;
     let own = evaluated(|| vector.answer().text())?;
-    Ok(Outcome { own: None, complaint: differing("stored answer", vector.expected.as_bytes(), own.as_bytes()) })
+    Ok(Outcome {
+        own: None,
+        kinds: None,
+        complaint: differing("stored answer", vector.expected.as_bytes(), own.as_bytes()),
+    })
 }
 
 impl Bench {
@@ -120,17 +127,21 @@ impl Bench {
         let own = evaluated(|| answer(&bytes))?;
         let expected = [("stored answer", kept.as_slice()), ("evaluator", own.text.as_bytes())];
         let complaint = self.compared(Input::Stored(path.to_path_buf()), &expected).err();
-        Ok(Outcome { own: Some(own), complaint })
+        Ok(Outcome { own: Some(own), kinds: None, complaint })
     }
 
     /// Runs the generated file of `seed`.
     fn generated(&self, seed: u64) -> Result<Outcome, String> {
         let made = sample(seed);
-        let own = evaluated(|| answer(&made.bytes))?;
+        let (own, kinds) = evaluated(|| {
+            let own = answer(&made.bytes);
+            let kinds = met(&made.bytes, &own);
+            (own, kinds)
+        })?;
         let expected = [("evaluator", own.text.as_bytes())];
         let complaint =
             unmeant(made.due, &own).or_else(|| self.compared(generated_input(seed, made.bytes), &expected).err());
-        Ok(Outcome { own: Some(own), complaint })
+        Ok(Outcome { own: Some(own), kinds: Some(kinds), complaint })
     }
 
     /// Runs `test`.
@@ -140,6 +151,6 @@ impl Bench {
             Test::Vector(path) => answered(path),
             Test::Generated(seed) => self.generated(*seed),
         };
-        outcome.unwrap_or_else(|complaint| Outcome { own: None, complaint: Some(complaint) })
+        outcome.unwrap_or_else(|complaint| Outcome { own: None, kinds: None, complaint: Some(complaint) })
     }
 }

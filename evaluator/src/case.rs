@@ -2,6 +2,7 @@
 //!
 //! From: document 01, Interpretations and the step; Causes, settings, explanations.
 
+use crate::constraint::Constraint;
 use crate::formula::{Formula, Literal};
 
 /// The body of a clause: that of a fact, that of an assumption, or the literals of a rule.
@@ -24,7 +25,7 @@ pub struct Clause {
 pub struct Case {
     pub names: Vec<String>,
     pub clauses: Vec<Clause>,
-    pub constraints: Vec<Vec<Literal<usize>>>,
+    pub constraints: Vec<Constraint>,
     pub observations: Vec<Literal<usize>>,
     pub queries: Vec<Formula<usize>>,
 }

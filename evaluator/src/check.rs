@@ -1,6 +1,7 @@
 //! The driver: all tests of a program, their failures, what occurred, and the count.
 
 use crate::bench::{Bench, Test};
+use crate::kinds_tally;
 use crate::sample::{sample, SAMPLES};
 use crate::tally::Tally;
 use std::collections::BTreeMap;
@@ -109,9 +110,11 @@ pub fn check(program: &Path, folders: &[&Path], limit: Duration) -> bool {
     }
     tests.extend((0..SAMPLES).map(Test::Generated));
     let mut tally = Tally::default();
+    let mut kinds = kinds_tally::Tally::default();
     let mut counts = Counts::default();
     let bench = Bench::new(program, limit);
     for (test, outcome) in tests.iter().zip(outcomes(&tests, |test| bench.outcome(test))) {
+        outcome.kinds.iter().for_each(|met| kinds.count(met));
         if let Some(own) = &outcome.own {
             counts.settings += own.settings;
             counts.searched += own.searched;
@@ -124,10 +127,12 @@ pub fn check(program: &Path, folders: &[&Path], limit: Duration) -> bool {
             None => counts.passed += 1,
         }
     }
-    failures.extend(tally.missing().into_iter().map(|what| format!("never occurred: {what}")));
-    let lines = [
+    let missing = tally.missing().into_iter().chain(kinds.missing());
+    failures.extend(missing.map(|what| format!("never occurred: {what}")));
+    let mut lines = vec![
         format!("generated: {SAMPLES} files; {}", tally.summary()),
         format!("every model gone through: {} settings of {}", counts.searched, counts.settings),
     ];
+    lines.extend(kinds.lines());
     concluded(counts.passed, &failures, &lines)
 }

@@ -1,5 +1,6 @@
 //! Damage done to a case file: to its bytes, to its lines, and to what documents 01 and 02 limit.
 
+use crate::families::constraint;
 use crate::file::{ATOMS, CAUSES, CLAUSES, CONSTRAINTS, DEPTH, FILE_BYTES, LINE_BYTES, QUERIES};
 use crate::layout::joined;
 use crate::names::drawn_name;
@@ -9,8 +10,10 @@ use crate::random::Random;
 const ODD_BYTES: [u8; 18] = *b"\0\t\r\x0b\x7f\x80\xff;()_.,AZ-9\n";
 
 /// Tokens of which odd lines are made.
-const TOKENS: [&str; 18] =
-    ["(", "(", "(", ")", ")", ")", "if", "query", "seen", "never", "not", "and", "true", "a", "n0", "low", "9a", "-"];
+const TOKENS: [&str; 19] = [
+    "(", "(", "(", ")", ")", ")", "if", "query", "seen", "never", "avoid", "not", "and", "true", "a", "n0", "low",
+    "9a", "-",
+];
 
 /// The lines of `bytes`.
 fn lines_of(bytes: &[u8]) -> Vec<Vec<u8>> {
@@ -109,11 +112,14 @@ fn past_a_limit(random: &mut Random, mut bytes: Vec<u8>) -> Vec<u8> {
     let more: String = match random.below(9) {
         0 => (0..ATOMS / 2 + around).map(|i| format!("(true x{i})\n(false y{i})\n")).collect(),
         1 => (0..CLAUSES - 20 + 10 * around).map(line).collect(),
-        2 => (0..CONSTRAINTS - 2 + around).map(|_| String::from("(never n0 (not n0))\n")).collect(),
+        2 => (0..CONSTRAINTS - 2 + around).map(|_| constraint(random, "n0 (not n0)") + "\n").collect(),
         3 => (0..CAUSES - 4 + 3 * around).map(|i| format!("(seen (not y{i}))\n")).collect(),
         4 => "(query n0)\n".repeat(QUERIES - 2 + around),
         5 => format!("(query {}n0{})\n", "(not ".repeat(DEPTH - 2 + around), ")".repeat(DEPTH - 2 + around)),
-        6 => format!("(never n0 {})\n", drawn_name(random, 15 + around)),
+        6 => {
+            let body = format!("n0 {}", drawn_name(random, 15 + around));
+            constraint(random, &body) + "\n"
+        }
         7 => return without_query(&bytes),
         _ => {
             let free = (FILE_BYTES - 300 + 200 * around).saturating_sub(bytes.len());

@@ -1,8 +1,9 @@
 //! Files at the limits of documents 01 and 02, each limit from both sides.
 //!
-//! From: document 01, The file; What each operation refuses (Reading); Edges; document 02, [1], [2].
+//! From: document 01, The file; What each operation refuses (Reading); Edges; document 02, [1], [2], [5].
 
-use crate::families::{formula, literal, queries};
+use crate::constraint::KINDS;
+use crate::families::{constraint, formula, literal, queries};
 use crate::file::{ATOMS, CAUSES, CLAUSES, CONSTRAINTS, DEPTH, FILE_BYTES, LINE_BYTES, NAME_BYTES, QUERIES};
 use crate::layout::{file, joined};
 use crate::names::{drawn_name, names};
@@ -55,7 +56,7 @@ fn atom_count(random: &mut Random, past: usize) -> Sample {
         lines.push(format!("(query (or (and {} {}) (then {} {})))", rest[0], rest[1], rest[2], rest[3]));
     } else {
         lines.push(format!("(query {})", heads[1]));
-        lines.push(format!("(never {})", rest.join(" ")));
+        lines.push(constraint(random, &rest.join(" ")));
     }
     sample(file(random, &lines), past, 8)
 }
@@ -68,7 +69,7 @@ fn name_length(random: &mut Random, past: usize) -> Sample {
         0 => format!("(true {name})"),
         1 => format!("(if {name} shut)"),
         2 => format!("(if low shut (not {name}))"),
-        3 => format!("(never shut {name})"),
+        3 => constraint(random, &format!("shut {name}")),
         4 => format!("(seen (not {name}))"),
         _ => format!("(false {name})"),
     });
@@ -83,7 +84,7 @@ fn cause_count(random: &mut Random, past: usize) -> Sample {
     let all: Vec<String> = (0..CAUSES + past).map(|i| format!("c{i}")).collect();
     let cut = random.between(1, all.len() - 1);
     let mut lines = vec![format!("(if low {})", all[..cut].join(" "))];
-    lines.push(format!("(never {})", all[cut..].join(" ")));
+    lines.push(constraint(random, &all[cut..].join(" ")));
     lines.push(String::from("(seen low)"));
     lines.extend(queries(random, &all, 3));
     sample(file(random, &lines), past, 12)
@@ -139,14 +140,23 @@ fn clause_count(random: &mut Random, past: usize) -> Sample {
     sample(file(random, &lines), past, 9)
 }
 
-/// 32 constraints, or 33.
+/// 32 constraints, or 33, of both kinds in half of the draws, else of one. In two of three draws all but one of them are
+/// met wherever the reading is true, and that one is often the last.
 fn constraint_count(random: &mut Random, past: usize) -> Sample {
     let all: Vec<String> = (0..4).map(|i| format!("n{i}")).collect();
-    let mut lines = vec![String::from("(if n0 n1 n2)"), String::from("(seen n0)"), formula(random, &all, 3)];
-    lines[2] = format!("(query {})", lines[2]);
-    for _ in 0..CONSTRAINTS + past {
-        let (first, second) = (random.pick(&all), random.pick(&all));
-        lines.push(format!("(never {first} {})", literal(random, second, 80)));
+    let mut lines: Vec<String> = ["(if n0 n1 n2)", "(if n0 n3)", "(seen n0)"].map(String::from).to_vec();
+    lines.push(format!("(query {})", formula(random, &all, 3)));
+    let kinds = *random.pick(&[&KINDS[..1], &KINDS[1..], &KINDS[..], &KINDS[..]]);
+    let drawn = random.below(CONSTRAINTS);
+    let alone = *random.pick(&[None, Some(drawn), Some(CONSTRAINTS - 1)]);
+    for at in 0..CONSTRAINTS + past {
+        let (first, second) = (random.pick(&all), random.pick(&all[1..]));
+        let body = match alone {
+            None => format!("{first} {}", literal(random, second, 90)),
+            Some(place) if at == place => literal(random, second, 30),
+            Some(_) => format!("{first} (not n0)"),
+        };
+        lines.push(format!("({} {body})", random.pick(kinds).word()));
     }
     sample(file(random, &lines), past, 9)
 }

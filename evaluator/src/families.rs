@@ -1,6 +1,7 @@
 //! Families of lawful case files, as lines of forms: scattered and layered programs, diagnoses, wide
 //! programs and chains.
 
+use crate::constraint::KINDS;
 use crate::file::{ATOMS, CLAUSES, QUERIES};
 use crate::names::names;
 use crate::random::Random;
@@ -31,6 +32,11 @@ fn body(random: &mut Random, atoms: &[String]) -> String {
     }
     random.shuffle(&mut literals);
     literals.join(" ")
+}
+
+/// A constraint of a drawn kind with the body `body`.
+pub fn constraint(random: &mut Random, body: &str) -> String {
+    format!("({} {body})", random.pick(&KINDS).word())
 }
 
 /// A formula over `atoms` of depth at most `depth`.
@@ -75,7 +81,8 @@ fn readings(random: &mut Random, heads: &[String], atoms: &[String]) -> Vec<Stri
         lines.push(format!("(seen {})", literal(random, name, 25)));
     }
     for _ in 0..*random.pick(&[0, 0, 0, 1, 1, 2, 3]) {
-        lines.push(format!("(never {})", body(random, atoms)));
+        let body = body(random, atoms);
+        lines.push(constraint(random, &body));
     }
     lines
 }
@@ -123,7 +130,8 @@ pub fn diagnosis(random: &mut Random, causes: usize, readings: usize) -> Vec<Str
     }
     if random.chance(25) {
         let (first, second) = (random.pick(&sources[..causes]), random.pick(sources));
-        lines.push(format!("(never {first} {})", literal(random, second, 50)));
+        let body = format!("{first} {}", literal(random, second, 50));
+        lines.push(constraint(random, &body));
     }
     let depth = random.between(1, 3);
     let from = if random.chance(60) { &sources[..causes] } else { sources };

@@ -1,9 +1,10 @@
 //! Reading a case file: each line that is no comment is taken through the checks 3 to 10, one after the other over the
 //! whole line.
 //!
-//! From: document 01, The file; What each operation refuses (Reading); document 02, [1], [2].
+//! From: document 01, The file; What each operation refuses (Reading); document 02, [1], [2], [5].
 
 use crate::case::{causes, Body, Case, Clause};
+use crate::constraint::Constraint;
 use crate::form::{form, Form};
 use crate::formula::{Formula, Literal};
 use crate::tree::tree;
@@ -30,7 +31,7 @@ pub struct Refusal {
 struct Reading {
     names: Vec<String>,
     clauses: Vec<Clause>,
-    constraints: Vec<Vec<Literal<usize>>>,
+    constraints: Vec<Constraint>,
     observations: Vec<Literal<usize>>,
     queries: Vec<Formula<usize>>,
 }
@@ -110,7 +111,7 @@ impl Reading {
     fn is_full_for(&self, said: &Form) -> bool {
         match said {
             Form::Fact(_) | Form::Assumption(_) | Form::Rule(..) => self.clauses.len() == CLAUSES,
-            Form::Never(_) => self.constraints.len() == CONSTRAINTS,
+            Form::Constraint(..) => self.constraints.len() == CONSTRAINTS,
             Form::Seen(_) | Form::Query(_) => false,
         }
     }
@@ -132,7 +133,7 @@ impl Reading {
             Form::Fact(n) => self.clauses.push(clause(self.atom(&n), Body::True)),
             Form::Assumption(n) => self.clauses.push(clause(self.atom(&n), Body::False)),
             Form::Rule(n, body) => self.clauses.push(clause(self.atom(&n), Body::All(self.numbered(&body)))),
-            Form::Never(body) => self.constraints.push(self.numbered(&body)),
+            Form::Constraint(kind, body) => self.constraints.push(Constraint { kind, body: self.numbered(&body) }),
             Form::Seen(l) => self.observations.extend(self.numbered(&[l])),
             Form::Query(f) => self.queries.push(f.map(&|n| self.atom(n))),
         }

@@ -1,7 +1,8 @@
 //! The form that a tree of words is.
 //!
-//! From: document 01, The file.
+//! From: document 01, The file; document 02, [5].
 
+use crate::constraint::Kind;
 use crate::formula::{Connective, Formula, Literal};
 use crate::tree::Tree;
 
@@ -10,7 +11,7 @@ pub enum Form {
     Fact(String),
     Assumption(String),
     Rule(String, Vec<Literal<String>>),
-    Never(Vec<Literal<String>>),
+    Constraint(Kind, Vec<Literal<String>>),
     Seen(Literal<String>),
     Query(Formula<String>),
 }
@@ -74,7 +75,8 @@ pub fn form(tree: &Tree) -> Option<Form> {
         ("true", [n]) => Some(Form::Fact(name(n)?)),
         ("false", [n]) => Some(Form::Assumption(name(n)?)),
         ("if", [n, body @ ..]) => Some(Form::Rule(name(n)?, literals(body)?)),
-        ("never", body) => Some(Form::Never(literals(body)?)),
+        ("never", body) => Some(Form::Constraint(Kind::Never, literals(body)?)),
+        ("avoid", body) => Some(Form::Constraint(Kind::Avoid, literals(body)?)),
         ("seen", [l]) => Some(Form::Seen(literal(l)?)),
         ("query", [f]) => Some(Form::Query(formula(f)?)),
         _ => None,
@@ -87,7 +89,7 @@ impl Form {
         match self {
             Form::Fact(n) | Form::Assumption(n) => vec![n],
             Form::Rule(n, body) => std::iter::once(n).chain(body.iter().map(|l| &l.atom)).collect(),
-            Form::Never(body) => body.iter().map(|l| &l.atom).collect(),
+            Form::Constraint(_, body) => body.iter().map(|l| &l.atom).collect(),
             Form::Seen(l) => vec![&l.atom],
             Form::Query(f) => f.atoms(),
         }

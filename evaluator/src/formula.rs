@@ -36,7 +36,7 @@ pub enum Formula<A> {
 }
 
 /// The atom `atom`, or its negation.
-#[derive(Clone)]
+#[derive(Clone, PartialEq)]
 pub struct Literal<A> {
     pub atom: A,
     pub negated: bool,
@@ -48,7 +48,7 @@ pub fn negation(v: Value) -> Value {
 }
 
 /// Łukasiewicz's "then": true up to the right side's rank, one rank less for each rank that the left side is above it.
-fn implication(v: Value, w: Value) -> Value {
+pub fn implication(v: Value, w: Value) -> Value {
     TRUE.min(TRUE - v + w)
 }
 

@@ -1,6 +1,6 @@
 //! The record and the tables that hold a case, made from it and read back.
 //!
-//! From: document 01, Case tables and sound cases; document 02, [1].
+//! From: document 01, Case tables and sound cases; document 02, [1], [5].
 //!
 //! | name | meaning |
 //! |---|---|
@@ -9,6 +9,7 @@
 //! | `Held::case` | the case that a record and tables hold, if they are sound |
 
 use crate::case::{causes, Body, Case, Clause};
+use crate::constraint::{Constraint, Kind};
 use crate::file::{ATOMS, CAUSES, CLAUSES, CONSTRAINTS, DEPTH, NAME_BYTES, QUERIES};
 use crate::formula::{Connective, Formula, Literal};
 
@@ -58,6 +59,12 @@ fn clause_words(clause: &Clause) -> [u64; 3] {
     [clause.head as u64 + 64 * kind, plain, negated]
 }
 
+/// The three words of a constraint.
+fn constraint_words(constraint: &Constraint) -> [u64; 3] {
+    let [plain, negated] = masks(&constraint.body);
+    [plain, negated, constraint.kind.number()]
+}
+
 /// The nodes of a formula without constants, in prefix order.
 fn nodes(formula: &Formula<usize>) -> Vec<u8> {
     match formula {
@@ -98,6 +105,11 @@ fn clause(words: &[u64], atoms: usize) -> Option<Clause> {
     (head < atoms).then_some(Clause { head, body })
 }
 
+/// The constraint of three words, none if it is not sound among `atoms` atoms.
+fn constraint(words: &[u64], atoms: usize) -> Option<Constraint> {
+    Some(Constraint { kind: Kind::of(words[2])?, body: body(words[0], words[1], atoms)? })
+}
+
 /// The formula over `atoms` atoms at the front of `nodes`, and the nodes behind it; none if there is no such formula.
 fn formula(nodes: &[u8], atoms: usize) -> Option<(Formula<usize>, &[u8])> {
     let (first, rest) = nodes.split_first()?;
@@ -119,7 +131,7 @@ impl Held {
         Held {
             record: Record::default(),
             clauses: vec![0; 3 * CLAUSES],
-            constraints: vec![0; 2 * CONSTRAINTS],
+            constraints: vec![0; 3 * CONSTRAINTS],
             formulas: vec![0; PART_BYTES * QUERIES],
             names: vec![0; NAME_BYTES * ATOMS],
         }
@@ -135,7 +147,7 @@ impl Held {
         record.formulas = case.queries.len() as u64;
         [record.plain, record.negated] = masks(&case.observations);
         fill(&mut held.clauses, &case.clauses.iter().flat_map(clause_words).collect::<Vec<_>>());
-        fill(&mut held.constraints, &case.constraints.iter().flat_map(|c| masks(c)).collect::<Vec<_>>());
+        fill(&mut held.constraints, &case.constraints.iter().flat_map(constraint_words).collect::<Vec<_>>());
         for (at, query) in case.queries.iter().enumerate() {
             let nodes = nodes(query);
             record.nodes[at] = nodes.len() as u64;
@@ -162,11 +174,15 @@ impl Held {
         let clauses = within(self.record.clauses, 0, CLAUSES)?;
         let constraints = within(self.record.constraints, 0, CONSTRAINTS)?;
         let formulas = within(self.record.formulas, 1, QUERIES)?;
-        let constraint = |w: &[u64]| body(w[0], w[1], atoms);
         let case = Case {
             names: (0..atoms).map(|i| format!("n{i}")).collect(),
             clauses: self.clauses.chunks_exact(3).take(clauses).map(|w| clause(w, atoms)).collect::<Option<_>>()?,
-            constraints: self.constraints.chunks_exact(2).take(constraints).map(constraint).collect::<Option<_>>()?,
+            constraints: self
+                .constraints
+                .chunks_exact(3)
+                .take(constraints)
+                .map(|w| constraint(w, atoms))
+                .collect::<Option<_>>()?,
             observations: literals(self.record.plain, self.record.negated, atoms)?,
             queries: (0..formulas).map(|at| self.formula(at, atoms)).collect::<Option<_>>()?,
         };

@@ -2,6 +2,7 @@
 //! reading of the rules.
 
 use crate::case::{Body, Case, Clause};
+use crate::constraint::Constraint;
 use crate::file::Refusal;
 use crate::formula::Literal;
 use crate::layers::{dependence, numbers};
@@ -61,7 +62,7 @@ fn with_first_bodies(case: &Case) -> Vec<Clause> {
 
 /// The clauses of `case`, and each constraint as a rule with its first atom as head.
 fn with_constraints(case: &Case) -> Vec<Clause> {
-    let rule = |body: &Vec<Literal<usize>>| Clause { head: body[0].atom, body: Body::All(body[1..].to_vec()) };
+    let rule = |c: &Constraint| Clause { head: c.body[0].atom, body: Body::All(c.body[1..].to_vec()) };
     case.clauses.iter().cloned().chain(case.constraints.iter().map(rule)).collect()
 }
 

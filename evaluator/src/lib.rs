@@ -2,7 +2,7 @@
 //!
 //! | file | holds |
 //! |---|---|
-//! | formula, case | values and formulas; what a case file says |
+//! | formula, constraint, case | values and formulas; kinds of constraints; what a case file says |
 //! | tree, form, file | a line as a tree, the form of a tree, the checks of a file |
 //! | model, completion | the step and its iterates; models of the weak completion |
 //! | verdict, question, answer | the verdict on a query, minimal explanations, the text of the answer |
@@ -12,7 +12,7 @@
 //! | random, names, layout, families | drawn lawful files |
 //! | shapes | drawn files with chains and rings |
 //! | edges, lists, damage, sample | files at the limits, damaged files, the file of a seed |
-//! | run, compare, tally, bench, check | the driver |
+//! | run, compare, tally, kinds_tally, bench, check | the driver |
 //! | layers_tally, layers_check | the driver of the program `layers` |
 //! | lookup_pairs, lookup_tally, lookup_check | the driver of the program `compare`, and the pairs that it draws |
 //! | tables | tables of the manual |
@@ -23,6 +23,7 @@ pub mod case;
 pub mod check;
 pub mod compare;
 pub mod completion;
+pub mod constraint;
 pub mod damage;
 pub mod edges;
 pub mod families;
@@ -30,6 +31,7 @@ pub mod file;
 pub mod form;
 pub mod formula;
 pub mod held;
+pub mod kinds_tally;
 pub mod layers;
 pub mod layers_answer;
 pub mod layers_check;

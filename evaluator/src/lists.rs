@@ -3,7 +3,7 @@
 //! Ten causes, each with an atom that is true where the cause is decided. A reading that needs nine or all ten of these
 //! atoms has one minimal setting for each way to decide so many causes.
 
-use crate::families::queries;
+use crate::families::{constraint, queries};
 use crate::file::CAUSES;
 use crate::layout::file;
 use crate::random::Random;
@@ -22,7 +22,7 @@ fn rules(random: &mut Random, kind: usize) -> Vec<String> {
     random.shuffle(&mut order);
     let nine = |i: &usize| format!("(if low {})", body('d', &[*i]));
     match kind {
-        0 => vec![format!("(if low {})", body('d', &[])), format!("(never {})", body('c', &[]))],
+        0 => vec![format!("(if low {})", body('d', &[])), constraint(random, &body('c', &[]))],
         1 => vec![format!("(if low {})", body('d', &[]))],
         2 => {
             let one_more = format!("(if low {})", body('c', &order[2..3]));

@@ -105,7 +105,7 @@ pub fn tables(text: &str) -> Result<Held, String> {
     };
     let names: Vec<Vec<Vec<u8>>> = rows(text, "name", |name| Ok(name.as_bytes().to_vec()))?;
     put(&mut held.clauses, 3, &rows(text, "clause", hexadecimal)?)?;
-    put(&mut held.constraints, 2, &rows(text, "constraint", hexadecimal)?)?;
+    put(&mut held.constraints, 3, &rows(text, "constraint", hexadecimal)?)?;
     put(&mut held.formulas, PART_BYTES, &rows(text, "formula", byte)?)?;
     put(&mut held.names, NAME_BYTES, &names.iter().map(|name| name.concat()).collect::<Vec<_>>())?;
     Ok(held)
@@ -129,7 +129,7 @@ fn tables_text(held: &Held) -> String {
     text.push_str(&format!("nodes {}\n", joined(nodes, " ", |n| n.to_string())));
     text.push_str(&format!("obs_plain {plain:016x}\nobs_neg {negated:016x}\n"));
     text.push_str(&entry_lines("clause", &held.clauses, 3, *clauses, |w| format!("{w:016x}")));
-    text.push_str(&entry_lines("constraint", &held.constraints, 2, *constraints, |w| format!("{w:016x}")));
+    text.push_str(&entry_lines("constraint", &held.constraints, 3, *constraints, |w| format!("{w:016x}")));
     for (part, count) in held.formulas.chunks_exact(PART_BYTES).zip(nodes).take(*formulas as usize) {
         let used = &part[..PART_BYTES.min(*count as usize)];
         text.push_str(&format!("formula {}\n", joined(used, " ", |n| format!("{n:02x}"))));

@@ -1,6 +1,6 @@
 //! The question: which settings explain, which of these are minimal, and the verdict on each query.
 //!
-//! From: document 01, Causes, settings, explanations; The question; document 02, [1].
+//! From: document 01, Causes, settings, explanations; The question; document 02, [1], [5].
 //!
 //! | name | meaning |
 //! |---|---|
@@ -12,6 +12,7 @@
 
 use crate::case::{causes, Body, Case};
 use crate::completion::{search_order, Completion, SearchOrder};
+use crate::constraint::Constraint;
 use crate::formula::{Formula, Literal, Value, TRUE};
 use crate::model::Program;
 pub use crate::verdict::Verdict;
@@ -66,7 +67,7 @@ pub struct Engine {
     held: bool,
     pub searched: usize,
     pub causes: Vec<usize>,
-    constraints: Vec<Vec<Literal<usize>>>,
+    constraints: Vec<Constraint>,
     observations: Vec<Literal<usize>>,
     queries: Vec<Formula<usize>>,
 }
@@ -147,9 +148,9 @@ impl Engine {
     fn judge(&mut self, set: &[Choice]) -> Judged {
         let (model, rounds) = self.settle(set);
         let observed = self.observations.iter().all(|l| l.value(&model) == TRUE);
-        let broken = self.constraints.iter().any(|body| body.iter().all(|l| l.value(&model) == TRUE));
+        let met = self.constraints.iter().all(|c| c.is_met(&model));
         let queries = self.queries.iter().map(|query| query.value(&model)).collect();
-        Judged { explains: observed && !broken, queries, rounds }
+        Judged { explains: observed && met, queries, rounds }
     }
 
     /// What is found of every set made of the first `base` choices, by number.
@@ -191,10 +192,14 @@ pub fn ask(case: Case) -> Findings {
     found
 }
 
+/// The answer to the question on `case`, in which what is settled is not held to the definition.
+pub fn ask_unheld(case: Case) -> Findings {
+    findings(Engine { held: false, ..Engine::new(case) })
+}
+
 /// The answer to the question on `case` with `query` as its one query, all atoms kept.
 fn ask_alone(case: &Case, query: &Formula<usize>) -> Findings {
-    let own = Case { queries: vec![query.clone()], ..case.clone() };
-    findings(Engine { held: false, ..Engine::new(own) })
+    ask_unheld(Case { queries: vec![query.clone()], ..case.clone() })
 }
 
 /// The wrong answer of a walk that ends each setting after `cap` rounds; its own count of rounds says nothing.

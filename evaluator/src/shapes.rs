@@ -1,7 +1,7 @@
 //! Generated files for the operation `layers`: chains, diamonds, towers, shortcuts and scattered rules, in half of the
 //! draws with one ring or two.
 
-use crate::families::literal;
+use crate::families::{constraint, literal};
 use crate::file::{ATOMS, CAUSES};
 use crate::layout::file;
 use crate::names::names;
@@ -108,7 +108,8 @@ fn other_lines(random: &mut Random, names: &[String]) -> Vec<String> {
     let [(a, b), (c, d), (e, f)] = [pair(), pair(), pair()];
     let mut lines = vec![format!("(query (then {a} {b}))")];
     if random.chance(50) {
-        lines.push(format!("(never {c} {})", literal(random, &d, 30)));
+        let body = format!("{c} {}", literal(random, &d, 30));
+        lines.push(constraint(random, &body));
     }
     if random.chance(30) {
         lines.extend([format!("(seen {})", literal(random, &e, 30)), format!("(seen {f})")]);

@@ -13,7 +13,7 @@ const LIMITS: [(&str, usize, usize); 8] = [
     ("names in a file", ATOMS, 0),
     ("bytes of a name", NAME_BYTES, 1),
     ("clauses, that is `true`, `false` and `if` lines", CLAUSES, 5),
-    ("constraints, that is `never` lines", CONSTRAINTS, 6),
+    ("constraints, that is `never` and `avoid` lines", CONSTRAINTS, 6),
     ("bytes of a line that is no comment, without its LF", LINE_BYTES, 4),
     ("bytes of a file", FILE_BYTES, 7),
     ("depth of a query's formula", DEPTH, 3),

@@ -22,8 +22,8 @@ pub const COUNTS: [Breach; 8] = [
     }),
     ("a 33rd constraint", Phrase::ConstraintCount, |r, h| {
         let count = r.between(33, 60);
-        let (row, used) = (h.constraints[..2].to_vec(), h.record[2] as usize);
-        h.constraints.truncate(2 * used);
+        let (row, used) = (h.constraints[..3].to_vec(), h.record[2] as usize);
+        h.constraints.truncate(3 * used);
         h.constraints.extend(row.repeat(count - used));
         h.record[2] = count as u64;
     }),
@@ -40,7 +40,7 @@ pub const COUNTS: [Breach; 8] = [
 ];
 
 /// The breaches in clauses, constraints and observations.
-pub const ENTRIES: [Breach; 16] = [
+pub const ENTRIES: [Breach; 19] = [
     ("a head names no atom", Phrase::HeadNamesAtom, head),
     ("a rule's plain bit names no atom", Phrase::ClauseBitNamesAtom, |r, h| outside(r, h, 1)),
     ("a rule's negated bit names no atom", Phrase::ClauseBitNamesAtom, |r, h| outside(r, h, 2)),
@@ -60,6 +60,15 @@ pub const ENTRIES: [Breach; 16] = [
         kind(r, h, far)
     }),
     ("a bit above head and kind", Phrase::KindListed, high_bit),
+    ("a constraint's kind of 2", Phrase::ConstraintKindListed, |r, h| *constraint_kind(r, h) = 2),
+    ("a constraint's kind past 2", Phrase::ConstraintKindListed, |r, h| {
+        let far = *r.pick(&[3, 4, 64, 128, 255, 256, 257, 1 << 16, 1 << 32, (1 << 32) + 1, 1 << 63, u64::MAX]);
+        *constraint_kind(r, h) = far
+    }),
+    ("a bit above a constraint's kind", Phrase::ConstraintKindListed, |r, h| {
+        let bit = r.between(1, 63);
+        *constraint_kind(r, h) |= 1 << bit
+    }),
 ];
 
 /// The breaches in a formula.
@@ -127,7 +136,7 @@ fn inside(random: &mut Random, held: &mut Held, kind: u64, word: usize) {
 
 /// Adds a bit that names no atom to word `word` of a constraint.
 fn constraint_bit(random: &mut Random, held: &mut Held, word: usize) {
-    let at = 2 * random.below(held.record[2] as usize) + word;
+    let at = 3 * random.below(held.record[2] as usize) + word;
     held.constraints[at] |= 1 << strange(random, held);
 }
 
@@ -142,8 +151,14 @@ fn bare_rule(random: &mut Random, held: &mut Held) {
 }
 
 fn bare_constraint(random: &mut Random, held: &mut Held) {
-    let at = 2 * random.below(held.record[2] as usize);
+    let at = 3 * random.below(held.record[2] as usize);
     held.constraints[at..at + 2].fill(0);
+}
+
+/// The word for the kind of any constraint.
+fn constraint_kind<'a>(random: &mut Random, held: &'a mut Held) -> &'a mut u64 {
+    let at = 3 * random.below(held.record[2] as usize) + 2;
+    &mut held.constraints[at]
 }
 
 /// Gives any clause the kind `kind`.

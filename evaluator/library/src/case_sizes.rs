@@ -140,7 +140,7 @@ fn order(tests: &mut Tests) {
         let mut unsound = known.held.clone();
         unsound.record[FORMULAS] = 0;
         for (held, number) in [(&unsound, 1), (&known.held, 1)] {
-            let short = resized(held, "constraints", 63);
+            let short = resized(held, "constraints", CONSTRAINT_WORDS - 1);
             tests.call(|| String::from("settle, 1"), settle(&short, u64::MAX, 3, (number, &[0; 3])));
             tests.call(|| String::from("question, 1"), question(&short, room, &unasked(number)));
             tests.call(|| String::from("layers, 1"), layers(&short, LAYERS_WORDS, &LayersDue::Refused(number)));

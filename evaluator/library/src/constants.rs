@@ -74,11 +74,12 @@ fn longest_report() -> u64 {
 /// Each constant and its value.
 pub fn due() -> Vec<(&'static str, u64)> {
     let kind = |line: &str| held(&format!("{line}\n(query a)")).clauses[0] / 64;
+    let constraint = |line: &str| held(&format!("{line}\n(query a)")).constraints[2];
     let node = |formula: &str| u64::from(held(&format!("(query {formula})")).formula[0]);
     let words = |file: &[u8]| Settling::of(file::read(file).unwrap_or_else(|_| panic!("a lawful file"))).words(0);
     let mut rows = vec![
         ("CLAUSE_WORDS", 3 * CLAUSES as u64),
-        ("CONSTRAINT_WORDS", 2 * CONSTRAINTS as u64),
+        ("CONSTRAINT_WORDS", 3 * CONSTRAINTS as u64),
         ("FORMULA_BYTES", FORMULA_BYTES as u64),
         ("PART_BYTES", (FORMULA_BYTES / QUERIES) as u64),
         ("QUERIES", QUERIES as u64),
@@ -88,6 +89,8 @@ pub fn due() -> Vec<(&'static str, u64)> {
         ("FACT", kind("(true a)")),
         ("ASSUMPTION", kind("(false a)")),
         ("RULE", kind("(if a b)")),
+        ("NEVER", constraint("(never a)")),
+        ("AVOID", constraint("(avoid a)")),
         ("NOT", node("(not a)")),
         ("AND", node("(and a b)")),
         ("OR", node("(or a b)")),

@@ -82,6 +82,7 @@ pub const EACH: &[u8] = b"; each table
 (false ab)
 (true fan)
 (never stopped (not fan))
+(avoid stopped (not ab))
 (seen (not low))
 (seen fan)
 (query (then (or shut low) (same stopped (not ab))))
@@ -114,6 +115,9 @@ pub fn refused_files() -> Vec<(u32, u64, Vec<u8>)> {
         (8, 65, lines(65, "(true n#)") + "(query n0)\n"),
         (9, 257, lines(300, "(true low)") + &query),
         (9, 34, query.clone() + &lines(40, "(never low)")),
+        (9, 34, query.clone() + &lines(40, "(avoid low)")),
+        (9, 34, query.clone() + &lines(20, "(never low)\n(avoid low)")),
+        (9, 34, query.clone() + &lines(16, "(never low)") + &lines(17, "(avoid low)")),
         (10, 17, query.repeat(17)),
         (10, 20, query.repeat(16) + ";\n\n(true low)\n" + &query + "(\n"),
         (11, 0, String::new()),

@@ -10,6 +10,7 @@
 
 use crate::held::{Held, NODES, PART_BYTES, QUERIES};
 use evaluator::case::{Body, Case, Clause};
+use evaluator::constraint::{Constraint, KINDS};
 use evaluator::formula::{Connective, Formula, Literal};
 use evaluator::random::Random;
 
@@ -102,6 +103,11 @@ fn clause(random: &mut Random, head: usize, at: usize, atoms: usize) -> Clause {
     Clause { head, body }
 }
 
+/// A constraint of a drawn kind.
+fn constraint(random: &mut Random, atoms: usize) -> Constraint {
+    Constraint { kind: *random.pick(&KINDS), body: body(random, atoms) }
+}
+
 /// A case of the shape `shape`.
 pub fn drawn(random: &mut Random, shape: Shape) -> Case {
     let Shape { atoms, causes, .. } = shape;
@@ -114,7 +120,7 @@ pub fn drawn(random: &mut Random, shape: Shape) -> Case {
     random.shuffle(&mut order);
     random.shuffle(&mut heads);
     let clauses = heads.iter().enumerate().map(|(at, head)| clause(random, order[*head], at, atoms)).collect();
-    let constraints = (0..shape.constraints).map(|_| body(random, atoms)).collect();
+    let constraints = (0..shape.constraints).map(|_| constraint(random, atoms)).collect();
     let observations = (0..*random.pick(&[0, 1, 1, 1, 2])).map(|_| literal(random, atoms)).collect();
     let names = (0..atoms).map(|i| format!("n{i}")).collect();
     let mut queries: Vec<Formula<usize>> = Vec::new();
@@ -140,7 +146,7 @@ pub fn strewn(random: &mut Random, held: &Held) -> Held {
     let mut other = held.clone();
     let [_, clauses, constraints, ..] = held.record[..] else { panic!("a record") };
     other.clauses[3 * clauses as usize..].fill_with(|| word(random));
-    other.constraints[2 * constraints as usize..].fill_with(|| word(random));
+    other.constraints[3 * constraints as usize..].fill_with(|| word(random));
     other.record[NODES + held.formulas()..].fill_with(|| word(random));
     for (q, part) in other.formula.chunks_exact_mut(PART_BYTES).enumerate() {
         let nodes = if q < held.formulas() { held.nodes(q) } else { 0 };

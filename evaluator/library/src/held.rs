@@ -1,6 +1,6 @@
 //! The record and the tables that hold a case, made from the evaluator's case and read back.
 //!
-//! From: document 01, Case tables and sound cases; document 02, [1].
+//! From: document 01, Case tables and sound cases; document 02, [1], [5].
 //!
 //! | name | meaning |
 //! |---|---|
@@ -11,11 +11,12 @@
 //! | `Held::full` | the same in the evaluator's form, which says apart from `sound` whether it is sound |
 
 use evaluator::case::{Body, Case, Clause};
+use evaluator::constraint::{Constraint, Kind};
 use evaluator::formula::{Connective, Formula, Literal};
 
 pub const ATOMS: usize = 64;
 pub const CLAUSE_WORDS: usize = 768;
-pub const CONSTRAINT_WORDS: usize = 64;
+pub const CONSTRAINT_WORDS: usize = 96;
 pub const QUERIES: usize = 16;
 pub const PART_BYTES: usize = 128;
 pub const FORMULA_BYTES: usize = QUERIES * PART_BYTES;
@@ -58,6 +59,16 @@ fn clause_words(clause: &Clause) -> [u64; 3] {
         Body::All(body) => (2, masks(body)),
     };
     [clause.head as u64 + 64 * kind, plain, negated]
+}
+
+/// The three words of a constraint.
+fn constraint_words(constraint: &Constraint) -> [u64; 3] {
+    let [plain, negated] = masks(&constraint.body);
+    let kind = match constraint.kind {
+        Kind::Never => 0,
+        Kind::Avoid => 1,
+    };
+    [plain, negated, kind]
 }
 
 /// The nodes of a formula in prefix order.
@@ -123,7 +134,7 @@ impl Held {
         Held {
             record: padded(record, RECORD_WORDS),
             clauses: padded(case.clauses.iter().flat_map(clause_words).collect(), CLAUSE_WORDS),
-            constraints: padded(case.constraints.iter().flat_map(|c| masks(c)).collect(), CONSTRAINT_WORDS),
+            constraints: padded(case.constraints.iter().flat_map(constraint_words).collect(), CONSTRAINT_WORDS),
             formula: padded(parts, FORMULA_BYTES),
             names: padded(case.names.iter().flat_map(row).collect(), NAMES_BYTES),
         }
@@ -176,10 +187,14 @@ impl Held {
             };
             Clause { head: (w[0] % 64) as usize, body }
         };
+        let constraint = |w: &[u64]| {
+            let kind = if w[2] == 0 { Kind::Never } else { Kind::Avoid };
+            Constraint { kind, body: literals(w[0], w[1]) }
+        };
         Case {
             names: (0..count(0)).map(|i| format!("n{i}")).collect(),
             clauses: self.clauses.chunks_exact(3).take(count(1)).map(clause).collect(),
-            constraints: self.constraints.chunks_exact(2).take(count(2)).map(|w| literals(w[0], w[1])).collect(),
+            constraints: self.constraints.chunks_exact(3).take(count(2)).map(constraint).collect(),
             observations: literals(self.record[4], self.record[5]),
             queries: (0..self.formulas())
                 .map(|q| formula(&self.formula[q * PART_BYTES..][..self.nodes(q)]).0)

@@ -1,11 +1,12 @@
-//! Families of sound cases at each limit, and with parts past the formulas that are no formulas.
+//! Families of sound cases at each limit, and with parts past the formulas that are no formulas, and kinds past the
+//! constraints that are no kinds.
 
 use crate::calls::{layers, question, settle, LayersDue, Room, ASKED_WORDS, LAYERS_WORDS};
 use crate::case_sizes::refused;
 use crate::drawn::{deep, drawn, strewn, Shape};
 use crate::due::{Asking, Layering, Settling};
 use crate::held::{Held, FORMULAS, NODES, PART_BYTES, QUERIES};
-use crate::sound::broken;
+use crate::sound::{broken, Phrase};
 use crate::tests::Tests;
 use evaluator::case::Case;
 use evaluator::random::Random;
@@ -85,8 +86,27 @@ fn past_the_formulas(tests: &mut Tests) {
     }
 }
 
+/// Cases whose entries past the constraints have a kind that is none; with one constraint more they are not sound.
+fn past_the_constraints(tests: &mut Tests) {
+    tests.family("sound: no kinds past the constraints");
+    for kind in [2, 3, 256, 1 << 32, 1 << 63, u64::MAX] {
+        for constraints in 0..32 {
+            let case = drawn(&mut Random::new(constraints as u64), Shape { constraints, ..SHAPE });
+            let mut held = Held::of(&case);
+            for entry in held.constraints.chunks_exact_mut(3).skip(constraints) {
+                entry.copy_from_slice(&[1, 0, kind]);
+            }
+            accepted(tests, &format!("kind {kind} past {constraints} constraints"), case, &held);
+            held.record[2] += 1;
+            tests.require("that phrase alone", broken(&held) == [Phrase::ConstraintKindListed]);
+            refused(tests, &format!("kind {kind}, {constraints} constraints and this"), &held, 13);
+        }
+    }
+}
+
 /// All families of sound cases.
 pub fn run(tests: &mut Tests) {
     limits(tests);
     past_the_formulas(tests);
+    past_the_constraints(tests);
 }

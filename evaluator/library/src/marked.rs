@@ -1,10 +1,11 @@
-//! Families of M1 to M10, read into tables that are worked out by hand; settled and layered from these.
+//! Families of M1 to M10, and of M6 with `avoid`, read into tables that are worked out by hand; settled, asked and
+//! layered from these.
 //!
-//! From: document 01, Ten marked files; Case tables and sound cases.
+//! From: document 01, Ten marked files; Case tables and sound cases; document 02, [5].
 
-use crate::calls::{layers, read, settle, LayersDue, ReadDue, Sizes, LAYERS_WORDS};
+use crate::calls::{layers, question, read, settle, LayersDue, ReadDue, Room, Sizes, ASKED_WORDS, LAYERS_WORDS};
 use crate::corpus::stored;
-use crate::due::{self, Layering, Settling};
+use crate::due::{self, Asking, Layering, Settling};
 use crate::held::{Held, NODES};
 use crate::tests::Tests;
 use std::path::Path;
@@ -13,14 +14,15 @@ use std::path::Path;
 /// names, and the rounds over all settings that document 01 gives.
 type Marked = (&'static str, [u64; 6], &'static [u64], &'static [u64], &'static [u8], &'static [&'static str], u64);
 
-/// M1 to M10.
-const MARKED: [Marked; 10] = [
+/// M1 to M10 and M6 with `avoid`, in the order of their files.
+const MARKED: [Marked; 11] = [
     ("m01", [3, 2, 0, 1, 1, 0], &[128, 2, 4, 66, 0, 0], &[], &[1], &["low", "dampershut", "ab"], 5),
     ("m02", [1, 0, 0, 1, 0, 0], &[], &[], &[0], &["a"], 2),
     ("m03", [2, 2, 0, 1, 1, 0], &[128, 2, 0, 129, 1, 0], &[], &[1], &["p", "q"], 0),
     ("m04", [5, 4, 0, 1, 1, 0], &M4_CLAUSES, &[], &[1], &M4_NAMES, 15),
     ("m05", [5, 4, 0, 1, 0, 1], &M4_CLAUSES, &[], &[64, 1], &M4_NAMES, 15),
-    ("m06", [5, 4, 1, 1, 1, 0], &M4_CLAUSES, &[8, 0], &[1], &M4_NAMES, 15),
+    ("m06-avoid", [5, 4, 1, 1, 1, 0], &M4_CLAUSES, &[8, 0, 1], &[1], &M4_NAMES, 15),
+    ("m06", [5, 4, 1, 1, 1, 0], &M4_CLAUSES, &[8, 0, 0], &[1], &M4_NAMES, 15),
     ("m07", [1, 0, 0, 1, 1, 1], &[], &[], &[0], &["a"], 2),
     ("m08", [1, 0, 0, 1, 0, 0], &[], &[], &[67, 0, 0], &["a"], 2),
     ("m09", [2, 1, 0, 1, 0, 1], &[128, 2, 2], &[], &[0], &["b", "a"], 4),
@@ -28,10 +30,11 @@ const MARKED: [Marked; 10] = [
 ];
 
 /// The least numbers of their atoms, none for a ring.
-const NUMBERS: [Option<&[u64]>; 10] = [
+const NUMBERS: [Option<&[u64]>; 11] = [
     Some(&[1, 0, 0]),
     Some(&[0]),
     None,
+    Some(&[1, 0, 0, 0, 0]),
     Some(&[1, 0, 0, 0, 0]),
     Some(&[1, 0, 0, 0, 0]),
     Some(&[1, 0, 0, 0, 0]),
@@ -39,6 +42,21 @@ const NUMBERS: [Option<&[u64]>; 10] = [
     Some(&[0]),
     Some(&[1, 0]),
     Some(&[0]),
+];
+
+/// Their lists and the numbers of their verdicts.
+const LISTS: [(&[u16], u64); 11] = [
+    (&[1], 1),
+    (&[0], 3),
+    (&[], 0),
+    (&[1, 3], 3),
+    (&[8], 1),
+    (&[1], 1),
+    (&[7], 1),
+    (&[], 0),
+    (&[0], 1),
+    (&[1, 2], 2),
+    (&[0], 1),
 ];
 
 const M4_CLAUSES: [u64; 12] = [128, 2, 4, 128, 8, 16, 66, 0, 0, 68, 0, 0];
@@ -100,6 +118,20 @@ fn settles(tests: &mut Tests) {
     }
 }
 
+/// The question from the tables by hand, with a list of two slots.
+fn questions(tests: &mut Tests) {
+    tests.family("question: M1 to M10, lists by hand");
+    for (row, (list, verdict)) in MARKED.into_iter().zip(LISTS) {
+        let held = held(row);
+        let asking = Asking::of(held.case());
+        let due = asking.due(2);
+        let own = (due.list.as_slice(), asking.minimal(), asking.verdicts());
+        tests.require(&format!("{}: the evaluator's list", row.0), own == (list, list.len(), vec![verdict]));
+        let room = Room { list: 2, work: asking.settings(), answer: ASKED_WORDS };
+        tests.call(|| String::from(row.0), question(&held, room, &due));
+    }
+}
+
 /// The layers from the tables by hand.
 fn numbers(tests: &mut Tests) {
     tests.family("layers: M1 to M10, tables by hand");
@@ -115,5 +147,6 @@ fn numbers(tests: &mut Tests) {
 pub fn run(tests: &mut Tests, folder: &Path) {
     reads(tests, folder);
     settles(tests);
+    questions(tests);
     numbers(tests);
 }

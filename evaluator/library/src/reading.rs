@@ -1,5 +1,5 @@
-//! Families of reading: stored and generated files, files cut and changed byte by byte, each number of queries, long
-//! comments, each refusal.
+//! Families of reading: stored and generated files, files cut and changed byte by byte, each number of queries
+//! and of constraints, long comments, each refusal.
 
 use crate::calls::{read, ReadDue, Sizes};
 use crate::corpus::{folders, generated, refused_files, Input, EACH, M4};
@@ -90,6 +90,38 @@ fn queries(tests: &mut Tests) {
     }
 }
 
+/// What reading is due for a query of `a` and `kinds`, for each a constraint of that kind with the body `a`.
+fn constraints_due(kinds: &[u64]) -> ReadDue {
+    if kinds.len() > 32 {
+        return due::refused(9, 34);
+    }
+    let mut held = Held::zeros();
+    (held.record[0], held.record[2], held.record[FORMULAS], held.record[NODES]) = (1, kinds.len() as u64, 1, 1);
+    held.names[0] = b'a';
+    for (entry, kind) in held.constraints.chunks_exact_mut(3).zip(kinds) {
+        entry.copy_from_slice(&[1, 0, *kind]);
+    }
+    ReadDue { refusal: 0, answer: [&[0], held.record.as_slice()].concat(), tables: Some(held) }
+}
+
+/// Files with 1 to 40 constraints of one kind, of both in turn, and of one that changes once, tables worked out by hand:
+/// up to 32 are read, a 33rd of either kind is refused in its line.
+fn constraints(tests: &mut Tests) {
+    tests.family("read: 1 to 40 constraints of both kinds, tables by hand");
+    let orders: [fn(usize) -> u64; 6] =
+        [|_| 0, |_| 1, |at| at as u64 % 2, |at| 1 - at as u64 % 2, |at| u64::from(at < 16), |at| u64::from(at > 15)];
+    for count in 1..=40 {
+        for order in orders {
+            let kinds: Vec<u64> = (0..count).map(order).collect();
+            let line = |kind: &u64| ["(never a)\n", "(avoid a)\n"][*kind as usize];
+            let file = String::from("(query a)\n") + &kinds.iter().map(line).collect::<String>();
+            let due = constraints_due(&kinds);
+            tests.require(&format!("{kinds:?}: the evaluator's tables"), due::read(file.as_bytes()) == due);
+            tests.call(|| format!("{kinds:?}"), read(file.as_bytes(), Sizes::FULL, false, &due));
+        }
+    }
+}
+
 /// A line that is a comment of `length` bytes, all but LF in turn behind the first.
 fn comment(length: usize) -> Vec<u8> {
     let free = (0..=u8::MAX).filter(|b| *b != b'\n').cycle();
@@ -141,6 +173,7 @@ pub fn run(tests: &mut Tests, folder: &Path) {
     corpus(tests, folder);
     bytewise(tests);
     queries(tests);
+    constraints(tests);
     comments(tests);
     refusals(tests);
 }

@@ -1,6 +1,6 @@
 //! Which phrases of "A case is sound if .." a record and its tables break.
 //!
-//! From: document 01, Case tables and sound cases; document 02, [1].
+//! From: document 01, Case tables and sound cases; document 02, [1], [5].
 //!
 //! Counts, and bits held against them, are compared as they stand; a formula is read from its end, with the depths of
 //! what was read on a stack.
@@ -27,6 +27,7 @@ pub enum Phrase {
     RuleHasBit,
     ConstraintHasBit,
     KindListed,
+    ConstraintKindListed,
     NodeListed,
     OneFormula,
     Depth,
@@ -103,7 +104,7 @@ fn entries<T>(table: &[T], n: u64, width: usize) -> &[T] {
 pub fn broken(held: &Held) -> Vec<Phrase> {
     let [atoms, clauses, constraints, formulas, plain, negated] = held.record[..NODES] else { panic!("a record") };
     let used = entries(&held.clauses, clauses, 3);
-    let bodies = entries(&held.constraints, constraints, 2);
+    let bodies = entries(&held.constraints, constraints, 3);
     let short = held.clauses.len() < CLAUSE_WORDS
         || held.constraints.len() < CONSTRAINT_WORDS
         || held.formula.len() < FORMULA_BYTES;
@@ -115,9 +116,10 @@ pub fn broken(held: &Held) -> Vec<Phrase> {
         (Phrase::ConstraintCount, constraints > 32),
         (Phrase::FormulaCount, !(1..=16).contains(&formulas)),
         (Phrase::CauseCount, causes(used, atoms) > 10),
-        (Phrase::ConstraintBitNamesAtom, bodies.chunks_exact(2).any(strange)),
+        (Phrase::ConstraintBitNamesAtom, bodies.chunks_exact(3).any(strange)),
         (Phrase::ObservedBitNamesAtom, strange(&[plain, negated])),
-        (Phrase::ConstraintHasBit, bodies.chunks_exact(2).any(|w| w[0] == 0 && w[1] == 0)),
+        (Phrase::ConstraintHasBit, bodies.chunks_exact(3).any(|w| w[0] == 0 && w[1] == 0)),
+        (Phrase::ConstraintKindListed, bodies.chunks_exact(3).any(|w| w[2] > 1)),
     ];
     let mut found = broken_of(&rows);
     found.extend(used.chunks_exact(3).flat_map(|w| broken_by_clause(w, atoms)));

@@ -1,4 +1,4 @@
-//! Families of cases that are not sound: each phrase of document 01 broken alone, refused with 13 by settling,
+//! Families of cases that are not sound: each phrase of documents 01 and 02 broken alone, refused with 13 by settling,
 //! the question and the layers; counts far past the limits; and drawn changes.
 
 use crate::breaches::{Breach, COUNTS, ENTRIES, FORMULA};
@@ -121,7 +121,7 @@ fn change(random: &mut Random, held: &mut Held) {
             held.clauses[at] = near(random, held.clauses[at]);
         }
         5 => {
-            let at = random.below(2 * constraints.min(31) as usize + 1);
+            let at = random.below(3 * constraints.min(31) as usize + 1);
             held.constraints[at] = near(random, held.constraints[at]);
         }
         _ => {
