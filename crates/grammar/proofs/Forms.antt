@@ -198,15 +198,10 @@ module _ {l : List ℕ} {at k : ℕ} where
   pub form-constraint : 3 ≤ k → k < 5 → hasBody l at k ≡ true → FormAfter l at k (Constraint (k - 3) at)
   form-constraint i j h =
       let makes = body-makes k (bodyLine k) (literals-line l at k i (λ z. omega arith)) h in
+      let line = makes .line-is ∙ constraint-kind k (makes .literals) j in
       record {
-        form-is = (
-          omega arith,
-          record {
-            literals = makes .literals;
-            literals-are = makes .literals-are;
-            line-is = makes .line-is ∙ constraint-kind k (makes .literals) j;
-          },
-        );
+        form-is =
+            (omega arith, record { literals = makes .literals; literals-are = makes .literals-are; line-is = line });
       }
 
   pub form-seen : k ≡ 5 → hasBody l at k ≡ true → FormAfter l at k (Seen at)

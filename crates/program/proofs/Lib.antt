@@ -4,6 +4,7 @@
 -- Settings: how many settings there are, the digits of a setting, and what it adds.
 -- NextSetting: the digit of a setting's lowest cause, and the walk that carries a setting to the next.
 -- Sets: the sets of causes that settings are.
+-- Entries: the entries of a table, tested one by one.
 -- Soundness: the kinds of clauses, and what a sound case is sound of.
 -- Dependence: which atoms a clause names, and which atom depends on which.
 -- MakingSound: what makes a case sound.
@@ -14,6 +15,7 @@ pub mod Atoms
 pub mod Settings
 pub mod NextSetting
 pub mod Sets
+pub mod Entries
 pub mod Soundness
 pub mod Dependence
 pub mod MakingSound

@@ -1,103 +1,33 @@
--- `program::sound::clauses_sound` meets its contract. The loop's invariant: every clause passed is sound.
+-- `program::sound::clauses_sound` meets its contract. The loop's invariant: every clause passed is sound (`Tested`).
 -- Assumes nothing.
-use mathlib.Core.Path.{_≡_, refl, sym}
-use mathlib.Core.Bool.{true}
-use Prim.Native.Nat.{_+_, _^_, _≤_, _-_}
-use native.Mathlib.Omega.{arith}
+use mathlib.Core.Path.{_≡_}
+use Prim.Native.Nat.{_+_, _^_, _-_}
 use borrow.Author.Needs.{needs}
-use Rattle.words.specs.Below.{every}
-use Rattle.words.proofs.Below.{every-more, every-end, every-false}
-use Rattle.words.proofs.Tests.{failed, passed}
 use Rattle.program.specs.Sound.{soundClauses}
+use Rattle.program.proofs.Entries.{Tested, tested-none, tested-more, tested-failed, tested-all}
 use Rattle.program.proofs.Soundness.{clauseTest}
 use Rattle.program.proofs.sound.clauses_sound.Statement.{statement}
 use Rattle.program.proofs.sound.clauses_sound.Tie as tie
 
 abbrev Inv-loop : tie.InvT-loop
-Inv-loop atoms clauses n top k₀ k = (k ≤ n) × (top + 1 ≡ 2 ^ atoms) × (every k (clauseTest atoms clauses) ≡ true)
+Inv-loop atoms clauses n top k₀ k = (top + 1 ≡ 2 ^ atoms) × Tested (clauseTest atoms clauses) n k
 
 abbrev μ-loop : tie.MeasureT-loop
 μ-loop atoms clauses n top k₀ k = n - k
 
--- the places before: the loop, and the entry
-abbrev looped : tie.After-clause-sound Inv-loop μ-loop → tie.At-loop Inv-loop μ-loop
-looped c = c .before .before .before .before .before
-
-abbrev entry : tie.At-loop Inv-loop μ-loop → tie.Start Inv-loop μ-loop
-entry c = c .before .before .before
-
-cast-lowest : tie.Need-cast-lowest Inv-loop μ-loop
-cast-lowest c = search needs
-
-lowest-requires : tie.Need-lowest-requires Inv-loop μ-loop
-lowest-requires c κs = search needs
-
 loop-holds : tie.Need-loop-holds Inv-loop μ-loop
-loop-holds c = (search needs, c .lowest .ensures, refl)
-
-mul-at : tie.Need-mul-at Inv-loop μ-loop
-mul-at c = search needs
-
-mul-clause-sound : tie.Need-mul-clause-sound Inv-loop μ-loop
-mul-clause-sound c = search needs
-
-shared-slice-read-clause-sound : tie.Need-shared-slice-read-clause-sound Inv-loop μ-loop
-shared-slice-read-clause-sound c = search needs
-
-add-clause-sound : tie.Need-add-clause-sound Inv-loop μ-loop
-add-clause-sound c = search needs
-
-mul-clause-sound-2 : tie.Need-mul-clause-sound-2 Inv-loop μ-loop
-mul-clause-sound-2 c = search needs
-
-shared-slice-read-clause-sound-2 : tie.Need-shared-slice-read-clause-sound-2 Inv-loop μ-loop
-shared-slice-read-clause-sound-2 c = search needs
-
-add-clause-sound-2 : tie.Need-add-clause-sound-2 Inv-loop μ-loop
-add-clause-sound-2 c = search needs
-
-mul-clause-sound-3 : tie.Need-mul-clause-sound-3 Inv-loop μ-loop
-mul-clause-sound-3 c = search needs
-
-shared-slice-read-clause-sound-3 : tie.Need-shared-slice-read-clause-sound-3 Inv-loop μ-loop
-shared-slice-read-clause-sound-3 c = search needs
-
-clause-sound-requires : tie.Need-clause-sound-requires Inv-loop μ-loop
-clause-sound-requires c κs = search needs
+loop-holds c = search (needs, tested-none)
 
 returns : tie.Need-returns Inv-loop μ-loop
 unfolding soundClauses
-returns c =
-    let l = looped (c .before) in
-    let a = entry l .args in
-    let t = clauseTest (a .atoms) (a .clauses .now) in
-    sym (every-false (a .n) t (l .loop .k) (omega arith)
-    (failed {t = t (l .loop .k)} (c .before .clause-sound .ensures) (c .if1 .taken)))
-
-add-k : tie.Need-add-k Inv-loop μ-loop
-add-k c = search needs
-
-loop-less : tie.Need-loop-less Inv-loop μ-loop
-loop-less c = search needs
+returns c = search (needs, tested-failed)
 
 loop-again : tie.Need-loop-again Inv-loop μ-loop
-loop-again c =
-    let l = looped (c .before) in
-    let a = entry l .args in
-    let t = clauseTest (a .atoms) (a .clauses .now) in (
-      search needs,
-      l .loop .inv .1,
-      every-more (l .loop .k) t (l .loop .inv .2)
-          (passed {t = t (l .loop .k)} (c .before .clause-sound .ensures) (c .if1 .left)),
-    )
+loop-again c = search (needs, tested-more)
 
 returns-2 : tie.Need-returns-2 Inv-loop μ-loop
 unfolding soundClauses
-returns-2 c =
-    let l = c .before in
-    let a = entry l .args in
-    let t = clauseTest (a .atoms) (a .clauses .now) in
-    every-end (a .n) (l .loop .k) t (l .loop .inv .0) (c .loop-test .left) (l .loop .inv .2)
+returns-2 c = search (needs, tested-all)
 
 pub clauses-sound-spec : {M : Type 1} → statement M
 clauses-sound-spec =
@@ -105,21 +35,21 @@ clauses-sound-spec =
     (tie.spec
     Inv-loop
     μ-loop
-    cast-lowest
-    lowest-requires
+    (λ c. search needs)
+    (λ c κs. search needs)
     loop-holds
-    mul-at
-    mul-clause-sound
-    shared-slice-read-clause-sound
-    add-clause-sound
-    mul-clause-sound-2
-    shared-slice-read-clause-sound-2
-    add-clause-sound-2
-    mul-clause-sound-3
-    shared-slice-read-clause-sound-3
-    clause-sound-requires
+    (λ c. search needs)
+    (λ c. search needs)
+    (λ c. search needs)
+    (λ c. search needs)
+    (λ c. search needs)
+    (λ c. search needs)
+    (λ c. search needs)
+    (λ c. search needs)
+    (λ c. search needs)
+    (λ c κs. search needs)
     returns
-    add-k
-    loop-less
+    (λ c. search needs)
+    (λ c. search needs)
     loop-again
     returns-2)
