@@ -140,8 +140,8 @@ fn clause_count(random: &mut Random, past: usize) -> Sample {
     sample(file(random, &lines), past, 9)
 }
 
-/// 32 constraints, or 33, of both kinds in half of the draws, else of one. In two of three draws all but one of them are
-/// met wherever the reading is true, and that one is often the last.
+/// 32 constraints, or 33, of both kinds in half of the draws, else of one. In two of three draws all but one of them
+/// are met wherever the reading is true, and that one is often the last.
 fn constraint_count(random: &mut Random, past: usize) -> Sample {
     let all: Vec<String> = (0..4).map(|i| format!("n{i}")).collect();
     let mut lines: Vec<String> = ["(if n0 n1 n2)", "(if n0 n3)", "(seen n0)"].map(String::from).to_vec();

@@ -75,8 +75,8 @@ fn kind(line: &[u8]) -> Option<Kind> {
     }
 }
 
-/// The kinds of the constraints in `file`, which gets `own`; where it is refused for one past the limit, of those before
-/// it, and its kind.
+/// The kinds of the constraints in `file`, which gets `own`; where it is refused for one past the limit, of those
+/// before it, and its kind.
 fn kinds(file: &[u8], own: &Answer) -> Option<(Vec<Kind>, Option<Kind>)> {
     let lines: Vec<&[u8]> = file.split(|b| *b == b'\n').collect();
     let kinds = |lines: &[&[u8]]| lines.iter().filter_map(|line| kind(line)).collect();

@@ -104,8 +104,8 @@ fn constraints_due(kinds: &[u64]) -> ReadDue {
     ReadDue { refusal: 0, answer: [&[0], held.record.as_slice()].concat(), tables: Some(held) }
 }
 
-/// Files with 1 to 40 constraints of one kind, of both in turn, and of one that changes once, tables worked out by hand:
-/// up to 32 are read, a 33rd of either kind is refused in its line.
+/// Files with 1 to 40 constraints of one kind, of both in turn, or of one and then of the other, tables worked out by
+/// hand: up to 32 are read, a 33rd of either kind is refused in its line.
 fn constraints(tests: &mut Tests) {
     tests.family("read: 1 to 40 constraints of both kinds, tables by hand");
     let orders: [fn(usize) -> u64; 6] =
