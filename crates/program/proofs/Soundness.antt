@@ -1,6 +1,6 @@
 -- Laws of soundness: the kinds of clauses, and what is known of a sound case, phrase by phrase. Assumes nothing.
 use mathlib.Core.Path.{_≡_, refl, sym, ap, _∙_}
-use mathlib.Core.Bool.{Bool, true, false, _&&_, false≢true}
+use mathlib.Core.Bool.{Bool, true, false, not, _&&_, false≢true}
 use mathlib.Core.List.{List}
 use Prim.Native.Nat.{ℕ, zero, suc, _+_, _-_, _*_, _/_, _%_, _≤_, _<_}
 use native.Mathlib.Omega.{arith}
@@ -9,7 +9,7 @@ use lib.Dec.{ltb, leb}
 use lib.ListN.{length, getD, take, length-take, length-drop}
 use borrow.Author.Tests.{ltb-true, ltb-false, leb-true, le-leb, lt-leb, le-ltb, lt-ltb}
 use borrow.Rule.Slice.PartMut.{midOf}
-use Rattle.words.proofs.Tests.{and-true-l}
+use Rattle.words.proofs.Tests.{and-true-l, and-true-r}
 use Rattle.words.proofs.Below.{every-at}
 use Rattle.logic.specs.Nodes.{oneFormula}
 use Rattle.program.specs.declared.case.Case.{Case}
@@ -122,6 +122,10 @@ clause-head n first p q e =
     ltb-true (first % 64) n
     (and-true-l (ltb (first % 64) n) (within n p q)
     (and-true-l (ltb (first % 64) n && within n p q) (shaped (first / 64) (bare p q)) e))
+
+constraint-two : (n p q k : ℕ) → soundConstraint n p q k ≡ true → k < 2
+unfolding soundConstraint
+constraint-two n p q k e = ltb-true k 2 (and-true-r (within n p q && not (bare p q)) (ltb k 2) e)
 
 -- ---- phrases that hold together hold each
 Seven : Bool → Bool → Bool → Bool → Bool → Bool → Bool → Type 0
@@ -300,6 +304,12 @@ module _ (c : Case) (cl co fo : List ℕ) (h : sound c cl co fo ≡ true) where
   sound-head k l =
       clause-head (c .atoms) (getD cl (3 * k) 0) (plainAt cl k) (negatedAt cl k)
       (every-at (c .clauses) (clauseTest (c .atoms) cl) sound-clause-table k l)
+
+  pub sound-kind : (k : ℕ) → k < c .constraints → constraintKind co k < 2
+  unfolding soundConstraints
+  sound-kind k l =
+      constraint-two (c .atoms) (forbidden co k) (forbiddenNot co k) (constraintKind co k)
+      (every-at (c .constraints) (constraintTest (c .atoms) co) sound-constraint-table k l)
 
   pub sound-few : ones (causesOf c cl) ≤ 10
   unfolding fewCauses causesOf
