@@ -1,6 +1,6 @@
 -- Laws of what an operation answers to a case record in words, and of its answer put to words. Assumes nothing.
 use mathlib.Core.Path.{_≡_, refl}
-use mathlib.Core.List.{List, [], _∷_, _++_}
+use mathlib.Core.List.{List, [], _∷_}
 use Prim.Native.Nat.{ℕ, _-_, _≤_}
 use borrow.Rule.Slice.PartMut.{midOf, putMid}
 use lib.ListN.{length}
@@ -14,7 +14,7 @@ use Rattle.question.specs.declared.operation.Answer as asked
 use Rattle.question.specs.Operation.{Asked}
 use Rattle.layering.specs.declared.operation.Answer as layered
 use Rattle.layering.specs.Operation.{Layering}
-use Rattle.embed.specs.Words.{caseWords, caseIn}
+use Rattle.embed.specs.Words.{caseWords, caseIn, settledWords, askedWords}
 use Rattle.embed.specs.Operation.{SettleOut, QuestionOut, LayersOut}
 use Rattle.embed.proofs.Putting.{over-behind}
 
@@ -32,8 +32,8 @@ found-put a old = over-behind (frontWords a) (a .found .nodes) old refl
 
 pub asked-put : (a : asked.Answer) (old : List ℕ) {mid back : List ℕ} → 16 ≡ length (a .verdicts)
     → mid ≡ over (a .verdicts) old
-    → back ≡ over (a .minimal ∷ a .written ∷ a .rounds ∷ []) (midOf 16 (length mid - 16) mid)
-    → putMid 16 (length mid - 16) mid back ≡ over (a .verdicts ++ (a .minimal ∷ a .written ∷ a .rounds ∷ [])) old
+    → back ≡ over (a .minimal ∷ a .written ∷ a .rounds ∷ a .decided ∷ []) (midOf 16 (length mid - 16) mid)
+    → putMid 16 (length mid - 16) mid back ≡ over (askedWords a) old
 asked-put a old = over-behind (a .verdicts) _ old
 
 pub layers-put : (a : layered.Answer) (old : List ℕ) {mid back : List ℕ}
@@ -43,14 +43,14 @@ layers-put a old = over-behind (digit (a .layered) ∷ a .count ∷ []) (a .entr
 
 -- k is the case record in the words c
 module _ {c cl co fo : List ℕ} {k : Case} (e : k ≡ caseIn c) (l : 22 ≤ length c) {words wordsAfter : List ℕ} where
-  pub settle-done : {s : ℕ} {a : settled.Answer} → 3 ≤ length words → SettledOne k cl co fo s a
-      → wordsAfter ≡ over (a .trues ∷ a .falses ∷ a .rounds ∷ []) words
+  pub settle-done : {s : ℕ} {a : settled.Answer} → 4 ≤ length words → SettledOne k cl co fo s a
+      → wordsAfter ≡ over (settledWords a) words
       → SettleOut c cl co fo s words (a .refusal) wordsAfter
   settle-done m h o = SettleOut.done l m _ (rw e at h) refl o
 
-  pub question-done : {list work listAfter workAfter : List ℕ} {a : asked.Answer} → 19 ≤ length words
+  pub question-done : {list work listAfter workAfter : List ℕ} {a : asked.Answer} → 20 ≤ length words
       → Asked k cl co fo list work a listAfter workAfter
-      → wordsAfter ≡ over (a .verdicts ++ (a .minimal ∷ a .written ∷ a .rounds ∷ [])) words
+      → wordsAfter ≡ over (askedWords a) words
       → QuestionOut c cl co fo list work words (a .refusal) listAfter workAfter wordsAfter
   question-done m h o = QuestionOut.done l m _ (rw e at h) refl o
 

@@ -1,17 +1,18 @@
 -- What the exported functions answer and leave in lent memory, on every input.
--- From: document 01, "What each operation refuses" ("a new table is held to 1 wherever it is lent").
+-- From: document 01, "What each operation refuses" ("a new table is held to 1 wherever it is lent"); document 02, [6]
+-- (the decided atoms).
 --
 -- Each answers the number of the refusal, 0 for none, and writes the rest of its answer to lent words. Where those
 -- words, or those of a lent case record, are too few, the answer is 1 and nothing is touched. Otherwise a is what the
 -- operation of the crate below answers, determined by its own contract.
 --
 --   ReadOut       line and the 22 words of the record, 23 words, and the four tables
---   SettleOut     the true atoms, the false atoms and the rounds, three words
---   QuestionOut   16 verdict numbers, m, w and rounds, 19 words, and the list and the work area
+--   SettleOut     the true atoms, the false atoms, the rounds and the number of decided atoms, four words
+--   QuestionOut   16 verdict numbers, m, w, rounds and decided atoms, 20 words, and the list and the work area
 --   LayersOut     whether the case is layered, the number of entries and the 64 entries, 66 words
 --   ReportOut     the length of the text, one word, and the output
 use mathlib.Core.Path.{_≡_}
-use mathlib.Core.List.{List, [], _∷_, _++_}
+use mathlib.Core.List.{List, [], _∷_}
 use Prim.Native.Nat.{ℕ, _≤_, _<_}
 use lib.ListN.{length}
 use Rattle.words.specs.Bits.{digit}
@@ -27,7 +28,7 @@ use Rattle.layering.specs.declared.operation.Answer as layered
 use Rattle.layering.specs.Operation.{Layering}
 use Rattle.output.specs.declared.Answer as reported
 use Rattle.report.specs.Operation.{Reported}
-use Rattle.embed.specs.Words.{caseWords, caseIn}
+use Rattle.embed.specs.Words.{caseWords, caseIn, settledWords, askedWords}
 
 -- the file f, the tables t at entry and u at exit, the answer's words at entry and at exit
 pub data ReadOut (f : List ℕ) (t u : Lent) (words : List ℕ) (r : ℕ) (wordsAfter : List ℕ) : Type 0 where
@@ -38,20 +39,20 @@ pub data ReadOut (f : List ℕ) (t u : Lent) (words : List ℕ) (r : ℕ) (words
 -- the case record's words, the tables, the setting, the answer's words at entry and at exit
 pub data SettleOut (c cl co fo : List ℕ) (s : ℕ) (words : List ℕ) (r : ℕ) (wordsAfter : List ℕ) : Type 0 where
   short-record : length c < 22 → r ≡ 1 → wordsAfter ≡ words → SettleOut c cl co fo s words r wordsAfter
-  short : length words < 3 → r ≡ 1 → wordsAfter ≡ words → SettleOut c cl co fo s words r wordsAfter
-  done : 22 ≤ length c → 3 ≤ length words → (a : settled.Answer) → SettledOne (caseIn c) cl co fo s a → r ≡ a .refusal
-      → wordsAfter ≡ over (a .trues ∷ a .falses ∷ a .rounds ∷ []) words → SettleOut c cl co fo s words r wordsAfter
+  short : length words < 4 → r ≡ 1 → wordsAfter ≡ words → SettleOut c cl co fo s words r wordsAfter
+  done : 22 ≤ length c → 4 ≤ length words → (a : settled.Answer) → SettledOne (caseIn c) cl co fo s a → r ≡ a .refusal
+      → wordsAfter ≡ over (settledWords a) words → SettleOut c cl co fo s words r wordsAfter
 
 -- the case record's words, the tables, and at entry and at exit the list, the work area and the answer's words
 pub data QuestionOut (c cl co fo list work words : List ℕ) (r : ℕ) (listAfter workAfter wordsAfter : List ℕ)
     : Type 0 where
   short-record : length c < 22 → r ≡ 1 → listAfter ≡ list → workAfter ≡ work → wordsAfter ≡ words
       → QuestionOut c cl co fo list work words r listAfter workAfter wordsAfter
-  short : length words < 19 → r ≡ 1 → listAfter ≡ list → workAfter ≡ work → wordsAfter ≡ words
+  short : length words < 20 → r ≡ 1 → listAfter ≡ list → workAfter ≡ work → wordsAfter ≡ words
       → QuestionOut c cl co fo list work words r listAfter workAfter wordsAfter
-  done : 22 ≤ length c → 19 ≤ length words → (a : asked.Answer)
+  done : 22 ≤ length c → 20 ≤ length words → (a : asked.Answer)
       → Asked (caseIn c) cl co fo list work a listAfter workAfter → r ≡ a .refusal
-      → wordsAfter ≡ over (a .verdicts ++ (a .minimal ∷ a .written ∷ a .rounds ∷ [])) words
+      → wordsAfter ≡ over (askedWords a) words
       → QuestionOut c cl co fo list work words r listAfter workAfter wordsAfter
 
 -- the case record's words, the tables, the answer's words at entry and at exit

@@ -1,12 +1,17 @@
 -- Records and answers as words, for callers in C and Rust.
--- From: document 01, "Case tables and sound cases" ("A case record, by value, holds the counts").
+-- From: document 01, "Case tables and sound cases" ("A case record, by value, holds the counts"); document 02, [6] (the
+-- decided atoms).
 --
 --   caseWords c       the 22 words of a case record
 --   caseIn w          the case record in the first 22 of the words w
-use mathlib.Core.List.{List, _∷_}
+--   settledWords a    the four words of what settling answers
+--   askedWords a      the 20 words of what the question answers
+use mathlib.Core.List.{List, [], _∷_, _++_}
 use Prim.Native.Nat.{ℕ}
 use lib.ListN.{getD, take, drop}
 use Rattle.program.specs.declared.case.Case.{Case}
+use Rattle.settle.specs.declared.operation.Answer as settled
+use Rattle.question.specs.declared.operation.Answer as asked
 
 abbrev pub caseWords : Case → List ℕ
 caseWords c = c .atoms ∷ c .clauses ∷ c .constraints ∷ c .formulas ∷ c .plain ∷ c .negated ∷ c .nodes
@@ -21,3 +26,9 @@ caseIn w = record {
   negated = getD w 5 0;
   nodes = take 16 (drop 6 w);
 }
+
+abbrev pub settledWords : settled.Answer → List ℕ
+settledWords a = a .trues ∷ a .falses ∷ a .rounds ∷ a .decided ∷ []
+
+abbrev pub askedWords : asked.Answer → List ℕ
+askedWords a = a .verdicts ++ (a .minimal ∷ a .written ∷ a .rounds ∷ a .decided ∷ [])

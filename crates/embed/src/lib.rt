@@ -2,13 +2,13 @@
 // and writes the rest of its answer to lent words. A lent record or answer with too few words is refused with 1, and
 // nothing is touched.
 ghost use mathlib.Core.Path.{_≡_};
-ghost use mathlib.Core.List.{[], _∷_, _++_};
+ghost use mathlib.Core.List.{[], _∷_};
 ghost use Prim.Native.Nat.{_≤_};
 ghost use lib.ListN.{length};
 ghost use Rattle.words.specs.Bits.{digit};
 ghost use Rattle.words.specs.Lists.{over};
 ghost use Rattle.store.specs.Lent.{lent};
-ghost use Rattle.embed.specs.Words.{caseWords, caseIn};
+ghost use Rattle.embed.specs.Words.{caseWords, caseIn, settledWords, askedWords};
 ghost use Rattle.embed.specs.Operation.{ReadOut, SettleOut, QuestionOut, LayersOut, ReportOut};
 use program::case::Case;
 
@@ -87,24 +87,25 @@ fn put_found(answer: &mut [u64], a: reader::read::Answer)
     put_counts(&mut answer[7..], &nodes);
 }
 
-// Puts what settling answers to words: the true atoms, the false atoms, the rounds.
+// Puts what settling answers to words: the true atoms, the false atoms, the rounds, the number of decided atoms.
 fn put_settled(answer: &mut [u64], a: settle::operation::Answer)
-    requires { ⌜ 3 ≤ length (now answer) ⌝ }
-    ensures { λ _. ⌜ now (answer .exit) ≡ over (a .trues ∷ a .falses ∷ a .rounds ∷ []) (now (answer .entry)) ⌝ }
+    requires { ⌜ 4 ≤ length (now answer) ⌝ }
+    ensures { λ _. ⌜ now (answer .exit) ≡ over (settledWords a) (now (answer .entry)) ⌝ }
 {
-    let words = [a.trues, a.falses, a.rounds as u64];
+    let rounds = a.rounds as u64;
+    let decided = a.decided as u64;
+    let words = [a.trues, a.falses, rounds, decided];
     put_words(answer, &words);
 }
 
 // Puts what the question answers to words: the 16 verdict numbers, the number of minimal explanations, how many are
-// listed, the rounds over all settings.
+// listed, the rounds and the decided atoms over all settings.
 fn put_asked(answer: &mut [u64], a: question::operation::Answer)
-    requires { ⌜ 19 ≤ length (now answer) ⌝ }
-    ensures { λ _. ⌜ now (answer .exit)
-        ≡ over (a .verdicts ++ (a .minimal ∷ a .written ∷ a .rounds ∷ [])) (now (answer .entry)) ⌝ }
+    requires { ⌜ 20 ≤ length (now answer) ⌝ }
+    ensures { λ _. ⌜ now (answer .exit) ≡ over (askedWords a) (now (answer .entry)) ⌝ }
 {
     let verdicts = a.verdicts;
-    let counts = [a.minimal, a.written as u64, a.rounds];
+    let counts = [a.minimal, a.written as u64, a.rounds, a.decided];
     put_words(answer, &verdicts);
     put_words(&mut answer[16..], &counts);
 }
@@ -147,7 +148,7 @@ pub extern "C" fn causes_read(
     a.refusal
 }
 
-// Settles one setting of a case. Answer: the true atoms, the false atoms, the rounds.
+// Settles one setting of a case. Answer: the true atoms, the false atoms, the rounds, the number of decided atoms.
 #[no_mangle]
 pub extern "C" fn causes_settle(
     fields: &[u64],
@@ -164,7 +165,7 @@ pub extern "C" fn causes_settle(
     if fields.len() < 22 {
         return 1;
     }
-    if answer.len() < 3 {
+    if answer.len() < 4 {
         return 1;
     }
     let c = case_in(fields);
@@ -174,7 +175,7 @@ pub extern "C" fn causes_settle(
 }
 
 // Answers the question of a case, with a lent list and work area. Answer: the 16 verdict numbers, the number of minimal
-// explanations, how many are listed, the rounds over all settings.
+// explanations, how many are listed, the rounds and the decided atoms over all settings.
 #[no_mangle]
 pub extern "C" fn causes_question(
     fields: &[u64],
@@ -193,7 +194,7 @@ pub extern "C" fn causes_question(
     if fields.len() < 22 {
         return 1;
     }
-    if answer.len() < 19 {
+    if answer.len() < 20 {
         return 1;
     }
     let c = case_in(fields);

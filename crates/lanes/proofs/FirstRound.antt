@@ -6,6 +6,7 @@ use Prim.Native.Nat.{ℕ, zero, suc, _-_, _^_, _<_, min}
 use native.Mathlib.Omega.{arith}
 use lib.Bits.{bitAnd}
 use lib.Dec.{ltb}
+use Rattle.words.specs.Below.{sum}
 use Rattle.words.specs.Bits.{has}
 use Rattle.words.proofs.Bits.{has-zero, has-and, has-or, has-not, differs}
 use Rattle.words.proofs.Words.{has-word}
@@ -28,7 +29,7 @@ use Rattle.round.specs.declared.redo.Changed.{Changed}
 use Rattle.planes.specs.Planes.{at, column}
 use Rattle.planes.specs.Fill.{Filled, Even}
 use Rattle.round.specs.Begin.{decidedAt, Opens}
-use Rattle.lanes.specs.Rounds.{sum, addsAt}
+use Rattle.lanes.specs.Rounds.{addsAt}
 use Rattle.planes.proofs.Columns.{column-is}
 use Rattle.planes.proofs.Choosing.{differs-none}
 use Rattle.lanes.proofs.LaneRounds.{Settling}

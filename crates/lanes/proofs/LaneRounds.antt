@@ -1,7 +1,7 @@
 -- The rounds in lanes: each lane goes its own rounds and stays where it has settled, and the lanes that a round changes
 -- are those whose round count it is below. Assumes nothing.
 use mathlib.Core.Path.{_≡_, refl, sym, ap, ap₂, subst, _∙_}
-use mathlib.Core.Bool.{true, false, not}
+use mathlib.Core.Bool.{Bool, true, false, not}
 use mathlib.Core.List.{List}
 use mathlib.Core.Logic.{⊎-elim}
 use Prim.Native.Nat.{ℕ, suc, _+_, _^_, _≤_, _<_, min}
@@ -10,32 +10,44 @@ use native.Mathlib.Omega.{arith}
 use lib.Bits.{bitAnd, and-lt}
 use lib.Count.{ones, ones-le}
 use lib.Dec.{ltb}
-use borrow.Author.Tests.{eqb-true, ltb-true, ltb-false}
-use Rattle.words.specs.Below.{any}
+use borrow.Author.Tests.{eqb-true, ltb-true, ltb-false, lt-ltb, le-ltb}
+use Rattle.words.specs.Below.{any, sum}
 use Rattle.words.specs.Bits.{has, digit}
-use Rattle.words.proofs.Tests.{true-or-false}
+use Rattle.words.proofs.Tests.{true-or-false, lt-or-le}
 use Rattle.words.proofs.Below.{any-found}
 use Rattle.words.proofs.Bits.{has-zero}
 use Rattle.words.proofs.Words.{zero-any}
+use Rattle.words.proofs.Sums.{sum-ext, sum-add, sum-le, ones-lowest}
 use Rattle.words.proofs.Counts.{Within}
 use Rattle.logic.specs.declared.interpretation.Interpretation.{Interpretation}
-use Rattle.logic.specs.Interpretation.{Disjoint, sameIn}
+use Rattle.logic.specs.Value.{isDecided}
+use Rattle.logic.specs.Interpretation.{decidedIn, Disjoint, sameIn}
 use Rattle.logic.proofs.Interpretations.{Good, changed, some-changed}
 use Rattle.program.specs.declared.cause.Additions.{Additions}
 use Rattle.program.specs.Program.{Clause, programWith}
 use Rattle.settle.specs.Rounds.{rounds, roundCount, settled}
 use Rattle.settle.proofs.Steady.{Steady, program-steady}
-use Rattle.settle.proofs.Reached.{rounds-good, rounds-rise}
+use Rattle.settle.proofs.Reached.{rounds-good, rounds-rise, settled-decided}
 use Rattle.settle.proofs.Settling.{rounds-settled, changes-before, round-count-le}
 use Rattle.prepared.specs.Dependents.{touchedFrom}
 use Rattle.prepared.proofs.Redoing.{redone, openIn, redone-step}
 use Rattle.round.specs.declared.redo.Changed.{Changed}
 use Rattle.planes.specs.Planes.{column, Planes, Sizes}
-use Rattle.round.specs.Redo.{fresh, isDecided, Redone}
-use Rattle.lanes.specs.Rounds.{sum, Settles}
+use Rattle.round.specs.Redo.{fresh, Redone}
+use Rattle.lanes.specs.declared.rounds.Sums.{Sums}
+use Rattle.lanes.specs.Rounds.{Settles}
 use Rattle.planes.proofs.Columns.{column-good}
 use Rattle.lanes.proofs.OneRound.{redone-column, moved-at}
-use Rattle.lanes.proofs.Sums.{sum-ext, sum-add, sum-le, ones-lowest, one-more}
+
+abbrev sums : ℕ → ℕ → Sums
+sums k d = record { rounds = k; decided = d }
+
+one-more : (k r : ℕ) → min k r + digit (ltb k r) ≡ min (k + 1) r
+one-more k r =
+    ⊎-elim
+    (λ (l : k < r). ap (λ (b : Bool). min k r + digit b) (lt-ltb k r l) ∙ omega arith)
+    (λ (l : r ≤ k). ap (λ (b : Bool). min k r + digit b) (le-ltb k r l) ∙ omega arith)
+    (lt-or-le k r)
 
 -- where the lanes stand after k + 1 rounds, of which c is the last: lane j settles with the additions x j, and total
 -- sums the round counts of the first m lanes, each as far as k
@@ -89,7 +101,7 @@ module _ (cl : List ℕ) (n : ℕ) (x : ℕ → Additions) (m : ℕ) (few : m �
         → total + ones (bitAnd (c .lanes) v) ≡ sum m (λ j. min (k + 1) (roundCount (p j)))
     total-next v h i e =
         ap₂ _+_ (s .total-is)
-        (ones-lowest (c .lanes) v m h i few e
+        (ones-lowest (c .lanes) v m i few e
         ∙ sum-ext m (λ j. digit (has (c .lanes) j)) (λ j. digit (ltb k (roundCount (p j))))
         (λ j l. ap digit (s .lanes-are j (omega arith))))
         ∙ sum-add m (λ j. min k (roundCount (p j))) (λ j. digit (ltb k (roundCount (p j))))
@@ -144,12 +156,24 @@ module _ (cl : List ℕ) (n : ℕ) (x : ℕ → Additions) (m : ℕ) (few : m �
       done j l =
           ltb-false k (roundCount (p j)) (sym (s .lanes-are j l) ∙ ap (λ (w : ℕ). has w j) z ∙ has-zero j)
 
-      pub settling-end : Settles cl n x m t f total
+      columns-end : (j : ℕ) → j < 64 → column t f j ≡ settled (p j) .interpretation
       unfolding settled
-      settling-end = record {
+      columns-end j l = s .columns-are j l ∙ rounds-settled (p j) (steady j) (suc k) (omega (arith, done j l))
+
+      rounds-end : total ≡ sum m (λ j. settled (p j) .rounds)
+      unfolding settled
+      rounds-end =
+          s .total-is
+          ∙ sum-ext m (λ j. min k (roundCount (p j))) (λ j. roundCount (p j))
+          (λ j l. omega (arith, done j (omega arith)))
+
+      -- d atoms are decided in the first m lanes
+      pub settling-end : {d : ℕ} → d ≡ sum m (λ j. decidedIn (column t f j)) → Settles cl n x m t f (sums total d)
+      settling-end e = record {
         sizes = s .sizes;
-        columns-are = λ j l. s .columns-are j l ∙ rounds-settled (p j) (steady j) (suc k) (omega (arith, done j l));
-        sum-is = s .total-is
-            ∙ sum-ext m (λ j. min k (roundCount (p j))) (λ j. roundCount (p j))
-            (λ j l. omega (arith, done j (omega arith)));
+        columns-are = columns-end;
+        rounds-are = rounds-end;
+        decided-are = e
+            ∙ sum-ext m (λ j. decidedIn (column t f j)) (λ j. settled (p j) .decided)
+            (λ j l. ap decidedIn (columns-end j (omega arith)) ∙ sym (settled-decided (p j) (steady j)));
       }

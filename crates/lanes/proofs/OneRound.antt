@@ -9,13 +9,13 @@ use Rattle.words.proofs.Bits.{has-or, differs}
 use Rattle.words.proofs.Words.{has-word}
 use Rattle.logic.specs.declared.value.Value.{Value}
 use Rattle.logic.specs.declared.interpretation.Interpretation.{Interpretation}
-use Rattle.logic.specs.Value.{isTrue, isFalse}
+use Rattle.logic.specs.Value.{isTrue, isFalse, isDecided}
 use Rattle.logic.specs.Interpretation.{valueAt}
 use Rattle.logic.proofs.Interpretations.{changed, has-changed}
 use Rattle.prepared.proofs.Redoing.{redone, openIn, has-open}
 use Rattle.round.specs.declared.redo.Changed.{Changed}
 use Rattle.planes.specs.Planes.{at, column, Planes}
-use Rattle.round.specs.Redo.{openAt, ruled, fresh, isDecided, Redone}
+use Rattle.round.specs.Redo.{openAt, ruled, fresh, Redone}
 use Rattle.planes.proofs.Columns.{column-true, column-false, column-good, column-values}
 use Rattle.planes.proofs.Choosing.{kept-true, kept-false, chosen-differs}
 

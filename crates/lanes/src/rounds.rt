@@ -5,6 +5,7 @@ ghost use Rattle.prepared.specs.Prepared.{Prepared};
 ghost use Rattle.planes.specs.Planes.{Sizes};
 ghost use Rattle.planes.specs.Fill.{Even, Filled};
 ghost use Rattle.lanes.specs.Rounds.{addsAt, Settles};
+use crate::decided::decided_in;
 use prepared::dependent::touched;
 use prepared::opening::Opening;
 use round::begin::begin;
@@ -21,7 +22,13 @@ pub fn lanes_of(n: usize) -> u32
     64
 }
 
-// Settles the 64 settings from first on, in lanes; answers the sum of the round counts of the first m of them.
+// Two sums over settings: of their round counts, and of the numbers of atoms decided when they have settled.
+pub struct Sums {
+    pub rounds: u64,
+    pub decided: u64,
+}
+
+// Settles the 64 settings from first on, in lanes; answers the sums over the first m of them.
 // opening, causes and first say what the planes ot, of, oh, x and y are filled with.
 pub fn run(
     clauses: &[u64],
@@ -40,7 +47,7 @@ pub fn run(
     y: &[u64; 64],
     t: &mut [u64; 64],
     f: &mut [u64; 64],
-) -> u64
+) -> Sums
     requires { ⌜ Prepared (now clauses) n opening (now dependents) (now last) (now prev)
         × Even (opening .trues) (now ot) × Even (opening .falses) (now of) × Even (opening .heads) (now oh)
         × Filled causes first (now x) (now y) × (1 ≤ m) × (m ≤ 64) × Sizes (now t) (now f) ⌝ }
@@ -54,7 +61,9 @@ pub fn run(
     let mut k: u32 = 0;
     loop {
         if c.lanes == 0 {
-            break total as u64;
+            let rounds = total as u64;
+            let decided = decided_in(t, f, m) as u64;
+            break Sums { rounds, decided };
         }
         total = total + words::count(c.lanes & valid);
         let heads = touched(dependents, c.atoms);

@@ -1,5 +1,4 @@
--- Laws of interpretations: the values in one, the one of given values, and how the number of decided atoms grows.
--- Assumes nothing.
+-- Laws of interpretations: the values in one, the one of given values, and where two differ. Assumes nothing.
 use mathlib.Core.Path.{_≡_, refl, sym, ap, ap₂, _∙_}
 use mathlib.Core.Bool.{Bool, true, false, not, _&&_, _||_, or-true, or-false, and-true, and-false}
 use mathlib.Core.Bool.{true≢false, Bool·not-not}
@@ -8,7 +7,6 @@ use Prim.Native.Nat.{ℕ, _-_, _^_, _≤_, _<_}
 use native.Mathlib.Omega.{arith}
 use lib.Dec.{eqb, lit<}
 use lib.Bits.{bitAnd, bitOr, bitXor, and-lt, or-lt, xor-lt}
-use lib.Count.{ones}
 use borrow.Author.Tests.{eqb-true, eq-eqb}
 use Rattle.words.specs.Choice.{pick}
 use Rattle.words.specs.Below.{any}
@@ -18,15 +16,14 @@ use Rattle.words.proofs.Below.{any-ext}
 use Rattle.words.proofs.Bits.{has-zero, has-above, has-and, has-or, has-xor, differs, has-ext}
 use Rattle.words.proofs.Words.{word-lt, has-word, is-word, word-ext, zero-any}
 use Rattle.words.proofs.Words.{has-or-one, or-one-lt, has-without-one, without-one-lt}
-use Rattle.words.proofs.Counts.{ones-grow, ones-apart}
 use Rattle.logic.specs.declared.value.Value.{Value}
 use Rattle.logic.specs.declared.value.Value.the-variants.{Unknown}
 use Rattle.logic.specs.declared.interpretation.Interpretation.{Interpretation}
-use Rattle.logic.specs.Value.{isTrue, isFalse}
+use Rattle.logic.specs.Value.{isTrue, isFalse, isDecided}
 use Rattle.logic.specs.Interpretation.{nothing, among, valueAt, ofValues, decidedIn, Disjoint, sameIn}
 use Rattle.logic.specs.Assigned.{assigned}
 use Rattle.logic.specs.Order.{Contained}
-use Rattle.logic.proofs.Values.{by-tests, not-both, true-among, false-among}
+use Rattle.logic.proofs.Values.{by-tests, not-both, true-among, false-among, decided-among}
 use Rattle.logic.proofs.Order.{leq-refl, leq-unknown}
 
 -- an interpretation of two words of 64 bits in which no atom is both true and false
@@ -55,7 +52,7 @@ same-in-refl i j e =
 pub nothing-at : (a : ℕ) → valueAt nothing a ≡ Unknown
 nothing-at a = ap₂ among (has-zero a) (has-zero a)
 
-apart-at : (i : Interpretation) → Disjoint i → (a : ℕ) → (has (i .trues) a && has (i .falses) a) ≡ false
+pub apart-at : (i : Interpretation) → Disjoint i → (a : ℕ) → (has (i .trues) a && has (i .falses) a) ≡ false
 apart-at i d a = sym (has-and (i .trues) (i .falses) a) ∙ ap (λ (w : ℕ). has w a) d ∙ has-zero a
 
 pub true-at : (i : Interpretation) (a : ℕ) → isTrue (valueAt i a) ≡ has (i .trues) a
@@ -160,9 +157,8 @@ module _ (i : Interpretation) (a : ℕ) (g : Good i) (l : a < 64) (x : Value) wh
       assigned-less isFalse (valueAt i) (i .falses) a x (g .falses-fit) l (λ b. sym (false-at i (g .disjoint) b))
 
 -- ---- the decided atoms
-pub decided-at : (i : Interpretation) → Disjoint i → (a : ℕ)
-    → has (bitOr (i .trues) (i .falses)) a ≡ (isTrue (valueAt i a) || isFalse (valueAt i a))
-decided-at i d a = has-or (i .trues) (i .falses) a ∙ sym (ap₂ _||_ (true-at i a) (false-at i d a))
+pub decided-at : (i : Interpretation) (a : ℕ) → has (bitOr (i .trues) (i .falses)) a ≡ isDecided (valueAt i a)
+decided-at i a = has-or (i .trues) (i .falses) a ∙ sym (decided-among (has (i .trues) a) (has (i .falses) a))
 
 -- ---- the atoms whose values differ
 abbrev pub changed : Interpretation → Interpretation → ℕ
@@ -228,27 +224,3 @@ module _ (i j : Interpretation) (g : Good i) (h : Good j) where
       any-ext 64 moved (has (changed i j)) (λ a l. sym (e a l))
       ∙ sym (Bool·not-not (any 64 (has (changed i j))))
       ∙ ap not (sym (zero-any 64 (changed i j) (changed-lt i j g h)) ∙ sym same-changed)
-
--- ---- the number of decided atoms
-pub decided-le : (m : ℕ) (i : Interpretation) → i .trues < 2 ^ m → i .falses < 2 ^ m → Disjoint i → decidedIn i ≤ m
-decided-le m i t f d = ones-apart m (i .trues) (i .falses) t f (λ a l. apart-at i d a)
-
--- an interpretation contained in another is the other, or decides fewer atoms
-pub grow : (i j : Interpretation) → Good i → Good j → Contained (valueAt i) (valueAt j)
-    → (i ≡ j) ⊎ (decidedIn i < decidedIn j)
-grow i j g h k =
-    go (ones-grow 64 (i .trues) (j .trues) (g .trues-fit) (h .trues-fit) trues-in)
-    (ones-grow 64 (i .falses) (j .falses) (g .falses-fit) (h .falses-fit) falses-in)
-  where
-    trues-in : (a : ℕ) → a < 64 → has (i .trues) a ≡ true → has (j .trues) a ≡ true
-    trues-in a l e = sym (true-at j a) ∙ k a .true-kept (true-at i a ∙ e)
-
-    falses-in : (a : ℕ) → a < 64 → has (i .falses) a ≡ true → has (j .falses) a ≡ true
-    falses-in a l e = sym (false-at j (h .disjoint) a) ∙ k a .false-kept (false-at i (g .disjoint) a ∙ e)
-
-    go : (i .trues ≡ j .trues) ⊎ (ones (i .trues) < ones (j .trues))
-        → (i .falses ≡ j .falses) ⊎ (ones (i .falses) < ones (j .falses)) → (i ≡ j) ⊎ (decidedIn i < decidedIn j)
-    go (inl p) (inl q) = inl (interpretation-eq p q)
-    go (inl p) (inr q) = inr (omega (arith, ap ones p))
-    go (inr p) (inl q) = inr (omega (arith, ap ones q))
-    go (inr p) (inr q) = inr (omega arith)

@@ -4,7 +4,7 @@ use mathlib.Core.Bool.{Bool, true, false, _||_, false≢true}
 use Rattle.words.proofs.Tests.{Gives, or-gives, and-gives}
 use Rattle.logic.specs.declared.value.Value.{Value}
 use Rattle.logic.specs.declared.value.Value.the-variants.{False, Unknown, True}
-use Rattle.logic.specs.Value.{isTrue, isFalse, negated, lesser, greater}
+use Rattle.logic.specs.Value.{isTrue, isFalse, isDecided, negated, lesser, greater}
 use Rattle.logic.specs.Order.{Leq}
 use Rattle.logic.proofs.Values.{value-ext, is-true, is-false, true-negated, false-negated}
 use Rattle.logic.proofs.Values.{true-lesser, false-lesser, true-greater, false-greater}
@@ -34,7 +34,7 @@ leq-antisym x y h k =
     (gives-both (isFalse x) (isFalse y) (h .false-kept) (k .false-kept))
 
 -- a decided value stays
-pub leq-decided : (x y : Value) → Leq x y → (isTrue x || isFalse x) ≡ true → y ≡ x
+pub leq-decided : (x y : Value) → Leq x y → isDecided x ≡ true → y ≡ x
 leq-decided False y h e = is-false y (h .false-kept refl)
 leq-decided Unknown y h e = absurd (false≢true e)
 leq-decided True y h e = is-true y (h .true-kept refl)

@@ -7,7 +7,7 @@ use native.Mathlib.Omega.{arith}
 use lib.Dec.{T, eqb, eqb→eq}
 use Rattle.logic.specs.declared.value.Value.{Value}
 use Rattle.logic.specs.declared.value.Value.the-variants.{False, Unknown, True}
-use Rattle.logic.specs.Value.{rank, isTrue, isFalse, negated, lesser, greater, equivalent}
+use Rattle.logic.specs.Value.{rank, isTrue, isFalse, isDecided, negated, lesser, greater, equivalent}
 use Rattle.logic.specs.Interpretation.{among}
 use Rattle.logic.proofs.Every.{every-at₂, beq-eq}
 
@@ -56,6 +56,11 @@ false-among true true e = sym e
 false-among true false e = refl
 false-among false true e = refl
 false-among false false e = refl
+
+pub decided-among : (t f : Bool) → isDecided (among t f) ≡ (t || f)
+decided-among true f = refl
+decided-among false true = refl
+decided-among false false = refl
 
 pub not-both : (v : Value) → (isTrue v && isFalse v) ≡ false
 not-both False = refl

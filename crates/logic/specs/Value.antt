@@ -3,12 +3,13 @@
 --
 --   rank v             place in the order false < unknown < true, from 0
 --   isTrue, isFalse    tests of a value
+--   isDecided v        v is true or false
 --   negated v          "not"
 --   lesser v w         "and"
 --   greater v w        "or"
 --   implies v w        "then", by the table of document 01
 --   equivalent v w     "same"
-use mathlib.Core.Bool.{Bool, true, false}
+use mathlib.Core.Bool.{Bool, true, false, _||_}
 use Prim.Native.Nat.{ℕ}
 use Rattle.logic.specs.declared.value.Value.{Value}
 use Rattle.logic.specs.declared.value.Value.the-variants.{False, Unknown, True}
@@ -27,6 +28,9 @@ abbrev pub isFalse : Value → Bool
 isFalse False = true
 isFalse Unknown = false
 isFalse True = false
+
+abbrev pub isDecided : Value → Bool
+isDecided v = isTrue v || isFalse v
 
 -- "not" swaps true and false and keeps unknown
 abbrev pub negated : Value → Value

@@ -3,7 +3,8 @@ ghost use mathlib.Core.Path.{_≡_};
 ghost use Prim.Native.Nat.{_+_, _<_};
 ghost use Rattle.logic.specs.Value.{isTrue, greater};
 ghost use Rattle.logic.specs.Formula.{valueOf, literal, body};
-ghost use Rattle.logic.specs.Interpretation.{nothing, valueAt, ofValues, decidedIn, Disjoint};
+ghost use Rattle.logic.specs.Interpretation.{nothing, valueAt, ofValues, decidedIn, newlyDecided};
+ghost use Rattle.logic.specs.Interpretation.{Disjoint};
 ghost use Rattle.logic.specs.Assigned.{assigned};
 use crate::value::Value;
 
@@ -109,5 +110,18 @@ impl Interpretation {
         ensures { λ r. ⌜ r ≡ decidedIn self ⌝ }
     {
         words::count(self.trues) + words::count(self.falses)
+    }
+
+    // How many of the decided atoms were undecided in the interpretation before.
+    pub fn newly_decided(self, before: Interpretation) -> u32
+        requires { ⌜ Disjoint self ⌝ }
+        ensures { λ r. ⌜ r ≡ newlyDecided before self ⌝ }
+    {
+        let open = !(before.trues | before.falses);
+        let newly = Interpretation {
+            trues: self.trues & open,
+            falses: self.falses & open,
+        };
+        newly.decided()
     }
 }

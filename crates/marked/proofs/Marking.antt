@@ -1,6 +1,7 @@
 -- The ten marked files, by computation. Assumes nothing.
 use mathlib.Core.Path.{refl}
 use lib.Count.{ones, onesIn}
+use Rattle.words.specs.Below.{sum}
 use Rattle.words.specs.Bits.{has, word}
 use Rattle.words.specs.Lists.{listOf}
 use Rattle.logic.specs.Formula.{valueOf, literalsBelow}
@@ -14,7 +15,7 @@ use Rattle.settle.specs.Step.{bodiesOf, someTrue, allFalse, nextValue, step}
 use Rattle.settle.specs.Rounds.{rounds, roundCount, settled}
 use Rattle.explanation.specs.Explanation.{observedTrue, allMet, explainsUnder, setExplains}
 use Rattle.explanation.specs.Subset.{subsetOf, properOf, someProper, minimal}
-use Rattle.verdict.specs.Walk.{minimalsBelow, roundsBelow, trueInAll, falseInAll, verdictOf, verdictsOf}
+use Rattle.verdict.specs.Walk.{minimalsBelow, trueInAll, falseInAll, verdictOf, verdictsOf}
 use Rattle.text.specs.Bytes.{isWordByte, isAllowed, allOf, sameBytes}
 use Rattle.text.specs.Lines.{linesFrom, isComment}
 use Rattle.text.specs.Tokens.{tokensFrom}
@@ -37,7 +38,7 @@ pub marked-rows : MarkedRows
 unfolding ones onesIn has word valueOf literalsBelow nodes withNode spelled formulaOf clauseAt clausesOf addedBelow
     headsOf causesAmong causesOf atomsFrom choicesFor product digits digitOf settingsOf additionsOf fewCauses bodiesOf
     someTrue allFalse nextValue step rounds roundCount settled observedTrue allMet explainsUnder setExplains subsetOf
-    properOf someProper minimal minimalsBelow roundsBelow trueInAll falseInAll verdictOf verdictsOf listOf
+    properOf someProper minimal minimalsBelow sum trueInAll falseInAll verdictOf verdictsOf listOf
     nodesOf isWordByte isAllowed allOf sameBytes linesFrom isComment tokensFrom padded namesFrom someLong placeOf
     withName withNames rowsOf nodeOf beginsWithLetter depthOf withForm itemsOf literalsOf lineOf someOn atomsBy
     encodedBy saidBy lookRefusal formRefusal lineRefusal saidAfter clauseWords ending readLines readFile constraintWords

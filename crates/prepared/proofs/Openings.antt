@@ -20,7 +20,8 @@ use Rattle.logic.proofs.Interpretations.{interpretation-eq}
 use Rattle.program.specs.declared.cause.Additions.{Additions}
 use Rattle.program.specs.Program.{clausesOf, addedBy, programWith, headed, headsOf}
 use Rattle.program.proofs.Heads.{heads-lt, heads-has}
-use Rattle.settle.specs.Step.{bodiesOf, hasSome, nextValue, step}
+use Rattle.settle.specs.declared.step.Stepped.{Stepped}
+use Rattle.settle.specs.Step.{bodiesOf, hasSome, nextValue, step, stepped}
 use Rattle.settle.proofs.Definitions.{bodiesValue, defines-append, defines-clauses, defines-added}
 use Rattle.settle.proofs.Definitions.{bodies-value-append, bodies-value-added}
 use Rattle.prepared.specs.declared.opening.Opening.{Opening}
@@ -126,8 +127,9 @@ module _ (cl : List ℕ) (n : ℕ) where
     opened-step = interpretation-eq opened-trues opened-falses
 
 -- ---- the opening from the step with nothing added
-pub opening-is : (cl : List ℕ) (n : ℕ) (i : Interpretation) (heads : ℕ)
-    → i ≡ step (programWith cl n noAdditions) nothing → heads ≡ headsOf cl n
-    → record { trues = i .trues; falses = i .falses; heads = heads } ≡ openingOf cl n
+pub opening-is : (cl : List ℕ) (n : ℕ) (r : Stepped) (heads : ℕ)
+    → r ≡ stepped (programWith cl n noAdditions) nothing → heads ≡ headsOf cl n
+    → record { trues = r .interpretation .trues; falses = r .interpretation .falses; heads = heads } ≡ openingOf cl n
 unfolding openingOf
-opening-is cl n i heads e f = λ k. record { trues = e k .trues; falses = e k .falses; heads = f k }
+opening-is cl n r heads e f =
+    λ k. record { trues = e k .interpretation .trues; falses = e k .interpretation .falses; heads = f k }

@@ -103,7 +103,7 @@ module _ (cl : List ℕ) (n : ℕ) (x : Additions) (s t : Interpretation) (e : t
       (next-defined p (valueAt t) a h
       ∙ bodies-rules cl a (valueAt t) (valueAt s) x l n
       (ap isTrue (sym (value-is a l ∙ next-defined p (valueAt s) a h))
-      ∙ or-false-l (isTrue (valueAt t a)) (isFalse (valueAt t a)) (sym (decided-at t (t-good .disjoint) a) ∙ d)))
+      ∙ or-false-l (isTrue (valueAt t a)) (isFalse (valueAt t a)) (sym (decided-at t a) ∙ d)))
 
   -- where the step rises
   module _ (rise : Contained (valueAt s) (valueAt t)) where
@@ -112,7 +112,7 @@ module _ (cl : List ℕ) (n : ℕ) (x : Additions) (s t : Interpretation) (e : t
         sym
         (leq-decided (valueAt t a) (nextValue p (valueAt t) a)
         (rw (value-is a l) (next-mono p (program-steady cl n x) (valueAt s) (valueAt t) rise a))
-        (sym (decided-at t (t-good .disjoint) a) ∙ d))
+        (sym (decided-at t a) ∙ d))
 
     redone-at : (a : ℕ) → a < 64 → (b c : Bool) → has (touchedFrom cl n u) a ≡ b → has decided a ≡ c
         → pick (b && not c) (rulesValue (valueAt t) cl a n) (valueAt t a) ≡ nextValue p (valueAt t) a

@@ -23,7 +23,8 @@ pub fn first_round(clauses: &[u64], n: usize, heads: u64) -> Opening
         facts: 0,
         assumptions: 0,
     };
-    let first = settle::step::apply(Interpretation::nothing(), clauses, n, heads, none);
+    let round = settle::step::apply(Interpretation::nothing(), clauses, n, heads, none);
+    let first = round.interpretation;
     Opening {
         trues: first.trues,
         falses: first.falses,

@@ -7,6 +7,7 @@ use Prim.Native.Nat.{ℕ, _-_, _≤_, _<_}
 use native.Mathlib.Omega.{arith}
 use lib.ListN.{length, getD, take}
 use lib.Seq.{take-at}
+use Rattle.words.proofs.Sums.{sum-ext}
 use Rattle.logic.specs.Formula.{Formula, valueOf}
 use Rattle.logic.specs.Nodes.{oneFormula, formulaOf}
 use Rattle.program.specs.declared.case.Case.{Case}
@@ -28,9 +29,8 @@ use Rattle.explanation.specs.Explanation.{settledWith}
 use Rattle.explanation.specs.Judge.{Judge, judgeOf}
 use Rattle.explanation.proofs.Minimal.{explains-alike}
 use Rattle.verdict.specs.declared.verdict.Verdict.{Verdict}
-use Rattle.verdict.specs.Walk.{minimalsBelow, roundsBelow}
+use Rattle.verdict.specs.Walk.{minimalsBelow, roundsBelow, decidedBelow}
 use Rattle.verdict.proofs.Counting.{minimals-alike}
-use Rattle.verdict.proofs.Rounds.{rounds-alike}
 use Rattle.verdict.proofs.Verdicts.{verdict-alike, verdicts-one}
 use Rattle.question.specs.Operation.{settingsIn, minimalsIn}
 use Rattle.question.specs.Claims.{alone, alonePart, QueryAlone}
@@ -107,6 +107,9 @@ module _ (c : Case) (cl co fo : List ℕ) (h : sound c cl co fo ≡ true) (q : �
   same-rounds : (s : ℕ) → K .rounds s ≡ J .rounds s
   same-rounds s = ap (λ (w : ℕ). settled (programWith cl (c .clauses) (additionsOf w s)) .rounds) same-causes
 
+  same-decided : (s : ℕ) → K .decided s ≡ J .decided s
+  same-decided s = ap (λ (w : ℕ). settled (programWith cl (c .clauses) (additionsOf w s)) .decided) same-causes
+
   same-value : (s : ℕ) → K .value 0 s ≡ J .value q s
   same-value s =
       ap₂ (λ (w : ℕ) (f : Formula). valueOf (settledWith c cl (additionsOf w s)) f) same-causes
@@ -124,5 +127,7 @@ module _ (c : Case) (cl co fo : List ℕ) (h : sound c cl co fo ≡ true) (q : �
     verdict-is = verdicts-one K (minimalsIn c cl co fo) refl
         ∙ ap (λ (v : Verdict). v ∷ []) (verdict-alike K J 0 q same-value (minimalsIn c cl co fo));
     rounds-are = ap (λ (w : ℕ). roundsBelow K (settingsOf w)) same-causes
-        ∙ rounds-alike K J same-rounds (settingsIn c cl);
+        ∙ sum-ext (settingsIn c cl) (K .rounds) (J .rounds) (λ s l. same-rounds s);
+    decided-are = ap (λ (w : ℕ). decidedBelow K (settingsOf w)) same-causes
+        ∙ sum-ext (settingsIn c cl) (K .decided) (J .decided) (λ s l. same-decided s);
   }

@@ -31,7 +31,7 @@ use Rattle.walk.proofs.Bounds.{causes-fit, settings-few}
 use Rattle.verdict.specs.Walk.{verdictNumber}
 use Rattle.verdict.proofs.Counting.{minimals-le}
 use Rattle.verdict.proofs.Verdicts.{verdicts-length}
-use Rattle.question.proofs.Theorems.{rounds-bounded}
+use Rattle.question.proofs.Theorems.{rounds-bounded, decided-bounded}
 use Rattle.store.specs.Lent.{Lent, lent, filledWith}
 use Rattle.store.specs.Saying.{Said}
 use Rattle.store.specs.Tables.{clauseWords, constraintWords, formulaParts, wordsOf, caseSaid}
@@ -43,9 +43,10 @@ use Rattle.reader.proofs.FileSays.{says}
 use Rattle.reader.proofs.Theorems.{accepted-sound, accepted-names}
 use Rattle.wording.specs.Text.{answerText}
 use Rattle.report.specs.Report.{clauseTable, constraintTable, formulaTable, causesIn, judgeIn, minimalsOf}
-use Rattle.report.specs.Report.{roundsOf, verdictsIn, verdictNumbers, nameOf, saidText, listLength}
+use Rattle.report.specs.Report.{roundsOf, decidedOf, totalsOf, shownOf, verdictsIn, verdictNumbers, nameOf}
+use Rattle.report.specs.Report.{saidText, listLength}
 use Rattle.wording.proofs.Naming.{answer-alike}
-use Rattle.wording.proofs.Lengths.{answer-length}
+use Rattle.wording.proofs.Lengths.{answer-length, Short}
 
 -- A list whose first slots, as many as there are, are written
 
@@ -133,6 +134,11 @@ module _ (f : List ℕ) (st : Said) (e : readFile f ≡ Outcome.case st) where
       let a = sound-atoms (caseSaid st) _ _ _ said-sound .1 in
       omega (arith, rounds-bounded (caseSaid st) _ _ _ said-sound, mul-le-mul said-settings a)
 
+  said-decided : decidedOf st ≤ 3779136
+  said-decided =
+      let a = sound-atoms (caseSaid st) _ _ _ said-sound .1 in
+      omega (arith, decided-bounded (caseSaid st) _ _ _ said-sound, mul-le-mul said-settings a)
+
   said-minimals : length (minimalsOf st) ≤ 59049
   said-minimals =
       let n = settingsIn (caseSaid st) (clauseTable st) in
@@ -142,14 +148,20 @@ module _ (f : List ℕ) (st : Said) (e : readFile f ≡ Outcome.case st) where
   said-queries : length (st .queries) ≤ 16
   said-queries = sound-formulas (caseSaid st) _ _ _ said-sound .1
 
-  pub said-length : length (saidText st) ≤ 264582
+  said-short : Short (totalsOf st)
+  said-short = record {
+    rounds-short = omega (arith, said-rounds);
+    decided-short = omega (arith, said-decided);
+    minimal-short = omega (arith, said-minimals);
+  }
+
+  pub said-length : length (saidText st) ≤ 264600
   unfolding saidText
   said-length =
       let l = minimalsOf st in
       let few = length-take listLength l in
-      answer-length (nameOf st) (λ a. said-named a .short) (causesIn st) said-causes (verdictNumbers st) (roundsOf st)
-      (length l) (take listLength l) (omega (arith, numbers-length st, said-queries)) (omega (arith, said-rounds))
-      (omega (arith, said-minimals)) (omega arith)
+      answer-length (nameOf st) (λ a. said-named a .short) (causesIn st) said-causes (verdictNumbers st) (totalsOf st)
+      (take listLength l) (omega (arith, numbers-length st, said-queries)) said-short (omega arith)
 
 -- What is answered for it, with a list of 1,024 slots and a work area of 59,049 bytes
 
@@ -190,10 +202,10 @@ module _ (f : List ℕ) (st : Said) (e : readFile f ≡ Outcome.case st) (list w
     asked-fits = rw (answer-is, list-is) (front-fits (minimalsOf st) list 1024 full)
 
     pub asked-text : (names : List ℕ) (causes : ℕ) → names ≡ padded nameSize (rowsOf (st .names)) → causes ≡ causesIn st
-        → answerText (nameIn names) causes (take (length (st .queries)) (r .verdicts)) (r .rounds) (r .minimal)
+        → answerText (nameIn names) causes (take (length (st .queries)) (r .verdicts)) (shownOf r)
         (take (r .written) listAfter) ≡ saidText st
     unfolding saidText
     asked-text names causes n c =
         rw (n, c, verdicts-are, answer-is, list-is, front-written (minimalsOf st) list 1024)
         (answer-alike (nameIn (padded nameSize (rowsOf (st .names)))) (nameOf st) (said-table f st e) (causesIn st)
-        (verdictNumbers st) (roundsOf st) (length (minimalsOf st)) (take listLength (minimalsOf st)))
+        (verdictNumbers st) (totalsOf st) (take listLength (minimalsOf st)))

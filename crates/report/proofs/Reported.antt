@@ -33,7 +33,7 @@ use Rattle.output.specs.declared.Answer as output
 use Rattle.output.specs.Writing.{Room}
 use Rattle.wording.specs.Text.{answerText, refusalText}
 use Rattle.report.specs.Report.{clauseTable, constraintTable, formulaTable, causesIn, saidText, outcomeText}
-use Rattle.report.specs.Report.{fileRefusal, fileText, reportText}
+use Rattle.report.specs.Report.{shownOf, fileRefusal, fileText, reportText}
 use Rattle.report.specs.Operation.{ReportShown}
 use Rattle.report.specs.Sizes.{FullTables}
 use Rattle.report.proofs.FileTexts.{file-short, file-long, file-read, outcome-refused}
@@ -122,7 +122,7 @@ module _ {f : List ℕ} {t u : Lent} {r : Answer}
 
 abbrev textOf : Answer → Lent → ℕ → question.Answer → List ℕ → List ℕ
 textOf r u causes q list =
-    answerText (nameIn (u .names)) causes (take (r .found .formulas) (q .verdicts)) (q .rounds) (q .minimal)
+    answerText (nameIn (u .names)) causes (take (r .found .formulas) (q .verdicts)) (shownOf q)
     (take (q .written) list)
 
 -- what the report shows of the answer q and its list, with the record of the answer r and the tables u

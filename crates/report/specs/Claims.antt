@@ -1,5 +1,5 @@
 -- What is claimed of reports beyond the contract of *report*. Proved in proofs/Theorems.antt.
--- From: document 01, "The program `causes`".
+-- From: document 01, "The program `causes`"; document 02, [6] (the decided total).
 --
 --   ReportFits           how long a report can be
 --   ReportCut            a file that is too long, cut behind the limit
@@ -20,14 +20,14 @@ use Rattle.store.specs.Saying.{Said}
 use Rattle.store.specs.Tables.{caseSaid}
 use Rattle.reader.specs.Reading.{Outcome, readFile}
 use Rattle.reader.specs.Contents.{fileContent}
-use Rattle.wording.specs.Text.{verdictLine, roundsLine, minimalLine, causeLines}
-use Rattle.report.specs.Report.{listLength, clauseTable, causesIn, judgeIn, minimalsOf, roundsOf, verdictsIn}
-use Rattle.report.specs.Report.{nameOf, reportText}
+use Rattle.wording.specs.Text.{verdictLine, roundsLine, decidedLine, minimalLine, causeLines}
+use Rattle.report.specs.Report.{listLength, clauseTable, causesIn, judgeIn, minimalsOf, roundsOf, decidedOf}
+use Rattle.report.specs.Report.{verdictsIn, nameOf, reportText}
 
--- a bound on the length of any report: 16 verdicts, the two lines behind them, and 1,024 settings of ten causes with
+-- a bound on the length of any report: 16 verdicts, the three lines behind them, and 1,024 settings of ten causes with
 -- names of 16 bytes
 abbrev pub reportLimit : ℕ
-reportLimit = 264582
+reportLimit = 264600
 
 -- an output of that many bytes is long enough for the report of any file
 abbrev pub ReportFits : Type 0
@@ -42,6 +42,7 @@ abbrev pub judgeOn : Said → Formula → Judge
 judgeOn st g = record {
   explains = judgeIn st .explains;
   rounds = judgeIn st .rounds;
+  decided = judgeIn st .decided;
   queries = 1;
   value = λ q s. valueOf (settledWith (caseSaid st) (clauseTable st) (additionsOf (causesIn st) s)) g;
 }
@@ -55,12 +56,13 @@ abbrev pub VerdictsOnQueries : Type 0
 VerdictsOnQueries = (f : List ℕ) (st : Said) → readFile f ≡ Outcome.case st
     → verdictsIn st ≡ map (verdictOn st) (fileContent f .queries)
 
--- the report of an accepted file with one query line, whose formula is g: one verdict, the rounds, how many minimal
--- settings there are and are listed, and the listed ones
+-- the report of an accepted file with one query line, whose formula is g: one verdict, the rounds, the decided atoms, how
+-- many minimal settings there are and are listed, and the listed ones
 abbrev pub OneQuery : Type 0
 OneQuery = (f : List ℕ) (st : Said) (g : Formula) → length f ≤ 32768 → readFile f ≡ Outcome.case st
     → fileContent f .queries ≡ (g ∷ [])
     → let l = minimalsOf st in let listed = take listLength l in
     reportText f ≡ verdictLine (verdictNumber (verdictOn st g))
     ++ (roundsLine (roundsOf st)
-    ++ (minimalLine (length l) (length listed) ++ causeLines (nameOf st) (causesIn st) listed))
+    ++ (decidedLine (decidedOf st)
+    ++ (minimalLine (length l) (length listed) ++ causeLines (nameOf st) (causesIn st) listed)))

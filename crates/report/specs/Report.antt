@@ -1,9 +1,12 @@
 -- From the bytes of a file to the bytes of its report.
--- From: document 01, "The program `causes`".
+-- From: document 01, "The program `causes`"; document 02, [6] (the decided total).
 --
 --   listLength             the slots of the program's list
 --   judgeIn st             the judge of what a file says
---   causesIn st            its causes; minimalsOf st its minimal settings; roundsOf st the rounds over all settings
+--   causesIn st            its causes; minimalsOf st its minimal settings
+--   roundsOf st            the rounds over all settings; decidedOf st the decided atoms; totalsOf st both with the number
+--                          of minimal settings
+--   shownOf a              those numbers of an answer of the question
 --   verdictsIn st          its verdicts, in file order; verdictNumbers st their numbers
 --   outcomeText said o     the text of an outcome of reading, where said gives that of what a file says
 --   fileRefusal f          0, or 2 where the file is too long
@@ -19,11 +22,13 @@ use Rattle.program.specs.Case.{clauseSize, constraintSize, formulaSize}
 use Rattle.program.specs.Cause.{causesOf}
 use Rattle.verdict.specs.declared.verdict.Verdict.{Verdict}
 use Rattle.explanation.specs.Judge.{Judge, judgeOf}
-use Rattle.verdict.specs.Walk.{roundsBelow, verdictsOf, verdictNumber}
+use Rattle.verdict.specs.Walk.{roundsBelow, decidedBelow, verdictsOf, verdictNumber}
+use Rattle.question.specs.declared.operation.Answer.{Answer}
 use Rattle.question.specs.Operation.{settingsIn, minimalsIn}
 use Rattle.store.specs.Saying.{Said}
 use Rattle.store.specs.Tables.{clauseWords, constraintWords, formulaParts, caseSaid}
 use Rattle.reader.specs.Reading.{Outcome, readFile}
+use Rattle.wording.specs.declared.Totals.{Totals}
 use Rattle.wording.specs.Text.{answerText, refusalText}
 
 -- the program's list has 1,024 slots
@@ -52,6 +57,15 @@ minimalsOf st = minimalsIn (caseSaid st) (clauseTable st) (constraintTable st) (
 abbrev pub roundsOf : Said → ℕ
 roundsOf st = roundsBelow (judgeIn st) (settingsIn (caseSaid st) (clauseTable st))
 
+abbrev pub decidedOf : Said → ℕ
+decidedOf st = decidedBelow (judgeIn st) (settingsIn (caseSaid st) (clauseTable st))
+
+abbrev pub totalsOf : Said → Totals
+totalsOf st = record { rounds = roundsOf st; decided = decidedOf st; minimal = length (minimalsOf st) }
+
+abbrev pub shownOf : Answer → Totals
+shownOf a = record { rounds = a .rounds; decided = a .decided; minimal = a .minimal }
+
 abbrev pub verdictsIn : Said → List Verdict
 verdictsIn st = verdictsOf (judgeIn st) (minimalsOf st)
 
@@ -64,8 +78,7 @@ nameOf st a = getD (st .names) a []
 
 unfoldable pub saidText : Said → List ℕ
 saidText st =
-    let l = minimalsOf st in
-    answerText (nameOf st) (causesIn st) (verdictNumbers st) (roundsOf st) (length l) (take listLength l)
+    answerText (nameOf st) (causesIn st) (verdictNumbers st) (totalsOf st) (take listLength (minimalsOf st))
 
 abbrev pub outcomeText : (Said → List ℕ) → Outcome → List ℕ
 outcomeText said (Outcome.case st) = said st

@@ -3,12 +3,14 @@ ghost use Prim.Native.Nat.{_≤_};
 ghost use lib.ListN.{length, take};
 ghost use Rattle.program.specs.Case.{nameSize};
 ghost use Rattle.wording.specs.Text.{answerText, refusalText};
+ghost use Rattle.report.specs.Report.{shownOf};
 ghost use Rattle.report.specs.Operation.{ReportShown, Reported};
 ghost use Rattle.names.specs.Row.{nameIn};
 ghost use Rattle.output.specs.Writing.{Room};
 ghost use Rattle.report.specs.Sizes.{FullSizes};
 use output::Answer;
 use program::case::Case;
+use wording::Totals;
 use wording::answer_text;
 use wording::refusal_text;
 
@@ -38,24 +40,27 @@ fn show_answer(
     out: &mut [u8],
 ) -> Answer
     requires { ⌜ (queries ≤ length (a .verdicts)) × (nameSize ≤ length (now names))
-        × Room (answerText (nameIn (now names)) causes (take queries (a .verdicts)) (a .rounds) (a .minimal)
-        (now list)) 0 ⌝ }
+        × Room (answerText (nameIn (now names)) causes (take queries (a .verdicts)) (shownOf a) (now list)) 0 ⌝ }
     ensures { λ r. ⌜ ReportShown
-        (answerText (nameIn (now (names .entry))) causes (take queries (a .verdicts)) (a .rounds) (a .minimal)
-        (now (list .entry)))
+        (answerText (nameIn (now (names .entry))) causes (take queries (a .verdicts)) (shownOf a) (now (list .entry)))
         (now (out .entry)) r (now (out .exit)) ⌝ }
 {
     let verdicts = a.verdicts;
     let shown = &verdicts[..queries];
+    let totals = Totals {
+        rounds: a.rounds,
+        decided: a.decided,
+        minimal: a.minimal,
+    };
     let mut spare = [0u8; 1];
-    let length = answer_text(&mut spare, shown, a.rounds, a.minimal, names, causes, list);
+    let length = answer_text(&mut spare, shown, totals, names, causes, list);
     if out.len() < length {
         return Answer {
             refusal: 19,
             length: 0,
         };
     }
-    answer_text(out, shown, a.rounds, a.minimal, names, causes, list);
+    answer_text(out, shown, totals, names, causes, list);
     Answer { refusal: 0, length }
 }
 

@@ -14,10 +14,10 @@ use Rattle.words.specs.Bits.{has}
 use Rattle.words.specs.OneBit.{withoutBit, BitOf}
 use Rattle.words.proofs.Bits.{has-zero, has-or}
 use Rattle.words.proofs.BitWalks.{without-here, without-other}
-use Rattle.logic.specs.Value.{isTrue, isFalse}
+use Rattle.logic.specs.Value.{isTrue, isFalse, isDecided}
 use Rattle.round.specs.declared.redo.Changed.{Changed}
 use Rattle.planes.specs.Planes.{at}
-use Rattle.round.specs.Redo.{openAt, ruled, fresh, isDecided, Decided, Committed, Redone}
+use Rattle.round.specs.Redo.{openAt, ruled, fresh, Decided, Committed, Redone}
 
 -- an entry with what is noted of it
 abbrev pub entry : Bool → ℕ → ℕ → ℕ

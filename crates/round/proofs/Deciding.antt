@@ -14,10 +14,10 @@ use Rattle.words.proofs.Below.{all-false}
 use Rattle.words.proofs.Bits.{has-zero}
 use Rattle.words.proofs.BitWalks.{without-here, without-other, any-without}
 use Rattle.logic.specs.declared.value.Value.{Value}
-use Rattle.logic.specs.Value.{isTrue, isFalse}
+use Rattle.logic.specs.Value.{isTrue, isFalse, isDecided}
 use Rattle.round.specs.declared.redo.Changed.{Changed}
 use Rattle.planes.specs.Planes.{at, Sizes}
-use Rattle.round.specs.Redo.{openAt, ruled, fresh, isDecided, Taken, Decided}
+use Rattle.round.specs.Redo.{openAt, ruled, fresh, Taken, Decided}
 use Rattle.planes.proofs.Choosing.{or-move}
 
 -- a bit that is left behind bit a is another one, and was left before

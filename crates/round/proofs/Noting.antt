@@ -14,11 +14,11 @@ use Rattle.words.specs.Bits.{has}
 use Rattle.words.specs.OneBit.{withBit}
 use Rattle.words.proofs.Bits.{has-zero, has-and, has-or, has-ext}
 use Rattle.words.proofs.BitWalks.{has-with}
-use Rattle.logic.specs.Value.{isTrue, isFalse}
+use Rattle.logic.specs.Value.{isTrue, isFalse, isDecided}
 use Rattle.planes.specs.declared.plane.Lanes.{Lanes}
 use Rattle.round.specs.declared.redo.Changed.{Changed}
 use Rattle.planes.specs.Planes.{at, Sizes, Worth}
-use Rattle.round.specs.Redo.{notedWith, openAt, Noted, ruled, isDecided, Taken}
+use Rattle.round.specs.Redo.{notedWith, openAt, Noted, ruled, Taken}
 
 -- ---- the lanes in which an atom changed
 pub noted-none : (c : Changed) (a m : ℕ) → c .lanes < 2 ^ 64 → m ≡ 0 → c ≡ notedWith c a m

@@ -5,7 +5,6 @@
 --   Noted ..           where one head is decided among the open lanes is noted
 --   ruled ..           what the rules of an atom are worth in a lane
 --   fresh q ..         a head of a word is undecided in a lane, and what its rules are worth passes the test q
---   isDecided x        the value x is true or false
 --   Taken ..           one head taken: where its rules decide it is noted, and what it changed
 --   Decided ..         where the heads of a word are decided by their rules
 --   Committed ..       the planes with these lanes taken in
@@ -22,7 +21,7 @@ use Rattle.words.specs.Below.{any}
 use Rattle.words.specs.Bits.{has}
 use Rattle.words.specs.OneBit.{withBit}
 use Rattle.logic.specs.declared.value.Value.{Value}
-use Rattle.logic.specs.Value.{isTrue, isFalse}
+use Rattle.logic.specs.Value.{isTrue, isFalse, isDecided}
 use Rattle.logic.specs.Interpretation.{valueAt}
 use Rattle.prepared.specs.Chains.{rulesValue}
 use Rattle.planes.specs.declared.plane.Lanes.{Lanes}
@@ -45,9 +44,6 @@ ruled cl n t f j a = rulesValue (valueAt (column t f j)) cl a n
 
 abbrev pub fresh : (Value → Bool) → List ℕ → ℕ → ℕ → List ℕ → List ℕ → ℕ → ℕ → Bool
 fresh q cl n heads t f j a = has heads a && (openAt t f j a && q (ruled cl n t f j a))
-
-abbrev pub isDecided : Value → Bool
-isDecided x = isTrue x || isFalse x
 
 pub record Taken (cl : List ℕ) (n : ℕ) (t f : List ℕ) (a : ℕ) (ut uf : List ℕ) (c : Changed) (ut₁ uf₁ : List ℕ)
     (r : Changed) : Type 0 where

@@ -5,14 +5,14 @@ use mathlib.Core.Bool.{Bool, _&&_, _||_}
 use mathlib.Core.List.{List}
 use Prim.Native.Nat.{ℕ, zero, suc, _<_}
 use Rattle.words.specs.Choice.{pick}
-use Rattle.words.specs.Below.{first}
+use Rattle.words.specs.Below.{first, sum}
 use Rattle.words.specs.Bits.{has}
 use Rattle.logic.specs.declared.value.Value.{Value}
 use Rattle.logic.specs.declared.value.Value.the-variants.{False, True}
 use Rattle.logic.specs.declared.interpretation.Interpretation.{Interpretation}
 use Rattle.logic.specs.Value.{isTrue, isFalse, greater}
 use Rattle.logic.specs.Formula.{Formula, valueOf, anyOf}
-use Rattle.logic.specs.Interpretation.{among, valueAt, sameIn}
+use Rattle.logic.specs.Interpretation.{among, valueAt, newlyDecided, sameIn}
 use Rattle.logic.proofs.Interpretations.{values-ext}
 use Rattle.program.specs.declared.cause.Additions.{Additions}
 use Rattle.program.specs.Program.{Clause, clausesOf, addedBy, programWith}
@@ -38,8 +38,12 @@ module _ (p q : List Clause) (same : (v : ℕ → Value) (a : ℕ) → a < 64 �
   count-alike = λ i. first roundLimit (λ k. sameIn (rounds-alike k i) (rounds-alike (suc k) i))
 
   settled-alike : settled p ≡ settled q
-  unfolding settled
-  settled-alike = λ i. record { interpretation = rounds-alike (count-alike i) i; rounds = count-alike i }
+  unfolding settled rounds step
+  settled-alike = λ i. record {
+    interpretation = rounds-alike (count-alike i) i;
+    rounds = count-alike i;
+    decided = sum (count-alike i) (λ k. newlyDecided (rounds-alike k i) (rounds-alike (suc k) i));
+  }
 
 -- ---- the value that bodies give, by whether there is one and by that of their "or"
 given-tests : (v : ℕ → Value) (fs : List Formula)

@@ -66,6 +66,7 @@ module _ (c : Case) (cl co fo : List ℕ) (s : ℕ) where
     trues-are = ap (λ (a : Answer). a .trues) q ∙ none-accepted n (result .interpretation .trues) e;
     falses-are = ap (λ (a : Answer). a .falses) q ∙ none-accepted n (result .interpretation .falses) e;
     rounds-are = ap (λ (a : Answer). a .rounds) q ∙ none-accepted n (result .rounds) e;
+    decided-are = ap (λ (a : Answer). a .decided) q ∙ none-accepted n (result .decided) e;
   }
 
   -- the answer that hands a settled interpretation on
@@ -75,6 +76,7 @@ module _ (c : Case) (cl co fo : List ℕ) (s : ℕ) where
     trues = r .interpretation .trues;
     falses = r .interpretation .falses;
     rounds = r .rounds;
+    decided = r .decided;
   }
 
   pub answer-settled : (r : Settled) → refusal ≡ 0 → r ≡ result → SettledOne c cl co fo s (answerOf r)
@@ -83,4 +85,5 @@ module _ (c : Case) (cl co fo : List ℕ) (s : ℕ) where
     trues-are = ap (λ (x : Settled). x .interpretation .trues) q ∙ all-accepted (result .interpretation .trues) e;
     falses-are = ap (λ (x : Settled). x .interpretation .falses) q ∙ all-accepted (result .interpretation .falses) e;
     rounds-are = ap (λ (x : Settled). x .rounds) q ∙ all-accepted (result .rounds) e;
+    decided-are = ap (λ (x : Settled). x .decided) q ∙ all-accepted (result .decided) e;
   }

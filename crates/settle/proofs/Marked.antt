@@ -1,8 +1,10 @@
 -- The marked files M3, M9 and M10 of document 01, settled by computation: for each of their settings the true atoms,
--- the false atoms and the rounds. Assumes nothing.
+-- the false atoms, the rounds and the decided atoms. Assumes nothing.
 use mathlib.Core.Path.{_≡_, refl}
 use mathlib.Core.List.{List, [], _∷_, _++_, map}
 use Prim.Native.Nat.{ℕ, zero, suc}
+use lib.Count.{ones}
+use Rattle.words.specs.Below.{sum}
 use Rattle.words.specs.Bits.{has, word}
 use Rattle.logic.specs.Formula.{valueOf, literalsBelow}
 use Rattle.program.specs.declared.case.Case.{Case}
@@ -32,8 +34,8 @@ caseOf n m p q = record {
   nodes = 1 ∷ [];
 }
 
-abbrev answer : ℕ → ℕ → ℕ → Settled
-answer t f k = record { interpretation = record { trues = t; falses = f }; rounds = k }
+abbrev answer : ℕ → ℕ → ℕ → ℕ → Settled
+answer t f k d = record { interpretation = record { trues = t; falses = f }; rounds = k; decided = d }
 
 -- the numbers below n
 abbrev upTo : ℕ → List ℕ
@@ -49,7 +51,7 @@ abbrev m3 : Row
 m3 = record {
   case = caseOf 2 2 1 0;
   clauses = 128 ∷ 2 ∷ 0 ∷ 129 ∷ 1 ∷ 0 ∷ [];
-  expected = answer 0 0 0 ∷ [];
+  expected = answer 0 0 0 0 ∷ [];
 }
 
 -- M9: (if b a (not a));(seen (not b));(query b)
@@ -57,7 +59,7 @@ abbrev m9 : Row
 m9 = record {
   case = caseOf 2 1 0 1;
   clauses = 128 ∷ 2 ∷ 2 ∷ [];
-  expected = answer 0 0 0 ∷ answer 2 1 2 ∷ answer 0 3 2 ∷ [];
+  expected = answer 0 0 0 0 ∷ answer 2 1 2 2 ∷ answer 0 3 2 2 ∷ [];
 }
 
 -- M10: (true a);(false a);(query a)
@@ -65,7 +67,7 @@ abbrev m10 : Row
 m10 = record {
   case = caseOf 1 2 0 0;
   clauses = 0 ∷ 0 ∷ 0 ∷ 64 ∷ 0 ∷ 0 ∷ [];
-  expected = answer 1 0 1 ∷ [];
+  expected = answer 1 0 1 1 ∷ [];
 }
 
 abbrev marked : List Row
@@ -74,5 +76,5 @@ marked = m3 ∷ m9 ∷ m10 ∷ []
 marked-settled : map answers marked ≡ map (λ (r : Row). r .expected) marked
 unfolding has word valueOf literalsBelow clauseAt clausesOf addedBelow headsOf causesAmong causesOf atomsFrom
     choicesFor product digits digitOf settingsOf additionsOf bodiesOf someTrue allFalse nextValue step
-    rounds roundCount settled
+    rounds roundCount sum ones settled
 marked-settled = refl

@@ -21,7 +21,7 @@ use Rattle.logic.specs.declared.value.Value.the-variants.{False, Unknown, True}
 use Rattle.logic.specs.declared.interpretation.Interpretation.{Interpretation}
 use Rattle.logic.specs.Value.{isTrue, isFalse, greater}
 use Rattle.logic.specs.Formula.{valueOf}
-use Rattle.logic.specs.Interpretation.{valueAt, ofValues, Disjoint}
+use Rattle.logic.specs.Interpretation.{valueAt, ofValues, Disjoint, newlyDecided}
 use Rattle.logic.specs.Assigned.{assigned}
 use Rattle.logic.proofs.Values.{greater-false-r}
 use Rattle.logic.proofs.Interpretations.{interpretation-eq, values-at, values-ext, values-good}
@@ -29,7 +29,8 @@ use Rattle.program.specs.declared.cause.Additions.{Additions}
 use Rattle.program.specs.Case.{headAt}
 use Rattle.program.specs.Program.{clauseAt, clausesOf, addedBy, programWith, headed, headsOf}
 use Rattle.program.proofs.Heads.{head-lt, heads-lt, heads-has}
-use Rattle.settle.specs.Step.{bodiesOf, given, nextValue, step}
+use Rattle.settle.specs.declared.step.Stepped.{Stepped}
+use Rattle.settle.specs.Step.{bodiesOf, given, nextValue, step, stepped}
 use Rattle.settle.proofs.Given.{given-some, given-none}
 use Rattle.settle.proofs.Definitions.{defines, bodiesValue, defines-append, defines-clauses, defines-added}
 use Rattle.settle.proofs.Definitions.{bodies-value-more, bodies-value-added}
@@ -206,6 +207,9 @@ module _ (v : ℕ → Value) (cl : List ℕ) (n : ℕ) (x : Additions) where
       go true e = sym (given-some v (bodiesOf (programWith cl n x) a) e)
       go false e = sym (given-none v (bodiesOf (programWith cl n x) a) e)
 
+abbrev answerOf : Interpretation → ℕ → Stepped
+answerOf j d = record { interpretation = j; decided = d }
+
 module _ (i : Interpretation) (cl : List ℕ) (n : ℕ) (x : Additions)
     (hf : x .facts < 2 ^ 64) (hs : x .assumptions < 2 ^ 64) where
   walked-passed : (k : ℕ) → k ≤ n
@@ -220,3 +224,8 @@ module _ (i : Interpretation) (cl : List ℕ) (n : ℕ) (x : Additions)
   pub walked-step : walked (valueAt i) cl (start (headsOf cl n) x) n ≡ step (programWith cl n x) i
   unfolding step
   walked-step = walked-passed n (omega arith) ∙ values-ext _ _ (λ a l. passed-all (valueAt i) cl n x a)
+
+  -- the answer of the step, where the walk ends at j and d atoms are newly decided there
+  pub walked-stepped : {j : Interpretation} {d : ℕ} → j ≡ step (programWith cl n x) i → d ≡ newlyDecided i j
+      → answerOf j d ≡ stepped (programWith cl n x) i
+  walked-stepped e f = λ k. answerOf (e k) ((f ∙ ap (newlyDecided i) e) k)

@@ -11,11 +11,11 @@ use lib.Dec.{ltb}
 use borrow.Author.Tests.{lt-ltb, le-ltb}
 use Rattle.words.proofs.Tests.{lt-or-le}
 use Rattle.logic.specs.Interpretation.{decidedIn}
-use Rattle.logic.proofs.Interpretations.{grow, same-in-refl}
+use Rattle.logic.proofs.Interpretations.{same-in-refl}
+use Rattle.logic.proofs.Decided.{grow}
 use Rattle.program.specs.Program.{Clause}
-use Rattle.settle.specs.declared.settle.Settled.{Settled}
 use Rattle.settle.specs.Step.{step}
-use Rattle.settle.specs.Rounds.{rounds, unchanged, roundCount, settled}
+use Rattle.settle.specs.Rounds.{rounds, unchanged, roundCount}
 use Rattle.settle.proofs.Steady.{Steady}
 use Rattle.settle.proofs.Reached.{Reached, good-decided, rounds-good, rounds-rise, start, onwards, again, ends}
 
@@ -26,9 +26,7 @@ pub record Ended (p : List Clause) (k : ℕ) : Type 0 where
 
 module _ (p : List Clause) (s : Steady p) where
   ended-count : (k : ℕ) → Ended p k → k ≡ roundCount p
-  unfolding settled
-  ended-count k d =
-      ap (λ (z : Settled). z .rounds) (ends p s (d .reached) (step p (rounds p k)) refl (ap decidedIn (sym (d .fixed))))
+  ended-count k d = ends p s (d .reached) (ap decidedIn (sym (d .fixed)))
 
   -- each of the rounds from k on decides one atom more, until the step keeps one
   search-ended : (d k : ℕ) → Reached p (rounds p k) k → 64 < k + d → Ended p (roundCount p)

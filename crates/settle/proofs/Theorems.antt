@@ -5,7 +5,8 @@ use mathlib.Core.Bool.{true}
 use mathlib.Core.List.{List}
 use Prim.Native.Nat.{ℕ, _^_, _≤_, _<_}
 use native.Mathlib.Omega.{arith}
-use Rattle.logic.proofs.Interpretations.{decided-le, same-in-refl}
+use Rattle.logic.proofs.Interpretations.{same-in-refl}
+use Rattle.logic.proofs.Decided.{decided-le}
 use Rattle.program.specs.declared.case.Case.{Case}
 use Rattle.program.specs.declared.cause.Additions.{Additions}
 use Rattle.program.specs.Program.{Clause, programWith}
@@ -15,11 +16,13 @@ use Rattle.program.specs.Sound.{sound}
 use Rattle.program.proofs.Causes.{causes-of-lt}
 use Rattle.program.proofs.Sets.{additions-set, set-facts-lt, set-assumptions-lt}
 use Rattle.program.proofs.Soundness.{sound-atoms, sound-head}
+use Rattle.settle.specs.Operation.{programOf}
 use Rattle.settle.specs.Rounds.{rounds, roundCount, settled}
 use Rattle.settle.specs.Claims.{IsLeastModel, IsRoundCount, SetSettled, SettledLeastModel, RoundCountLeast}
+use Rattle.settle.specs.Claims.{DecidedExact}
 use Rattle.settle.proofs.Steady.{Steady, program-steady}
 use Rattle.settle.proofs.Heads.{HeadsBelow, rounds-within, program-heads-below}
-use Rattle.settle.proofs.Reached.{rounds-good}
+use Rattle.settle.proofs.Reached.{rounds-good, settled-decided}
 use Rattle.settle.proofs.Settling.{settled-ended, changed-more}
 use Rattle.settle.proofs.Models.{settled-least, least-unique}
 
@@ -84,3 +87,6 @@ settled-least-model c cl co fo s h = set-settled .to-least-model c cl co fo _ h 
 
 pub round-count-least : RoundCountLeast
 round-count-least c cl co fo s h = set-settled .in-least-rounds c cl co fo _ h (additions-set (causesOf c cl) s)
+
+pub decided-exact : DecidedExact
+decided-exact c cl co fo s h = settled-decided (programOf c cl s) (program-steady cl (c .clauses) _)

@@ -1,6 +1,7 @@
--- What is claimed of settling beyond the functions' contracts: claims 1 and 2 of the design. Proved in
--- proofs/Theorems.antt.
--- From: document 01, "Interpretations and the step" and "Causes, settings, explanations" ("The least model of a set").
+-- What is claimed of settling beyond the functions' contracts: claims 1 and 2 of the design, and that the atoms newly
+-- decided sum up to the decided ones. Proved in proofs/Theorems.antt.
+-- From: document 01, "Interpretations and the step" and "Causes, settings, explanations" ("The least model of a set");
+-- document 02, [6] ("the sum equals the decided atoms of the model").
 use mathlib.Core.Path.{_≡_}
 use mathlib.Core.Bool.{true, false}
 use mathlib.Core.List.{List}
@@ -54,3 +55,9 @@ SettledLeastModel = (c : Case) (cl co fo : List ℕ) (s : ℕ) → sound c cl co
 abbrev pub RoundCountLeast : Type 0
 RoundCountLeast = (c : Case) (cl co fo : List ℕ) (s : ℕ) → sound c cl co fo ≡ true
     → IsRoundCount (c .atoms) (programOf c cl s) (settled (programOf c cl s) .rounds)
+
+-- when settling ends, the sum of the atoms newly decided is the number of decided atoms of the model: for every sound
+-- case and setting
+abbrev pub DecidedExact : Type 0
+DecidedExact = (c : Case) (cl co fo : List ℕ) (s : ℕ) → sound c cl co fo ≡ true → let r = settled (programOf c cl s) in
+    r .decided ≡ decidedIn (r .interpretation)

@@ -1,5 +1,5 @@
 -- What the operation *settle one setting* answers, on every input.
--- From: document 01, "What each operation refuses".
+-- From: document 01, "What each operation refuses"; document 02, [6] (the decided atoms).
 --
 --   settleRefusal     0, or 1 a lent table too short, 13 the case isn't sound, 14 the setting is 3^k or more
 --   programOf         the case's program with a setting's facts and assumptions added
@@ -31,7 +31,7 @@ abbrev pub programOf : Case → List ℕ → ℕ → List Clause
 programOf c cl s = programWith cl (c .clauses) (additionsOf (causesOf c cl) s)
 
 abbrev pub refusedWith : ℕ → Answer
-refusedWith n = record { refusal = n; trues = 0; falses = 0; rounds = 0 }
+refusedWith n = record { refusal = n; trues = 0; falses = 0; rounds = 0; decided = 0 }
 
 pub record SettledOne (c : Case) (cl co fo : List ℕ) (s : ℕ) (r : Answer) : Type 0 where
   pub refusal-is : r .refusal ≡ settleRefusal c cl co fo s
@@ -40,3 +40,4 @@ pub record SettledOne (c : Case) (cl co fo : List ℕ) (s : ℕ) (r : Answer) : 
   pub falses-are : r .falses
       ≡ unlessRefused (settleRefusal c cl co fo s) (settled (programOf c cl s) .interpretation .falses) 0
   pub rounds-are : r .rounds ≡ unlessRefused (settleRefusal c cl co fo s) (settled (programOf c cl s) .rounds) 0
+  pub decided-are : r .decided ≡ unlessRefused (settleRefusal c cl co fo s) (settled (programOf c cl s) .decided) 0

@@ -4,12 +4,14 @@ ghost use Rattle.settle.specs.Operation.{refusedWith, SettledOne};
 use logic::interpretation::Interpretation;
 use program::case::Case;
 
-// What settling one setting answers: 0, the two words and the rounds, or a refusal's number and zeros.
+// What settling one setting answers: 0, the two words, the rounds and the number of decided atoms, or a refusal's number
+// and zeros.
 pub struct Answer {
     pub refusal: u32,
     pub trues: u64,
     pub falses: u64,
     pub rounds: u32,
+    pub decided: u32,
 }
 
 impl Answer {
@@ -22,6 +24,7 @@ impl Answer {
             trues: 0,
             falses: 0,
             rounds: 0,
+            decided: 0,
         }
     }
 }
@@ -58,5 +61,6 @@ pub fn settle_one(
         trues: i.trues,
         falses: i.falses,
         rounds: s.rounds,
+        decided: s.decided,
     }
 }

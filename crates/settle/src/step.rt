@@ -6,7 +6,7 @@ ghost use Rattle.logic.specs.Formula.{valueOf};
 ghost use Rattle.logic.specs.Formula.{body as Formula·body};
 ghost use Rattle.logic.specs.Interpretation.{valueAt, Disjoint};
 ghost use Rattle.program.specs.Program.{byKind, programWith, headsOf};
-ghost use Rattle.settle.specs.Step.{step};
+ghost use Rattle.settle.specs.Step.{stepped};
 use logic::interpretation::Interpretation;
 use logic::value::Value;
 use program::cause::Additions;
@@ -25,17 +25,17 @@ pub fn body_value(i: Interpretation, kind: u64, plain: u64, negated: u64) -> Val
     i.body(plain, negated)
 }
 
-// The interpretation after i: the defined atoms are false at first, and each clause raises its head to its body's
-// value.
-pub fn apply(
-    i: Interpretation,
-    clauses: &[u64],
-    n: usize,
-    heads: u64,
-    added: Additions,
-) -> Interpretation
+// What one application answers: the interpretation after, and how many atoms it decides newly.
+pub struct Stepped {
+    pub interpretation: Interpretation,
+    pub decided: u32,
+}
+
+// The interpretation after i, and how many atoms it decides newly. The defined atoms are false at first, and each clause
+// raises its head to its body's value.
+pub fn apply(i: Interpretation, clauses: &[u64], n: usize, heads: u64, added: Additions) -> Stepped
     requires { ⌜ Disjoint i × (n ≤ 256) × (3 * n ≤ length (now clauses)) × (heads ≡ headsOf (now clauses) n) ⌝ }
-    ensures { λ r. ⌜ r ≡ step (programWith (now (clauses .entry)) n added) i ⌝ }
+    ensures { λ r. ⌜ r ≡ stepped (programWith (now (clauses .entry)) n added) i ⌝ }
 {
     let mut next = Interpretation {
         trues: added.facts,
@@ -49,5 +49,9 @@ pub fn apply(
         next = next.raise((first % 64) as u32, v);
         k += 1;
     }
-    next
+    let decided = next.newly_decided(i);
+    Stepped {
+        interpretation: next,
+        decided,
+    }
 }

@@ -4,7 +4,6 @@
 -- Holding: the queries told one by one.
 -- Asking: the queries that counts still ask.
 -- Bytes: the byte of a setting, and the bytes of the settings below one.
--- Rounds: the rounds of the settings below one.
 -- Lists: a slot of a list's free rest, lent and written.
 -- Leaving: what the walk leaves in the list and the work area.
 -- Taking: one setting taken into what is found.
@@ -15,7 +14,6 @@ pub mod Numbers
 pub mod Holding
 pub mod Asking
 pub mod Bytes
-pub mod Rounds
 pub mod Lists
 pub mod Leaving
 pub mod Taking

@@ -1,17 +1,19 @@
 -- One walk over all settings in rising order, for any judge and any list of choice counts.
--- From: document 01, "The question".
+-- From: document 01, "The question"; document 02, [6] ("the question the sum over all settings").
 --
 --   byteOf J cs s        0 setting s doesn't explain, 1 it explains and isn't minimal, 2 it is minimal
 --   bytesBelow J cs n    the bytes of the settings below n
 --   minimalsBelow J cs n the minimal settings below n, in rising order
 --   roundsBelow J n      the sum of the round counts of the settings below n
+--   decidedBelow J n     the sum of the decided atoms of the settings below n
 --   verdictOf J q l      the verdict on query q over the list l of minimal settings
 --   verdictsOf J l       the verdicts on all queries, in file order
 --   verdictNumber v      document 01's number of a verdict
 use mathlib.Core.Bool.{Bool, true, false, _&&_}
 use mathlib.Core.List.{List, [], _∷_, _++_}
-use Prim.Native.Nat.{ℕ, zero, suc, _+_}
+use Prim.Native.Nat.{ℕ, zero, suc}
 use lib.ListN.{length}
+use Rattle.words.specs.Below.{sum}
 use Rattle.words.specs.Lists.{listOf}
 use Rattle.logic.specs.Value.{isTrue, isFalse}
 use Rattle.verdict.specs.declared.verdict.Verdict.{Verdict}
@@ -40,9 +42,11 @@ unfoldable pub minimalsBelow : Judge → List ℕ → ℕ → List ℕ
 minimalsBelow J cs zero = []
 minimalsBelow J cs (suc s) = minimalsBelow J cs s ++ onlyIf (minimal J cs s) s
 
-unfoldable pub roundsBelow : Judge → ℕ → ℕ
-roundsBelow J zero = 0
-roundsBelow J (suc s) = roundsBelow J s + J .rounds s
+abbrev pub roundsBelow : Judge → ℕ → ℕ
+roundsBelow J n = sum n (J .rounds)
+
+abbrev pub decidedBelow : Judge → ℕ → ℕ
+decidedBelow J n = sum n (J .decided)
 
 -- query q is true, and is false, under each of the settings
 unfoldable pub trueInAll : Judge → ℕ → List ℕ → Bool

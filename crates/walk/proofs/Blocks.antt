@@ -1,13 +1,15 @@
 -- The walk, 64 settings at a time: its start, a block and its end. In a block each lane has what its setting settles
 -- to; so the lanes that explain are those of the judge, the row tells which have a proper subset that explains, and the
--- block's rounds are summed. Assumes nothing.
+-- block's rounds and decided atoms are summed. Assumes nothing.
 use mathlib.Core.Path.{_≡_, refl, sym, ap, ap₂, subst, _∙_}
 use mathlib.Core.List.{List}
 use Prim.Native.Nat.{ℕ, _+_, _-_, _*_, _≤_, _<_, min}
 use native.Mathlib.Omega.{arith}
 use lib.ListN.{length, getD}
+use Rattle.words.specs.Below.{sum}
 use Rattle.words.specs.Bits.{has}
 use Rattle.words.specs.OneBit.{BitOf}
+use Rattle.words.proofs.Sums.{sum-ext, sum-append, sum-le}
 use Rattle.logic.specs.declared.interpretation.Interpretation.{Interpretation}
 use Rattle.logic.specs.Interpretation.{valueAt, Disjoint}
 use Rattle.program.specs.declared.case.Case.{Case}
@@ -20,8 +22,8 @@ use Rattle.settle.specs.Rounds.{settled}
 use Rattle.settle.proofs.Reached.{settled-good}
 use Rattle.planes.specs.Planes.{column, Planes}
 use Rattle.planes.specs.Fill.{Filled}
-use Rattle.lanes.specs.Rounds.{addsAt, sum, Settles}
-use Rattle.lanes.proofs.Sums.{sum-none, sum-more, sum-ext, sum-le}
+use Rattle.lanes.specs.declared.rounds.Sums.{Sums}
+use Rattle.lanes.specs.Rounds.{addsAt, Settles}
 use Rattle.explanation.specs.Explanation.{explainsUnder}
 use Rattle.explanation.specs.Judge.{Judge, judgeOf}
 use Rattle.explanation.specs.Covering.{Weights}
@@ -31,16 +33,21 @@ use Rattle.explanation.proofs.Explaining.{set-explains}
 use Rattle.explanation.proofs.Weighing.{weights-low}
 use Rattle.verdict.specs.declared.visit.Found.{Found}
 use Rattle.walk.specs.declared.walk.Tally.{Tally}
-use Rattle.verdict.specs.Walk.{roundsBelow}
 use Rattle.verdict.specs.Counting.{noCounts}
 use Rattle.verdict.specs.Lane.{queryUnder, Room, Seen}
 use Rattle.verdict.specs.Visited.{Visited}
-use Rattle.walk.specs.Walking.{Bounded, Walked}
-use Rattle.walk.proofs.Bounds.{settings-few, rounds-few, formula-fits}
+use Rattle.walk.specs.Walking.{Bounded, Summed, Walked}
+use Rattle.walk.proofs.Bounds.{settings-few, rounds-few, decided-few, formula-fits}
 use Rattle.verdict.proofs.Counting.{minimals-le, counted-none, counted-few}
 use Rattle.verdict.proofs.Asking.{askable-counted}
 use Rattle.verdict.proofs.Leaving.{left-start, work-kept, written-free}
-use Rattle.verdict.proofs.Rounds.{rounds-none, rounds-more, rounds-le}
+
+-- nothing is summed up yet, and two sums together
+abbrev pub noSums : Sums
+noSums = record { rounds = 0; decided = 0 }
+
+abbrev pub both : Sums → Sums → Sums
+both r d = record { rounds = r .rounds + d .rounds; decided = r .decided + d .decided }
 
 -- nothing is found for n queries yet
 abbrev pub noneFound : ℕ → Found
@@ -48,13 +55,13 @@ noneFound n = record { counts = noCounts n; written = 0 }
 
 -- the walk before setting s, whose bit is the first of word b of the row
 pub record Walking (c : Case) (cl co fo : List ℕ) (causes end : ℕ) (list₀ work₀ list work row : List ℕ) (f : Found)
-    (k : ℕ) (added : Additions) (b s : ℕ) : Type 0 where
+    (r : Sums) (added : Additions) (b s : ℕ) : Type 0 where
   pub place-is : 59072 + s ≡ 64 * b
   pub added-is : added ≡ additionsOf causes s
   pub size-is : length row ≡ 1848
   pub covered : CoveredRow (judgeOf c cl co fo .explains) (choicesFor (atomsIn causes)) (min s end) row
   pub visited : Visited (judgeOf c cl co fo) (choicesFor (atomsIn causes)) list₀ work₀ (min s end) f list work
-  pub rounds-are : k ≡ roundsBelow (judgeOf c cl co fo) (min s end)
+  pub summed : Summed (judgeOf c cl co fo) (min s end) r
 
 module _ {c : Case} {cl co fo : List ℕ} {causes end : ℕ} {work₀ : List ℕ}
     (g : Bounded c cl co fo causes end work₀) where
@@ -78,8 +85,9 @@ module _ {c : Case} {cl co fo : List ℕ} {causes end : ℕ} {work₀ : List ℕ
   start = omega arith
 
   pub walking-start : {list₀ : List ℕ} (row : List ℕ) → length row ≡ 1848
-      → Walking c cl co fo causes end list₀ work₀ list₀ work₀ row (noneFound (c .formulas)) 0
+      → Walking c cl co fo causes end list₀ work₀ list₀ work₀ row (noneFound (c .formulas)) noSums
       (record { facts = 0; assumptions = 0 }) 923 0
+  unfolding sum
   walking-start {list₀} row e = record {
     place-is = refl;
     added-is = additions-start causes;
@@ -87,20 +95,20 @@ module _ {c : Case} {cl co fo : List ℕ} {causes end : ℕ} {work₀ : List ℕ
     covered = λ s l. absurd (omega arith);
     visited = subst (λ (n : ℕ). Visited J cs list₀ work₀ n (noneFound (c .formulas)) list₀ work₀) start
         (record { counted = counted-none J cs; left = left-start J cs list₀ work₀ });
-    rounds-are = sym (rounds-none J) ∙ ap (roundsBelow J) start;
+    summed = subst (λ (n : ℕ). Summed J n noSums) start (record { rounds-are = refl; decided-are = refl });
   }
 
-  module _ {list₀ list work row : List ℕ} {f : Found} {k : ℕ} {added : Additions} {b s : ℕ}
-      (w : Walking c cl co fo causes end list₀ work₀ list work row f k added b s) where
+  module _ {list₀ list work row : List ℕ} {f : Found} {r : Sums} {added : Additions} {b s : ℕ}
+      (w : Walking c cl co fo causes end list₀ work₀ list work row f r added b s) where
     -- ---- the end
     pub walking-end : end ≤ s → Walked J (choicesFor (atomsIn (causesOf c cl))) list₀ work₀ end
-        (record { found = f; rounds = k }) list work
+        (record { found = f; sums = r }) list work
     walking-end l =
         let there : min s end ≡ end = omega arith in
-        let t : Tally = record { found = f; rounds = k } in
+        let t : Tally = record { found = f; sums = r } in
         subst (λ (i : ℕ). Walked J (choicesFor (atomsIn i)) list₀ work₀ end t list work) (g .causes-are) (record {
           visited = subst (λ (n : ℕ). Visited J cs list₀ work₀ n f list work) there (w .visited);
-          rounds-are = w .rounds-are ∙ ap (roundsBelow J) there;
+          summed = subst (λ (n : ℕ). Summed J n r) there (w .summed);
         })
 
     pub walking-work : length work ≡ length work₀
@@ -127,9 +135,9 @@ module _ {c : Case} {cl co fo : List ℕ} {causes end : ℕ} {work₀ : List ℕ
             (sound-each c cl co fo (g .is-sound));
       }
 
-      -- the first m lanes are those of settings, and total is the sum of their rounds
-      module _ {m total : ℕ} {t u : List ℕ} (em : m ≡ min 64 (end - s))
-          (v : Settles cl (c .clauses) (addsAt causes s) m t u total) where
+      -- the first m lanes are those of settings, and d has the sums over them
+      module _ {m : ℕ} {d : Sums} {t u : List ℕ} (em : m ≡ min 64 (end - s))
+          (v : Settles cl (c .clauses) (addsAt causes s) m t u d) where
         -- the case with what setting s + j adds, were i the causes
         abbrev program : ℕ → ℕ → List Clause
         program i j = programWith cl (c .clauses) (additionsOf i (s + j))
@@ -143,28 +151,39 @@ module _ {c : Case} {cl co fo : List ℕ} {causes end : ℕ} {work₀ : List ℕ
             subst (λ (i : Interpretation). Disjoint i) (sym (v .columns-are j q))
             (settled-good (programWith cl (c .clauses) (addsAt causes s j)) .disjoint)
 
-        total-is : total ≡ sum m (λ j. J .rounds (s + j))
-        total-is =
-            v .sum-is
+        rounds-block : d .rounds ≡ sum m (λ j. J .rounds (s + j))
+        rounds-block =
+            v .rounds-are
             ∙ sum-ext m (λ j. settled (program causes j) .rounds) (λ j. J .rounds (s + j))
             (λ j q. ap (λ (i : ℕ). settled (program i j) .rounds) (g .causes-are))
 
-        summed : (n : ℕ) → roundsBelow J s + sum n (λ j. J .rounds (s + j)) ≡ roundsBelow J (s + n)
-        summed =
-            rounds-more J s (λ n. sum n (λ j. J .rounds (s + j))) (sum-none _)
-            (λ j. sum-more j (λ i. J .rounds (s + i)))
+        decided-block : d .decided ≡ sum m (λ j. J .decided (s + j))
+        decided-block =
+            v .decided-are
+            ∙ sum-ext m (λ j. settled (program causes j) .decided) (λ j. J .decided (s + j))
+            (λ j q. ap (λ (i : ℕ). settled (program i j) .decided) (g .causes-are))
 
-        pub rounds-fit : k + total ≤ 8000000
-        rounds-fit =
-            let few = rounds-few c cl co fo (g .is-sound) in
-            omega (
-              arith,
-              end-few,
-              w .rounds-are,
-              rounds-le J 64 few (min s end),
-              total-is,
-              sum-le m 64 (λ j. J .rounds (s + j)) (λ j q. few (s + j)),
-            )
+        -- h is what is summed, k its sum over the settings before, and n that over the block
+        module _ (h : ℕ → ℕ) {k n : ℕ} (below : k ≡ sum (min s end) h) (block : n ≡ sum m (λ j. h (s + j))) where
+          sum-fits : ((i : ℕ) → h i ≤ 64) → k + n ≤ 8000000
+          sum-fits few =
+              omega (
+                arith,
+                end-few,
+                sum-le (min s end) 64 h (λ i q. few i),
+                sum-le m 64 (λ j. h (s + j)) (λ j q. few (s + j)),
+              )
+
+          sum-next : k + n ≡ sum (min (s + 64) end) h
+          sum-next =
+              let z : s + m ≡ min (s + 64) end = omega arith in
+              ap₂ _+_ (below ∙ ap (λ (i : ℕ). sum i h) here) block ∙ sum-append s m h ∙ ap (λ (i : ℕ). sum i h) z
+
+        pub rounds-fit : r .rounds + d .rounds ≤ 8000000
+        rounds-fit = sum-fits (J .rounds) (w .summed .rounds-are) rounds-block (rounds-few c cl co fo (g .is-sound))
+
+        pub decided-fit : r .decided + d .decided ≤ 8000000
+        decided-fit = sum-fits (J .decided) (w .summed .decided-are) decided-block (decided-few c cl co fo (g .is-sound))
 
         -- e has the lanes that explain, larger those of which a proper subset explains
         module _ {e larger : ℕ} {weights x y row₁ : List ℕ} (ew : Weights causes weights) (ex : Filled causes s x y)
@@ -200,7 +219,7 @@ module _ {c : Case} {cl co fo : List ℕ} {causes end : ℕ} {work₀ : List ℕ
               → next ≡ additionsOf causes (s + 64)
               → ((J : Judge) (cs ls ws : List ℕ) → Seen J cs (c .nodes) fo e larger t u m s
               → Visited J cs ls ws s f list work → Visited J cs ls ws (s + m) f₁ list₁ work₁)
-              → Walking c cl co fo causes end list₀ work₀ list₁ work₁ row₁ f₁ (k + total) next (b + 1) (s + 64)
+              → Walking c cl co fo causes end list₀ work₀ list₁ work₁ row₁ f₁ (both r d) next (b + 1) (s + 64)
           walking-next {next} {f₁} {list₁} {work₁} n step =
               let z : s + m ≡ min (s + 64) end = omega arith in
               record {
@@ -211,6 +230,8 @@ module _ {c : Case} {cl co fo : List ℕ} {causes end : ℕ} {work₀ : List ℕ
                     (el .covered (J .explains) s block);
                 visited = subst (λ (i : ℕ). Visited J cs list₀ work₀ i f₁ list₁ work₁) z
                     (step J cs list₀ work₀ seen standing);
-                rounds-are = ap₂ _+_ (w .rounds-are ∙ ap (roundsBelow J) here) total-is ∙ summed m
-                    ∙ ap (roundsBelow J) z;
+                summed = record {
+                  rounds-are = sum-next (J .rounds) (w .summed .rounds-are) rounds-block;
+                  decided-are = sum-next (J .decided) (w .summed .decided-are) decided-block;
+                };
               }

@@ -1,5 +1,5 @@
--- Bounds of a sound case: how many settings it has, how many rounds settling one takes, and how long its tables are.
--- Assumes nothing.
+-- Bounds of a sound case: how many settings it has, how many rounds settling one takes and atoms it decides, and how
+-- long its tables are. Assumes nothing.
 use mathlib.Core.Path.{_≡_}
 use mathlib.Core.Bool.{true}
 use mathlib.Core.List.{List}
@@ -16,7 +16,10 @@ use Rattle.program.specs.Sound.{sound}
 use Rattle.program.proofs.Causes.{causes-of-lt}
 use Rattle.program.proofs.Soundness.{full-clauses, full-constraints, full-formula, sound-full}
 use Rattle.program.proofs.Soundness.{sound-atoms, sound-clauses, sound-constraints, sound-few}
-use Rattle.settle.proofs.Theorems.{round-count-least}
+use Rattle.settle.specs.Rounds.{settled}
+use Rattle.settle.specs.Operation.{programOf}
+use Rattle.settle.proofs.Reached.{good-decided, settled-good}
+use Rattle.settle.proofs.Theorems.{round-count-least, decided-exact}
 use Rattle.explanation.specs.Judge.{judgeOf}
 use Rattle.explanation.proofs.Weighing.{settings-low}
 
@@ -31,6 +34,11 @@ module _ (c : Case) (cl co fo : List ℕ) (h : sound c cl co fo ≡ true) where
 
   pub rounds-few : (s : ℕ) → judgeOf c cl co fo .rounds s ≤ 64
   rounds-few s = omega (arith, round-count-least c cl co fo s h .at-most, sound-atoms c cl co fo h .1)
+
+  pub decided-few : (s : ℕ) → judgeOf c cl co fo .decided s ≤ 64
+  decided-few s =
+      let p = programOf c cl s in
+      omega (arith, decided-exact c cl co fo s h, good-decided (settled p .interpretation) (settled-good p))
 
   pub clauses-fit : (c .clauses ≤ 256) × (3 * c .clauses ≤ length cl)
   clauses-fit =

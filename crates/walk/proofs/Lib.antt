@@ -1,4 +1,5 @@
--- Bounds: how many settings a sound case has, how many rounds settling one takes, how long its tables are.
+-- Bounds: how many settings a sound case has, how many rounds settling one takes and atoms it decides, how long its
+-- tables are.
 -- Blocks: the walk, 64 settings at a time.
 pub mod Bounds
 pub mod Blocks

@@ -3,7 +3,8 @@
 --   AtHand ..     the case is sound, and its heads and causes are at hand
 --   Bounded ..    the case is sound, its causes and the number of its settings are at hand, and the work area is enough
 --   Tabled ..     the tables for settling, the weights of the causes and the opening's planes are at hand
---   Walked ..     what it has found and left, and the rounds of the settings below s
+--   Summed ..     the sums of what settling answers for the settings below s
+--   Walked ..     what it has found and left, and those sums
 use mathlib.Core.Path.{_≡_}
 use mathlib.Core.Bool.{true}
 use mathlib.Core.List.{List}
@@ -17,9 +18,10 @@ use Rattle.program.specs.Sound.{sound}
 use Rattle.prepared.specs.declared.opening.Opening.{Opening}
 use Rattle.prepared.specs.Prepared as prepared
 use Rattle.planes.specs.Fill.{Even}
+use Rattle.lanes.specs.declared.rounds.Sums.{Sums}
 use Rattle.explanation.specs.Judge.{Judge}
 use Rattle.explanation.specs.Covering.{Weights}
-use Rattle.verdict.specs.Walk.{roundsBelow}
+use Rattle.verdict.specs.Walk.{roundsBelow, decidedBelow}
 use Rattle.verdict.specs.Visited.{Visited}
 use Rattle.walk.specs.declared.walk.Tally.{Tally}
 
@@ -43,6 +45,10 @@ pub record Tabled (c : Case) (cl : List ℕ) (causes : ℕ) (o : Opening) (depen
   pub falses-even : Even (o .falses) of
   pub heads-even : Even (o .heads) oh
 
+pub record Summed (J : Judge) (s : ℕ) (r : Sums) : Type 0 where
+  pub rounds-are : r .rounds ≡ roundsBelow J s
+  pub decided-are : r .decided ≡ decidedBelow J s
+
 pub record Walked (J : Judge) (cs list₀ work₀ : List ℕ) (s : ℕ) (t : Tally) (list work : List ℕ) : Type 0 where
   pub visited : Visited J cs list₀ work₀ s (t .found) list work
-  pub rounds-are : t .rounds ≡ roundsBelow J s
+  pub summed : Summed J s (t .sums)

@@ -9,6 +9,7 @@ ghost use Rattle.walk.specs.Walking.{AtHand, Bounded, Tabled, Walked};
 use explanation::cover::cover;
 use explanation::explain::explaining;
 use explanation::weights::weigh;
+use lanes::rounds::Sums;
 use lanes::rounds::lanes_of;
 use lanes::rounds::run;
 use planes::fill::broadcast;
@@ -20,10 +21,11 @@ use verdict::counts::Counts;
 use verdict::visit::Found;
 use verdict::visit::visit;
 
-// What a walk leaves: what it found setting by setting, and the rounds, which are summed 64 settings at a time.
+// What a walk leaves: what it found setting by setting, and the rounds and decided atoms, which are summed 64 settings at
+// a time.
 pub struct Tally {
     pub found: Found,
-    pub rounds: u64,
+    pub sums: Sums,
 }
 
 // Visits the settings below end in rising order, 64 at a time. ot, of and oh are the planes of the opening; the row
@@ -59,7 +61,10 @@ fn visit_all(
         counts: Counts::none(c.formulas),
         written: 0,
     };
-    let mut rounds: u64 = 0;
+    let mut sums = Sums {
+        rounds: 0,
+        decided: 0,
+    };
     let mut added = Additions {
         facts: 0,
         assumptions: 0,
@@ -73,7 +78,7 @@ fn visit_all(
         let mut f = [0u64; 64];
         let next = fill(causes, added, &mut x, &mut y);
         let m = lanes_of(end - s);
-        let sum = run(
+        let block = run(
             clauses,
             c.clauses,
             opening,
@@ -91,7 +96,9 @@ fn visit_all(
             &mut t,
             &mut f,
         );
-        rounds = rounds + sum;
+        let rounds = sums.rounds + block.rounds;
+        let decided = sums.decided + block.decided;
+        sums = Sums { rounds, decided };
         let e = explaining(c, constraints, &t, &f);
         let larger = cover(row, b, e, causes, weights, &x, &y);
         found = visit(&nodes, formula, e, larger, &t, &f, m, s, found, list, work);
@@ -99,7 +106,7 @@ fn visit_all(
         b += 1;
         s += 64;
     }
-    Tally { found, rounds }
+    Tally { found, sums }
 }
 
 // Walks over the settings below end, with the tables for settling prepared once.

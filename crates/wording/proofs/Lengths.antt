@@ -9,7 +9,9 @@ use Rattle.program.specs.Setting.{digitsOf}
 use Rattle.output.proofs.Decimals.{decimal-length, decimal-short}
 use Rattle.output.proofs.FormTexts.{spaced-nil, spaced-more, spaced-one, spaced-two, form-length, line-length}
 use Rattle.output.specs.Forms.{spaced}
-use Rattle.wording.specs.Text.{linesOf, verdictWord, verdictLine, verdictLines, roundsLine, minimalLine}
+use Rattle.wording.specs.declared.Totals.{Totals}
+use Rattle.wording.specs.Text.{linesOf, verdictWord, verdictLine, verdictLines, roundsLine, decidedLine}
+use Rattle.wording.specs.Text.{minimalLine}
 use Rattle.wording.specs.Text.{withAbducible, abducibles, causeLine, causeLines, answerText, refusalText}
 
 -- Lines
@@ -34,6 +36,10 @@ rounds-line-length : (n : ℕ) → n < 10 ^ 7 → length (roundsLine n) ≤ 17
 unfolding roundsLine
 rounds-line-length n h = rw (line-length, spaced-one) (omega (arith, decimal-short 6 n h))
 
+decided-line-length : (n : ℕ) → n < 10 ^ 7 → length (decidedLine n) ≤ 18
+unfolding decidedLine
+decided-line-length n h = rw (line-length, spaced-one) (omega (arith, decimal-short 6 n h))
+
 minimal-line-length : (m w : ℕ) → m < 10 ^ 5 → w < 10 ^ 4 → length (minimalLine m w) ≤ 21
 unfolding minimalLine
 minimal-line-length m w h k =
@@ -42,6 +48,12 @@ minimal-line-length m w h k =
 pub refusal-length : (n k : ℕ) → length (refusalText n k) ≤ 52
 unfolding refusalText
 refusal-length n k = rw (line-length, spaced-two) (omega (arith, decimal-length n, decimal-length k))
+
+-- the numbers t have at most 7, 7 and 5 digits
+pub record Short (t : Totals) : Type 0 where
+  pub rounds-short : t .rounds < 10 ^ 7
+  pub decided-short : t .decided < 10 ^ 7
+  pub minimal-short : t .minimal < 10 ^ 5
 
 -- Settings, with names of at most 16 bytes
 
@@ -64,17 +76,21 @@ module _ (name : ℕ → List ℕ) (short : (a : ℕ) → length (name a) ≤ 16
     unfolding causeLine
     cause-line-length s = rw line-length (omega (arith, abducibles-length (atomsIn w) (digitsOf w s)))
 
-    pub answer-length : (vs : List ℕ) (n m : ℕ) (l : List ℕ) → length vs ≤ 16 → n < 10 ^ 7 → m < 10 ^ 5
-        → length l ≤ 1024 → length (answerText name w vs n m l) ≤ 264582
+    pub answer-length : (vs : List ℕ) (t : Totals) (l : List ℕ) → length vs ≤ 16 → Short t → length l ≤ 1024
+        → length (answerText name w vs t l) ≤ 264600
     unfolding answerText
-    answer-length vs n m l g h k f =
+    answer-length vs t l g s f =
+        let minimals = minimalLine (t .minimal) (length l) in
+        let causes = causeLines name w l in
         omega (
           arith,
-          length-append (verdictLines vs) (roundsLine n ++ (minimalLine m (length l) ++ causeLines name w l)),
-          length-append (roundsLine n) (minimalLine m (length l) ++ causeLines name w l),
-          length-append (minimalLine m (length l)) (causeLines name w l),
+          length-append (verdictLines vs) (roundsLine (t .rounds) ++ (decidedLine (t .decided) ++ (minimals ++ causes))),
+          length-append (roundsLine (t .rounds)) (decidedLine (t .decided) ++ (minimals ++ causes)),
+          length-append (decidedLine (t .decided)) (minimals ++ causes),
+          length-append minimals causes,
           lines-length verdictLine 22 verdict-line-length vs,
-          rounds-line-length n h,
-          minimal-line-length m (length l) k (omega arith),
+          rounds-line-length (t .rounds) (s .rounds-short),
+          decided-line-length (t .decided) (s .decided-short),
+          minimal-line-length (t .minimal) (length l) (s .minimal-short) (omega arith),
           lines-length (causeLine name w) 258 cause-line-length l,
         )

@@ -7,7 +7,7 @@ use Rattle.program.specs.Setting.{digitsOf}
 use Rattle.text.specs.Bytes.{bytes}
 use Rattle.output.specs.Decimal.{decimal}
 use Rattle.output.specs.Forms.{spaced, form}
-use Rattle.wording.specs.Text.{verdictWord, verdictLine, roundsLine, minimalLine, refusalText}
+use Rattle.wording.specs.Text.{verdictWord, verdictLine, roundsLine, decidedLine, minimalLine, refusalText}
 use Rattle.wording.specs.Text.{withAbducible, abducibles, causeLine}
 use Rattle.output.proofs.FormTexts.{lineEnd, line-parts, line-one, line-two}
 use Rattle.output.proofs.FormTexts.{spaced-nil, spaced-cons, spaced-form}
@@ -17,6 +17,9 @@ verdictOpening = bytes "(verdict "
 
 abbrev pub roundsOpening : List ℕ
 roundsOpening = bytes "(rounds "
+
+abbrev pub decidedOpening : List ℕ
+decidedOpening = bytes "(decided "
 
 abbrev pub minimalOpening : List ℕ
 minimalOpening = bytes "(minimal "
@@ -33,7 +36,10 @@ factOpening = bytes " (true "
 abbrev pub assumptionOpening : List ℕ
 assumptionOpening = bytes " (false "
 
--- two numbers behind an opening
+-- one number, and two, behind an opening
+abbrev pub numberText : List ℕ → ℕ → List ℕ
+numberText opening n = opening ++ (decimal n ++ lineEnd)
+
 abbrev pub pairText : List ℕ → ℕ → ℕ → List ℕ
 pairText opening x y = opening ++ (decimal x ++ (bytes " " ++ (decimal y ++ lineEnd)))
 
@@ -47,9 +53,13 @@ open-word (suc zero) p q r = absurd (q refl)
 open-word (suc (suc zero)) p q r = absurd (r refl)
 open-word (suc (suc (suc v))) p q r = refl
 
-pub rounds-text : (n : ℕ) → roundsLine n ≡ roundsOpening ++ (decimal n ++ lineEnd)
+pub rounds-text : (n : ℕ) → roundsLine n ≡ numberText roundsOpening n
 unfolding roundsLine
 rounds-text n = line-one (bytes "rounds") (decimal n)
+
+pub decided-text : (n : ℕ) → decidedLine n ≡ numberText decidedOpening n
+unfolding decidedLine
+decided-text n = line-one (bytes "decided") (decimal n)
 
 pub minimal-text : (m w : ℕ) → minimalLine m w ≡ pairText minimalOpening m w
 unfolding minimalLine

@@ -14,10 +14,10 @@ use Rattle.output.specs.Writing.{Writes, textLimit, Room}
 use Rattle.output.proofs.Decimals.{decimal-length}
 use Rattle.output.proofs.FormTexts.{lineEnd}
 use Rattle.output.proofs.Laying.{writes-append}
-use Rattle.wording.specs.Text.{verdictWord, verdictLine, roundsLine, withAbducible, abducibles, causeLine}
+use Rattle.wording.specs.Text.{verdictWord, verdictLine, withAbducible, abducibles, causeLine}
 use Rattle.wording.specs.Text.{refusalText}
-use Rattle.wording.proofs.LineTexts.{verdictOpening, roundsOpening, refusedOpening, causeOpening, factOpening}
-use Rattle.wording.proofs.LineTexts.{assumptionOpening, pairText, verdict-text, open-word, rounds-text}
+use Rattle.wording.proofs.LineTexts.{verdictOpening, refusedOpening, causeOpening, factOpening}
+use Rattle.wording.proofs.LineTexts.{assumptionOpening, numberText, pairText, verdict-text, open-word}
 use Rattle.wording.proofs.LineTexts.{refusal-text, cause-text, fact-text, assumption-text}
 
 -- three pieces
@@ -29,9 +29,9 @@ module _ {out out₁ out₂ out₃ : List ℕ} {at i j r : ℕ} where
       → Writes (s ++ (t ++ u)) out at r out₃
   pieces-written a b c = writes-append a (writes-append b c)
 
-  pub rounds-written : (n : ℕ) → Writes roundsOpening out at i out₁ → Writes (decimal n) out₁ i j out₂
-      → Writes lineEnd out₂ j r out₃ → Writes (roundsLine n) out at r out₃
-  rounds-written n a b c = rw rounds-text (pieces-written a b c)
+  pub number-written : (opening : List ℕ) (n : ℕ) → Writes opening out at i out₁ → Writes (decimal n) out₁ i j out₂
+      → Writes lineEnd out₂ j r out₃ → Writes (numberText opening n) out at r out₃
+  number-written opening n a b c = pieces-written a b c
 
   pub cause-written : (name : ℕ → List ℕ) (w s : ℕ) → Writes causeOpening out at i out₁
       → Writes (spaced (abducibles name (atomsIn w) (digitsOf w s))) out₁ i j out₂ → Writes lineEnd out₂ j r out₃
@@ -42,8 +42,9 @@ module _ {out out₁ out₂ out₃ : List ℕ} {at i j r : ℕ} where
       → Writes (bytes ")") out₂ j r out₃ → Writes (opening ++ (w ++ bytes ")")) out at r out₃
   form-written opening w a b c = pieces-written a b c
 
-pub rounds-room : (n : ℕ) {at : ℕ} → Room (roundsLine n) at → at + (10 + length (decimal n)) ≤ textLimit
-rounds-room n h = omega (arith, pieces-room roundsOpening (decimal n) lineEnd (rw rounds-text at h))
+pub number-room : (opening : List ℕ) (n : ℕ) {at : ℕ} → Room (numberText opening n) at
+    → at + (length opening + length (decimal n) + 2) ≤ textLimit
+number-room opening n h = pieces-room opening (decimal n) lineEnd h
 
 pub cause-room : (name : ℕ → List ℕ) (w s : ℕ) {at : ℕ} → Room (causeLine name w s) at
     → at + (8 + length (spaced (abducibles name (atomsIn w) (digitsOf w s)))) ≤ textLimit

@@ -10,10 +10,12 @@ use lib.Seq.{drop-cons}
 use Rattle.output.specs.Decimal.{decimal}
 use Rattle.output.specs.Writing.{Writes, textLimit, Room}
 use Rattle.output.proofs.Laying.{writes-append}
-use Rattle.wording.specs.Text.{linesOf, verdictLine, verdictLines, roundsLine, minimalLine, causeLines}
-use Rattle.wording.specs.Text.{answerText}
+use Rattle.wording.specs.Text.{linesOf, verdictLine, verdictLines, roundsLine, decidedLine, minimalLine}
+use Rattle.wording.specs.declared.Totals.{Totals}
+use Rattle.wording.specs.Text.{causeLines, answerText}
 use Rattle.wording.proofs.Progress.{Underway, underway-start, underway-room, underway-more, underway-end}
-use Rattle.wording.proofs.LineTexts.{pairText, minimalOpening, minimal-text}
+use Rattle.wording.proofs.LineTexts.{numberText, pairText, roundsOpening, decidedOpening, minimalOpening}
+use Rattle.wording.proofs.LineTexts.{rounds-text, decided-text, minimal-text}
 
 module _ (f : ℕ → List ℕ) (list : List ℕ) (k : ℕ) where
   lines-more : k < length list → linesOf f (drop k list) ≡ f (getD list k 0) ++ linesOf f (drop (k + 1) list)
@@ -56,27 +58,40 @@ pub minimal-ends : (x y : ℕ) {at r : ℕ} {out u : List ℕ} → Writes (pairT
     → r ≡ at + (length (decimal x) + length (decimal y) + 12)
 minimal-ends x y h = omega (arith, simp length-append at (h .place-is))
 
--- an answer that lists the settings of a list
-module _ (name : ℕ → List ℕ) (w : ℕ) (vs : List ℕ) (r m : ℕ) (list : List ℕ) where
-  answer-text : answerText name w vs r m list
-      ≡ verdictLines vs ++ (roundsLine r ++ (pairText minimalOpening m (length list) ++ causeLines name w list))
-  unfolding answerText
-  answer-text = rw minimal-text
+-- where the line of the number n ends
+pub number-ends : (opening : List ℕ) (n : ℕ) {at r : ℕ} {out u : List ℕ} → Writes (numberText opening n) out at r u
+    → r ≡ at + (length opening + length (decimal n) + 2)
+number-ends opening n h = omega (arith, simp length-append at (h .place-is))
 
-  pub answer-room : {at : ℕ} → Room (answerText name w vs r m list) at
-      → at + (length (verdictLines vs) + length (roundsLine r) + length (decimal m) + length (decimal (length list))
-      + 12 + length (causeLines name w list)) ≤ textLimit
+-- an answer that lists the settings of a list
+module _ (name : ℕ → List ℕ) (w : ℕ) (vs : List ℕ) (t : Totals) (list : List ℕ) where
+  answer-text : answerText name w vs t list
+      ≡ verdictLines vs
+      ++ (numberText roundsOpening (t .rounds)
+      ++ (numberText decidedOpening (t .decided)
+      ++ (pairText minimalOpening (t .minimal) (length list) ++ causeLines name w list)))
+  unfolding answerText
+  answer-text = rw (rounds-text, decided-text, minimal-text)
+
+  pub answer-room : {at : ℕ} → Room (answerText name w vs t list) at
+      → at + (length (verdictLines vs) + length (decimal (t .rounds)) + 10 + length (decimal (t .decided)) + 11
+      + length (decimal (t .minimal)) + length (decimal (length list)) + 12 + length (causeLines name w list))
+      ≤ textLimit
   answer-room h = omega (arith, simp length-append at (rw answer-text at (h .fits)))
 
-  pub answer-written : {out out₁ out₂ out₃ out₄ : List ℕ} {at i j k e : ℕ} → Writes (verdictLines vs) out at i out₁
-      → Writes (roundsLine r) out₁ i j out₂ → Writes (pairText minimalOpening m (length list)) out₂ j k out₃
-      → Writes (causeLines name w list) out₃ k e out₄ → Writes (answerText name w vs r m list) out at e out₄
-  answer-written first second third lines =
-      rw answer-text (writes-append first (writes-append second (writes-append third lines)))
+  pub answer-written : {out out₁ out₂ out₃ out₄ out₅ : List ℕ} {at i j k n e : ℕ}
+      → Writes (verdictLines vs) out at i out₁ → Writes (numberText roundsOpening (t .rounds)) out₁ i j out₂
+      → Writes (numberText decidedOpening (t .decided)) out₂ j k out₃
+      → Writes (pairText minimalOpening (t .minimal) (length list)) out₃ k n out₄
+      → Writes (causeLines name w list) out₄ n e out₅ → Writes (answerText name w vs t list) out at e out₅
+  answer-written first second third fourth lines =
+      rw answer-text (writes-append first (writes-append second (writes-append third (writes-append fourth lines))))
 
 -- an answer on one query
-pub answer-one : (name : ℕ → List ℕ) (w v n m : ℕ) (l : List ℕ)
-    → answerText name w (v ∷ []) n m l
-    ≡ verdictLine v ++ (roundsLine n ++ (minimalLine m (length l) ++ causeLines name w l))
+pub answer-one : (name : ℕ → List ℕ) (w v : ℕ) (t : Totals) (l : List ℕ)
+    → answerText name w (v ∷ []) t l
+    ≡ verdictLine v
+    ++ (roundsLine (t .rounds)
+    ++ (decidedLine (t .decided) ++ (minimalLine (t .minimal) (length l) ++ causeLines name w l)))
 unfolding answerText linesOf
-answer-one name w v n m l = rw append-nil
+answer-one name w v t l = rw append-nil

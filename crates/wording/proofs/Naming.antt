@@ -11,6 +11,7 @@ use Rattle.program.proofs.Atoms.{atoms-below}
 use Rattle.text.specs.Bytes.{bytes}
 use Rattle.output.specs.Forms.{spaced}
 use Rattle.output.proofs.FormTexts.{spaced-nil, spaced-parts}
+use Rattle.wording.specs.declared.Totals.{Totals}
 use Rattle.wording.specs.Text.{linesOf, withAbducible, abducibles, causeLine, answerText}
 
 -- ---- lines that agree for the entries of a list
@@ -46,7 +47,7 @@ module _ (f g : ℕ → List ℕ) (agree : (a : ℕ) → a < 64 → f a ≡ g a)
   unfolding causeLine
   cause-line-alike w s = rw (abducibles-alike (atomsIn w) (digitsOf w s) (atoms-below w))
 
-  pub answer-alike : (w : ℕ) (vs : List ℕ) (n m : ℕ) (l : List ℕ) → answerText f w vs n m l ≡ answerText g w vs n m l
+  pub answer-alike : (w : ℕ) (vs : List ℕ) (t : Totals) (l : List ℕ) → answerText f w vs t l ≡ answerText g w vs t l
   unfolding answerText
-  answer-alike w vs n m l =
+  answer-alike w vs t l =
       rw (lines-alike (causeLine f w) (causeLine g w) l (λ i k. cause-line-alike w (getD l i 0)))

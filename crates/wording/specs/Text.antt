@@ -1,5 +1,5 @@
 -- The text of an answer, and of a refusal.
--- From: document 01, "The program `causes`".
+-- From: document 01, "The program `causes`"; document 02, [6] ("a line `(decided total)` after the rounds").
 --
 --   linesOf f l                 the lines that f gives for the numbers l, one behind another
 --   verdictWord v               the word of the verdict with the number v
@@ -7,7 +7,8 @@
 --   abducibles name l ds        (true N) or (false N) for each cause of l whose digit in ds isn't 0, in atom order
 --   causeLine name w s          the line of setting s of the causes w
 --   causeLines name w l         the lines of the settings l
---   answerText name w vs n m l  verdicts vs, rounds n, m minimal explanations, of which the settings l are listed
+--   answerText name w vs t l    verdicts vs, rounds, decided atoms and minimal explanations t, of which the settings l
+--                               are listed
 --   refusalText n k             the refusal with the number n at line k
 use mathlib.Core.List.{List, [], _∷_, _++_}
 use Prim.Native.Nat.{ℕ, zero, suc}
@@ -17,6 +18,7 @@ use Rattle.program.specs.Setting.{digitsOf}
 use Rattle.text.specs.Bytes.{bytes}
 use Rattle.output.specs.Decimal.{decimal}
 use Rattle.output.specs.Forms.{form, line}
+use Rattle.wording.specs.declared.Totals.{Totals}
 
 unfoldable pub linesOf : (ℕ → List ℕ) → List ℕ → List ℕ
 linesOf f [] = []
@@ -39,6 +41,10 @@ verdictLines vs = linesOf verdictLine vs
 -- "(rounds n)"
 unfoldable pub roundsLine : ℕ → List ℕ
 roundsLine n = line (bytes "rounds") (decimal n ∷ [])
+
+-- "(decided n)"
+unfoldable pub decidedLine : ℕ → List ℕ
+decidedLine n = line (bytes "decided") (decimal n ∷ [])
 
 -- "(minimal m w)"
 unfoldable pub minimalLine : ℕ → ℕ → List ℕ
@@ -63,8 +69,11 @@ causeLine name w s = line (bytes "cause") (abducibles name (atomsIn w) (digitsOf
 abbrev pub causeLines : (ℕ → List ℕ) → ℕ → List ℕ → List ℕ
 causeLines name w l = linesOf (causeLine name w) l
 
-unfoldable pub answerText : (ℕ → List ℕ) → ℕ → List ℕ → ℕ → ℕ → List ℕ → List ℕ
-answerText name w vs n m l = verdictLines vs ++ (roundsLine n ++ (minimalLine m (length l) ++ causeLines name w l))
+unfoldable pub answerText : (ℕ → List ℕ) → ℕ → List ℕ → Totals → List ℕ → List ℕ
+answerText name w vs t l =
+    verdictLines vs
+    ++ (roundsLine (t .rounds)
+    ++ (decidedLine (t .decided) ++ (minimalLine (t .minimal) (length l) ++ causeLines name w l)))
 
 -- "(refused n k)"
 unfoldable pub refusalText : ℕ → ℕ → List ℕ

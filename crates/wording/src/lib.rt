@@ -10,12 +10,20 @@ ghost use Rattle.names.specs.Row.{nameIn};
 ghost use Rattle.output.specs.Decimal.{decimal};
 ghost use Rattle.output.specs.Forms.{spaced};
 ghost use Rattle.wording.specs.Text.{withAbducible, abducibles, causeLine, causeLines};
-ghost use Rattle.wording.specs.Text.{verdictLine, verdictLines, roundsLine, answerText, refusalText};
+ghost use Rattle.wording.specs.Text.{verdictLine, verdictLines, answerText, refusalText};
 ghost use Rattle.output.specs.Writing.{Writes, Room};
 use output::put;
 use output::put_decimal;
 use output::put_name;
 use output::put_text;
+
+// The numbers of an answer that its text shows: the rounds and the decided atoms over all settings, and the minimal
+// explanations.
+pub struct Totals {
+    pub rounds: u64,
+    pub decided: u64,
+    pub minimal: u64,
+}
 
 // Writes the line of the verdict with the number v.
 fn verdict_line(out: &mut [u8], at: usize, v: u64) -> usize
@@ -44,17 +52,18 @@ fn verdict_lines(out: &mut [u8], at: usize, verdicts: &[u64]) -> usize
     place
 }
 
-// Writes the line of the rounds.
-fn rounds_line(out: &mut [u8], at: usize, n: u64) -> usize
-    requires { ⌜ Room (roundsLine n) at ⌝ }
-    ensures { λ r. ⌜ Writes (roundsLine n) (now (out .entry)) at r (now (out .exit)) ⌝ }
+// Writes a line with one number behind its opening: a bracket, a word and a space.
+fn number_line(out: &mut [u8], at: usize, opening: &[u8], n: u64) -> usize
+    requires { ⌜ Room (now opening ++ (decimal n ++ bytes ")\n")) at ⌝ }
+    ensures { λ r. ⌜ Writes (now (opening .entry) ++ (decimal n ++ bytes ")\n")) (now (out .entry)) at r
+        (now (out .exit)) ⌝ }
 {
-    let number = put_text(out, at, b"(rounds ");
+    let number = put_text(out, at, opening);
     let end = put_decimal(out, number, n);
     put_text(out, end, b")\n")
 }
 
-// Writes a line with two numbers behind its opening: a bracket, a word and a space.
+// Writes a line with two numbers behind its opening.
 fn pair_line(out: &mut [u8], at: usize, opening: &[u8], x: u64, y: u64) -> usize
     requires { ⌜ Room (now opening ++ (decimal x ++ (bytes " " ++ (decimal y ++ bytes ")\n")))) at ⌝ }
     ensures { λ r. ⌜ Writes (now (opening .entry) ++ (decimal x ++ (bytes " " ++ (decimal y ++ bytes ")\n"))))
@@ -144,27 +153,27 @@ fn cause_lines(out: &mut [u8], at: usize, names: &[u8], causes: u64, list: &[u16
     place
 }
 
-// Writes the text of an answer from the output's first byte on: verdicts, rounds, how many minimal explanations there
-// are, and the settings listed. Answers the text's length.
+// Writes the text of an answer from the output's first byte on: verdicts, rounds, decided atoms, how many minimal
+// explanations there are, and the settings listed. Answers the text's length.
 pub fn answer_text(
     out: &mut [u8],
     verdicts: &[u64],
-    rounds: u64,
-    minimal: u64,
+    totals: Totals,
     names: &[u8],
     causes: u64,
     list: &[u16],
 ) -> usize
     requires { ⌜ (nameSize ≤ length (now names))
-        × Room (answerText (nameIn (now names)) causes (now verdicts) rounds minimal (now list)) 0 ⌝ }
-    ensures { λ r. ⌜ Writes (answerText (nameIn (now (names .entry))) causes (now (verdicts .entry)) rounds minimal
+        × Room (answerText (nameIn (now names)) causes (now verdicts) totals (now list)) 0 ⌝ }
+    ensures { λ r. ⌜ Writes (answerText (nameIn (now (names .entry))) causes (now (verdicts .entry)) totals
         (now (list .entry)))
         (now (out .entry)) 0 r (now (out .exit)) ⌝ }
 {
     let second = verdict_lines(out, 0, verdicts);
-    let third = rounds_line(out, second, rounds);
-    let fourth = pair_line(out, third, b"(minimal ", minimal, list.len() as u64);
-    cause_lines(out, fourth, names, causes, list)
+    let third = number_line(out, second, b"(rounds ", totals.rounds);
+    let fourth = number_line(out, third, b"(decided ", totals.decided);
+    let fifth = pair_line(out, fourth, b"(minimal ", totals.minimal, list.len() as u64);
+    cause_lines(out, fifth, names, causes, list)
 }
 
 // Writes the text of a refusal from the output's first byte on. Answers the text's length.

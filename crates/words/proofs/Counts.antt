@@ -7,12 +7,14 @@ use native.Mathlib.Nat.{pow-suc, eq-or-lt-of-le}
 use native.Mathlib.Omega.{arith}
 use lib.Arith.{lt-one}
 use lib.Bits.{bitOr}
-use lib.Count.{ones, ones-step, ones-le}
+use lib.Count.{ones, ones-step}
 use lib.Dec.{eqb}
 use borrow.Author.Tests.{eqb-true, eq-eqb}
-use Rattle.words.specs.Bits.{odd, has}
+use Rattle.words.specs.Below.{sum}
+use Rattle.words.specs.Bits.{odd, has, digit}
 use Rattle.words.proofs.Bits.{has-low, has-half}
-use Rattle.words.proofs.Words.{has-or-one, or-one-lt}
+use Rattle.words.proofs.Words.{digit-le, has-or-one, or-one-lt}
+use Rattle.words.proofs.Sums.{sum-ext, sum-add, sum-le, ones-sum}
 
 -- each bit of a is one of b
 abbrev pub Within : ℕ → ℕ → ℕ → Type 0
@@ -56,23 +58,21 @@ ones-more k w a h l n =
     here : has (bitOr w (2 ^ a)) a ≡ true
     here = has-or-one w a a ∙ ap (λ (t : Bool). has w a || t) (eq-eqb a a refl) ∙ or-true (has w a)
 
-low-apart : (a b : ℕ) → (odd a && odd b) ≡ false → a % 2 + b % 2 ≤ 1
-low-apart a b e = go (a % 2) (b % 2) refl refl
+-- two words with no bit in common: both counts are that of the bits of either
+pub ones-joined : (k a b : ℕ) → a < 2 ^ k → b < 2 ^ k → ((i : ℕ) → i < k → (has a i && has b i) ≡ false)
+    → ones a + ones b ≡ sum k (λ i. digit (has a i || has b i))
+ones-joined k a b h l s =
+    ap₂ _+_ (ones-sum k a h) (ones-sum k b l)
+    ∙ sum-add k (λ i. digit (has a i)) (λ i. digit (has b i))
+    ∙ sum-ext k _ (λ i. digit (has a i || has b i)) (λ i m. digit-or (has a i) (has b i) (s i m))
   where
-    go : (m n : ℕ) → a % 2 ≡ m → b % 2 ≡ n → a % 2 + b % 2 ≤ 1
-    go zero n p q = omega arith
-    go (suc m) zero p q = omega arith
-    go (suc m) (suc n) p q =
-        absurd (true≢false
-        (sym (ap₂ _&&_ (eq-eqb (a % 2) 1 (omega arith)) (eq-eqb (b % 2) 1 (omega arith))) ∙ e))
+    digit-or : (x y : Bool) → (x && y) ≡ false → digit x + digit y ≡ digit (x || y)
+    digit-or true true e = absurd (true≢false e)
+    digit-or true false e = refl
+    digit-or false y e = omega arith
 
--- two words with no bit in common have at most k bits together
 pub ones-apart : (k a b : ℕ) → a < 2 ^ k → b < 2 ^ k → ((i : ℕ) → i < k → (has a i && has b i) ≡ false)
     → ones a + ones b ≤ k
-ones-apart zero a b h l s = omega (arith, ones-le 0 a h, ones-le 0 b l)
-ones-apart (suc k) a b h l s =
-    let p : 2 ^ suc k ≡ 2 ^ k * 2 = pow-suc 2 k in
-    let r = ones-apart k (a / 2) (b / 2) (omega arith) (omega arith)
-    (λ i m. ap₂ _&&_ (sym (has-half a i)) (sym (has-half b i)) ∙ s (suc i) (omega arith)) in
-    let q : a % 2 + b % 2 ≤ 1 = low-apart a b (ap₂ _&&_ (sym (has-low a)) (sym (has-low b)) ∙ s 0 (omega arith)) in
-    omega (arith, ones-step a, ones-step b)
+ones-apart k a b h l s =
+    let each = sum-le k 1 (λ i. digit (has a i || has b i)) (λ i m. digit-le (has a i || has b i)) in
+    omega (arith, ones-joined k a b h l s, each)

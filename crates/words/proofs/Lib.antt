@@ -5,6 +5,7 @@
 -- Words: a number as the word of its bits.
 -- BitWalks: a word without one of its bits, and what a walk over the bits goes by.
 -- LowestBit: a word and the number one less.
+-- Sums: sums over numbers, and the count of a word's bits as one.
 -- Counts: how the count of ones grows with the word.
 -- Lists: a list by its entries.
 pub mod Tests
@@ -14,5 +15,6 @@ pub mod Bits
 pub mod Words
 pub mod BitWalks
 pub mod LowestBit
+pub mod Sums
 pub mod Counts
 pub mod Lists

@@ -21,9 +21,9 @@ digit-low : (x : ℕ) (b : Bool) → odd (x * 2 + digit b) ≡ b
 digit-low x true = eq-eqb ((x * 2 + 1) % 2) 1 (omega arith)
 digit-low x false = ne-eqb ((x * 2 + 0) % 2) 1 (omega arith)
 
-digit-lt : (b : Bool) → digit b < 2
-digit-lt true = omega arith
-digit-lt false = omega arith
+pub digit-le : (b : Bool) → digit b ≤ 1
+digit-le true = omega arith
+digit-le false = omega arith
 
 -- ---- the word of k bits
 pub word-lt : (k : ℕ) (p : ℕ → Bool) → word k p < 2 ^ k
@@ -32,7 +32,7 @@ word-lt zero p = omega arith
 word-lt (suc k) p =
     let e : 2 ^ suc k ≡ 2 ^ k * 2 = pow-suc 2 k in
     let q = word-lt k (λ i. p (suc i)) in
-    let d = digit-lt (p 0) in
+    let d = digit-le (p 0) in
     omega arith
 
 pub has-word : (k : ℕ) (p : ℕ → Bool) (i : ℕ) → i < k → has (word k p) i ≡ p i
@@ -40,7 +40,7 @@ unfolding word
 has-word zero p i l = absurd (not-suc-le-zero l)
 has-word (suc k) p zero l = has-low _ ∙ digit-low (word k (λ i. p (suc i))) (p 0)
 has-word (suc k) p (suc i) l =
-    let d = digit-lt (p 0) in
+    let d = digit-le (p 0) in
     let q : (word k (λ i. p (suc i)) * 2 + digit (p 0)) / 2 ≡ word k (λ i. p (suc i)) = omega arith in
     has-half _ i ∙ ap (λ (x : ℕ). has x i) q ∙ has-word k (λ i. p (suc i)) i (le-of-suc-le-suc l)
 

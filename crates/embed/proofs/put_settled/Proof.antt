@@ -1,10 +1,13 @@
--- `embed::put_settled` meets its contract: the three words are those of the answer. Assumes nothing.
+-- `embed::put_settled` meets its contract: the four words are those of the answer. Assumes nothing.
 use borrow.Author.Needs.{needs}
 use Rattle.embed.proofs.put_settled.Statement.{statement}
 use Rattle.embed.proofs.put_settled.Tie as tie
 
-cast-t4 : tie.Need-cast-t4
-cast-t4 c = search needs
+cast-rounds : tie.Need-cast-rounds
+cast-rounds c = search needs
+
+cast-decided : tie.Need-cast-decided
+cast-decided c = search needs
 
 slice-aggregate-put-words : tie.Need-slice-aggregate-put-words
 slice-aggregate-put-words c = search needs
@@ -19,4 +22,6 @@ returns : tie.Need-returns
 returns c = c .before .before .put-words .ensures
 
 pub put-settled-spec : {M : Type 1} → statement M
-put-settled-spec = tie.close (tie.spec cast-t4 slice-aggregate-put-words put-words-requires same-length returns)
+put-settled-spec =
+    tie.close
+    (tie.spec cast-rounds cast-decided slice-aggregate-put-words put-words-requires same-length returns)

@@ -1,5 +1,5 @@
 -- `run` meets its contract: after each round the lanes stand as `Settling` says, and where no lane changes all have
--- settled. The measure is 64 less the number of rounds. Assumes nothing.
+-- settled, and what is decided is counted. The measure is 64 less the number of rounds. Assumes nothing.
 use mathlib.Core.Path.{_≡_, refl, _∙_}
 use Prim.Native.Nat.{_-_, _≤_, _<_}
 use native.Mathlib.Omega.{arith}
@@ -34,6 +34,9 @@ entry c = opened c .before .before
 
 abbrev looped : tie.Else1 Inv-loop μ-loop → tie.At-loop Inv-loop μ-loop
 looped c = c .before .before
+
+abbrev ended : tie.After-decided-in-arg2 Inv-loop μ-loop → tie.At-loop Inv-loop μ-loop
+ended c = c .before .before .before .before
 
 abbrev counted : tie.After-count Inv-loop μ-loop → tie.Else1 Inv-loop μ-loop
 counted c = c .before .before
@@ -76,12 +79,21 @@ loop-holds c =
       record { first-size = refl; second-size = refl },
     )
 
-cast-result : tie.Need-cast-result Inv-loop μ-loop
-cast-result c =
+cast-rounds : tie.Need-cast-rounds Inv-loop μ-loop
+cast-rounds c =
     let l = c .before .before in
     let small : l .loop .total ≤ 4096 =
     settling-small _ _ _ _ (entry (l .before) .pre .6) _ _ _ _ _ (l .loop .inv .0) in
     search needs
+
+decided-in-requires : tie.Need-decided-in-requires Inv-loop μ-loop
+decided-in-requires c κs =
+    let l = ended c in
+    let p = entry (l .before) .pre in
+    (p .5, p .6, settling-planes _ _ _ _ (p .6) _ _ _ _ _ (l .loop .inv .0))
+
+cast-decided : tie.Need-cast-decided Inv-loop μ-loop
+cast-decided c = search needs
 
 count-requires : tie.Need-count-requires Inv-loop μ-loop
 count-requires c κs = search needs
@@ -126,8 +138,10 @@ loop-again c =
 
 returns : tie.Need-returns Inv-loop μ-loop
 returns c =
-    let l = c .before .before in
-    settling-end _ _ _ _ (entry (l .before) .pre .6) _ _ _ _ _ (l .loop .inv .0) (none-changed c)
+    let d = c .before in
+    let l = ended d in
+    settling-end _ _ _ _ (entry (l .before) .pre .6) _ _ _ _ _ (l .loop .inv .0) (none-changed (d .before .before))
+    (c .decided-in .ensures)
 
 pub run-spec : {M : Type 1} → statement M
 run-spec =
@@ -138,7 +152,9 @@ run-spec =
     lowest-requires
     begin-requires
     loop-holds
-    cast-result
+    cast-rounds
+    decided-in-requires
+    cast-decided
     count-requires
     add-total
     touched-requires

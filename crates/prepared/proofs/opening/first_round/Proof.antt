@@ -14,8 +14,9 @@ apply-requires c κs = rw (c .nothing .ensures) (refl, search needs, search need
 
 returns : tie.Need-returns
 returns c =
-    let b = c .before .before .before in
-    opening-is _ _ (c .apply .result) _ (rw (c .before .nothing .ensures) at (c .apply .ensures)) (b .pre .2)
+    let a = c .before in
+    let b = a .before .before .before in
+    opening-is _ _ (a .apply .result) _ (rw (a .before .nothing .ensures) at (a .apply .ensures)) (b .pre .2)
 
 pub first-round-spec : {M : Type 1} → statement M
 first-round-spec = tie.close (tie.spec nothing-requires apply-requires returns)

@@ -1,5 +1,5 @@
--- `apply` meets its contract: the loop walks the clauses (`walked` of Passes.antt) and keeps the two words disjoint.
--- The measure is the number of clauses left. Assumes nothing.
+-- `apply` meets its contract: the loop walks the clauses (`walked` of Passes.antt) and keeps the two words disjoint, and
+-- what it comes to is counted against i. The measure is the number of clauses left. Assumes nothing.
 use mathlib.Core.Path.{_≡_, refl, ap, ap₂, _∙_}
 use Prim.Native.Nat.{ℕ, _-_, _^_, _≤_, _<_}
 use native.Mathlib.Nat.{le-antisymm}
@@ -9,7 +9,7 @@ use Rattle.logic.specs.Interpretation.{valueAt, Disjoint}
 use Rattle.program.specs.Case.{headAt}
 use Rattle.program.specs.Program.{clauseAt}
 use Rattle.settle.proofs.Passes.{start, start-disjoint, raised, raised-disjoint}
-use Rattle.settle.proofs.Passes.{walked, walked-more, walked-step}
+use Rattle.settle.proofs.Passes.{walked, walked-more, walked-step, walked-stepped}
 use Rattle.settle.proofs.step.apply.Statement.{statement}
 use Rattle.settle.proofs.step.apply.Tie as tie
 
@@ -83,17 +83,21 @@ loop-again c =
           ∙ walked-more (valueAt (a .i)) (a .clauses .now) (l .loop .next) _ k (l .loop .inv .2),
     )
 
+newly-decided-requires : tie.Need-newly-decided-requires Inv-loop μ-loop
+newly-decided-requires c κs = c .before .loop .inv .1
+
 returns : tie.Need-returns Inv-loop μ-loop
 returns c =
-    let l = c .before in
+    let l = c .before .before in
     let s = l .before .before .before .before in
     let a = s .args in
     let hf : a .added .facts < 2 ^ 64 = omega arith in
     let hs : a .added .assumptions < 2 ^ 64 = omega arith in
-    l .loop .inv .2
+    let last = l .loop .inv .2
     ∙ ap₂ (λ (h m : ℕ). walked (valueAt (a .i)) (a .clauses .now) (start h (a .added)) m) (s .pre .3)
-    (le-antisymm (l .loop .inv .0) (c .loop-test .left))
-    ∙ walked-step (a .i) (a .clauses .now) (a .n) (a .added) hf hs
+    (le-antisymm (l .loop .inv .0) (c .before .loop-test .left))
+    ∙ walked-step (a .i) (a .clauses .now) (a .n) (a .added) hf hs in
+    walked-stepped (a .i) (a .clauses .now) (a .n) (a .added) hf hs last (c .newly-decided .ensures)
 
 pub apply-spec : {M : Type 1} → statement M
 apply-spec =
@@ -117,4 +121,5 @@ apply-spec =
     add-k
     loop-less
     loop-again
+    newly-decided-requires
     returns)

@@ -9,18 +9,19 @@ use Rattle.program.proofs.Soundness.{sound-formulas}
 use Rattle.walk.proofs.Bounds.{constraints-fit}
 use Rattle.verdict.proofs.Leaving.{list-kept}
 use Rattle.walk.proofs.Blocks.{Walking, walking-start, end-few, weights-few, word-inside, walking-room}
-use Rattle.walk.proofs.Blocks.{walking-work, lanes-planes, rounds-fit, walking-next, walking-end}
+use Rattle.walk.proofs.Blocks.{walking-work, lanes-planes, rounds-fit, decided-fit, walking-next}
+use Rattle.walk.proofs.Blocks.{walking-end}
 use Rattle.walk.proofs.walk.visit_all.Statement.{statement}
 use Rattle.walk.proofs.walk.visit_all.Tie as tie
 
 abbrev Inv-loop : tie.InvT-loop
 Inv-loop c clauses constraints formula causes opening dependents last prev weights ot of oh end list₀ work₀ row₀ nodes
-    found₀ rounds₀ added₀ b₀ s₀ list work row found rounds added b s =
-    Walking c clauses constraints formula causes end list₀ work₀ list work row found rounds added b s
+    found₀ sums₀ added₀ b₀ s₀ list work row found sums added b s =
+    Walking c clauses constraints formula causes end list₀ work₀ list work row found sums added b s
 
 abbrev μ-loop : tie.MeasureT-loop
 μ-loop c clauses constraints formula causes opening dependents last prev weights ot of oh end list₀ work₀ row₀ nodes
-    found₀ rounds₀ added₀ b₀ s₀ list work row found rounds added b s = end - s
+    found₀ sums₀ added₀ b₀ s₀ list work row found sums added b s = end - s
 
 -- ---- the places before, from the last to the first
 abbrev visited : tie.After-slice-known4 Inv-loop μ-loop → tie.After-visit Inv-loop μ-loop
@@ -35,8 +36,11 @@ covered c = c .before .before .before .before .before
 abbrev judged : tie.After-y3 Inv-loop μ-loop → tie.After-explaining Inv-loop μ-loop
 judged c = c .before .before .before
 
+abbrev summed : tie.After-struct-known4 Inv-loop μ-loop → tie.After-run Inv-loop μ-loop
+summed c = c .before .before .before .before
+
 abbrev settled : tie.After-f2 Inv-loop μ-loop → tie.After-run Inv-loop μ-loop
-settled c = c .before .before
+settled c = summed (c .before .before)
 
 abbrev sized : tie.After-f Inv-loop μ-loop → tie.After-lanes-of Inv-loop μ-loop
 sized c = c .before .before .before .before
@@ -106,11 +110,22 @@ run-requires c κs =
 
 add-rounds : tie.Need-add-rounds Inv-loop μ-loop
 add-rounds c =
-    let t = turn c in
+    let d = c .before .before in
+    let t = turn d in
     omega (
       arith,
-      rounds-fit (entry (looped t) .pre .0) (looped t .loop .inv) (t .loop-test .taken) (counted c .lanes-of .ensures)
-          (c .run .ensures),
+      rounds-fit (entry (looped t) .pre .0) (looped t .loop .inv) (t .loop-test .taken) (counted d .lanes-of .ensures)
+          (d .run .ensures),
+    )
+
+add-decided : tie.Need-add-decided Inv-loop μ-loop
+add-decided c =
+    let d = summed c in
+    let t = turn d in
+    omega (
+      arith,
+      decided-fit (entry (looped t) .pre .0) (looped t .loop .inv) (t .loop-test .taken) (counted d .lanes-of .ensures)
+          (d .run .ensures),
     )
 
 explaining-requires : tie.Need-explaining-requires Inv-loop μ-loop
@@ -199,6 +214,7 @@ visit-all-spec =
     lanes-of-requires
     run-requires
     add-rounds
+    add-decided
     explaining-requires
     cover-requires
     visit-requires
