@@ -1,6 +1,6 @@
 //! The text that `causes` should write for a file.
 //!
-//! From: document 01, The program `causes`; document 02, [1].
+//! From: document 01, The program `causes`; document 02, [1], [6].
 
 use crate::file::{read, Refusal};
 use crate::question::{ask, digits, Findings, Verdict};
@@ -39,7 +39,8 @@ pub fn text(findings: &Findings, names: &[String]) -> String {
     let found = findings.minimal.len();
     let listed = found.min(LIST_SLOTS);
     let mut text: String = findings.verdicts.iter().map(|v| format!("(verdict {})\n", v.word())).collect();
-    text.push_str(&format!("(rounds {})\n(minimal {found} {listed})\n", findings.rounds));
+    text.push_str(&format!("(rounds {})\n(decided {})\n", findings.rounds, findings.decided));
+    text.push_str(&format!("(minimal {found} {listed})\n"));
     for setting in &findings.minimal[..listed] {
         text.push_str("(cause");
         for (cause, digit) in findings.causes.iter().zip(digits(*setting, 3, findings.causes.len())) {
