@@ -8,8 +8,8 @@ use crate::question::{ask, digits, Findings, Verdict};
 /// The slots of the program's list.
 pub const LIST_SLOTS: usize = 1_024;
 
-/// What a file should get: the text, and for the summary of a run the refusal, or the verdicts and the number m; how many
-/// settings were settled, and in how many of them every model was gone through.
+/// What a file should get: the text, and for the summary of a run the refusal, or the verdicts and the number m; how
+/// many settings were settled, and in how many of them every model was gone through.
 pub struct Answer {
     pub text: String,
     pub result: Result<(Vec<Verdict>, usize), Refusal>,

@@ -79,8 +79,8 @@ impl Program {
         Program { bodies }
     }
 
-    /// The interpretation after `i`, in which an atom gets the greatest value of its bodies, unknown if it has none; and
-    /// the number of atoms that are undecided in `i` and decided after it.
+    /// The interpretation after `i`, in which an atom gets the greatest value of its bodies, unknown if it has none;
+    /// and the number of atoms that are undecided in `i` and decided after it.
     pub fn step(&self, i: &[Value]) -> Stepped {
         let value = |bodies: &Vec<Body>| bodies.iter().map(|b| b.value(i)).max().unwrap_or(UNKNOWN);
         let next: Vec<Value> = self.bodies.iter().map(value).collect();
@@ -88,8 +88,8 @@ impl Program {
         Stepped { next, newly: newly as u64 }
     }
 
-    /// The settled interpretation, with as many rounds as the least k for which k and k + 1 of them from nothing decided
-    /// give the same.
+    /// The settled interpretation, with as many rounds as the least k for which k and k + 1 of them from nothing
+    /// decided give the same.
     pub fn settle(&self) -> Settled {
         self.settle_within(u64::MAX)
     }

@@ -182,8 +182,8 @@ pub fn has_explaining_subset(s: usize, count: usize, explains: &[bool]) -> bool 
 
 /// The answer to the question on `case`.
 ///
-/// Panics if nothing is found to explain where a set with both a fact and an assumption does, or if a query gets another
-/// answer in a case of its own.
+/// Panics if nothing is found to explain where a set with both a fact and an assumption does, or if a query gets
+/// another answer in a case of its own.
 pub fn ask(case: Case) -> Findings {
     let found = findings(Engine::new(case.clone()));
     if case.queries.len() > 1 {
@@ -215,8 +215,8 @@ pub fn ask_capped(case: Case, cap: u64) -> Findings {
 
 /// The decided atoms over all settings, by what each round of each of them newly decided.
 ///
-/// Panics if they are others by atom, that is, by the settings in which each is decided; or if a cause is not decided in
-/// two of three settings.
+/// Panics if they are others by atom, that is, by the settings in which each is decided; or if a cause is not decided
+/// in two of three settings.
 fn decided_total(settled: &[Settled], causes: &[usize]) -> u64 {
     let total = settled.iter().map(|s| s.decided()).sum();
     let times = |atom: usize| settled.iter().filter(|s| s.model[atom] != UNKNOWN).count();
