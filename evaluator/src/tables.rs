@@ -61,9 +61,9 @@ pub fn settings(case: Case, shown: &[&str]) -> Vec<String> {
     let found = ask(case.clone());
     let mut engine = Engine::new(case);
     let mut row = |s: usize| {
-        let (model, rounds) = engine.settle_setting(s);
-        let values: Vec<&str> = atoms.iter().map(|a| word(model[*a])).collect();
-        format!("| {s} | {} | {rounds} | {} |", values.join(" | "), remark(&found, s))
+        let settled = engine.settle_setting(s);
+        let values: Vec<&str> = atoms.iter().map(|a| word(settled.model[*a])).collect();
+        format!("| {s} | {} | {} | {} |", values.join(" | "), settled.rounds(), remark(&found, s))
     };
     (0..found.explains.len()).map(&mut row).collect()
 }
