@@ -55,7 +55,8 @@ fn remark(found: &Findings, s: usize) -> String {
     }
 }
 
-/// A row for each setting of `case`: its number, the values of the atoms `shown`, its rounds, whether it explains.
+/// A row for each setting of `case`: its number, the values of the atoms `shown`, its rounds, how many atoms are
+/// decided, whether it explains.
 pub fn settings(case: Case, shown: &[&str]) -> Vec<String> {
     let atoms: Vec<usize> = shown.iter().filter_map(|n| case.names.iter().position(|m| m == n)).collect();
     let found = ask(case.clone());
@@ -63,7 +64,8 @@ pub fn settings(case: Case, shown: &[&str]) -> Vec<String> {
     let mut row = |s: usize| {
         let settled = engine.settle_setting(s);
         let values: Vec<&str> = atoms.iter().map(|a| word(settled.model[*a])).collect();
-        format!("| {s} | {} | {} | {} |", values.join(" | "), settled.rounds(), remark(&found, s))
+        let (rounds, decided) = (settled.rounds(), settled.decided());
+        format!("| {s} | {} | {rounds} | {decided} | {} |", values.join(" | "), remark(&found, s))
     };
     (0..found.explains.len()).map(&mut row).collect()
 }
