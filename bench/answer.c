@@ -65,7 +65,8 @@ void report(const Answer *answer, const Case *c, const Program *p) {
     int listed = answer->minimal < LISTED ? answer->minimal : LISTED;
     char *end = text;
     for (int q = 0; q < c->queries; q++) end += sprintf(end, "(verdict %s)\n", verdict(answer, q));
-    end += sprintf(end, "(rounds %ld)\n(minimal %d %d)\n", answer->rounds, answer->minimal, listed);
+    end += sprintf(end, "(rounds %ld)\n(decided %ld)\n", answer->rounds, answer->decided);
+    end += sprintf(end, "(minimal %d %d)\n", answer->minimal, listed);
     for (int k = 0; k < listed; k++) end = put_setting(end, answer->list[k], c, p);
     size_t length = (size_t)(end - text);
     if (fwrite(text, 1, length, stdout) != length || fflush(stdout) != 0) fail("the report cannot be written");

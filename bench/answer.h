@@ -10,11 +10,12 @@ enum { MOST_SETTINGS = 59049, LISTED = 1024 };
 enum { NO, EXPLAINS, MINIMAL };
 
 // What a walk answers: minimal explanations, the queries that one of them doesn't make true and those that one doesn't
-// make false, bit q for query q, rounds, the list, and the work area with a byte for each setting. It starts as zeros.
+// make false, bit q for query q, rounds and decided atoms over all settings, the list, and the work area with a byte
+// for each setting. It starts as zeros.
 typedef struct {
     int minimal;
     uint64_t untrue, unfalse;
-    long rounds;
+    long rounds, decided;
     uint16_t list[LISTED];
     uint8_t work[MOST_SETTINGS];
 } Answer;

@@ -52,6 +52,15 @@ static inline uint64_t bit(int atom) { return (uint64_t)1 << atom; }
 // The atom of the lowest bit of a word that isn't 0.
 static inline int lowest(uint64_t word) { return __builtin_ctzll(word); }
 
+// How many bits a word has, by fields of 2, 4 and 8 bits. Plain x86-64 has no instruction for it; written out, a loop
+// of counts takes two words at a time, which one of calls does not.
+static inline long ones(uint64_t word) {
+    word -= word >> 1 & 0x5555555555555555;
+    word = (word & 0x3333333333333333) + (word >> 2 & 0x3333333333333333);
+    word = (word + (word >> 4)) & 0x0f0f0f0f0f0f0f0f;
+    return (long)(word * 0x0101010101010101 >> 56);
+}
+
 // Ends the program with status 2 and a word on standard error.
 void fail(const char *why);
 

@@ -1,10 +1,10 @@
 // The walk one setting at a time: each is settled by rounds over every clause, and its subsets are looked up.
 #include "walk.h"
 
-// The settled interpretation and its round count.
+// The settled interpretation, its round count, and how many atoms the rounds decided.
 typedef struct {
     Interpretation model;
-    int rounds;
+    int rounds, decided;
 } Settled;
 
 // Whether a body is true in an interpretation: no plain atom that isn't true, no negated one that isn't false.
@@ -29,12 +29,19 @@ static inline Interpretation next(const Program *p, Added x, Interpretation i) {
     return (Interpretation){trues, (p->heads | x.assumed) & ~possible};
 }
 
+// How many atoms a round newly decided: undecided before it and decided after it.
+static inline int newly_decided(Interpretation before, Interpretation after) {
+    return (int)ones((after.trues | after.falses) & ~(before.trues | before.falses));
+}
+
 // Settles from nothing decided until a round changes nothing.
 static Settled settle(const Program *p, Added x) {
     Interpretation now = {0, 0};
+    int decided = 0;
     for (int rounds = 0;; rounds++) {
         Interpretation then = next(p, x, now);
-        if (then.trues == now.trues && then.falses == now.falses) return (Settled){now, rounds};
+        if (then.trues == now.trues && then.falses == now.falses) return (Settled){now, rounds, decided};
+        decided += newly_decided(now, then);
         now = then;
     }
 }
@@ -75,6 +82,7 @@ void walk_scan(const Case *c, const Program *p, Answer *answer) {
     for (int setting = 0; setting < p->settings; setting++, x = next_setting(p, x)) {
         Settled s = settle(p, x);
         answer->rounds += s.rounds;
+        answer->decided += s.decided;
         answer->work[setting] = NO;
         if (!explains_in(c, s.model)) continue;
         answer->work[setting] = EXPLAINS;

@@ -1,6 +1,6 @@
 //! The text that `causes` should write for a file.
 //!
-//! From: document 01, The program `causes`; document 02, [1].
+//! From: document 01, The program `causes`; document 02, [1], [6].
 
 use crate::file::{read, Refusal};
 use crate::question::{ask, digits, Findings, Verdict};
@@ -8,8 +8,8 @@ use crate::question::{ask, digits, Findings, Verdict};
 /// The slots of the program's list.
 pub const LIST_SLOTS: usize = 1_024;
 
-/// What a file should get: the text, and for the summary of a run the refusal, or the verdicts and the number m; how many
-/// settings were settled, and in how many of them every model was gone through.
+/// What a file should get: the text, and for the summary of a run the refusal, or the verdicts and the number m; how
+/// many settings were settled, and in how many of them every model was gone through.
 pub struct Answer {
     pub text: String,
     pub result: Result<(Vec<Verdict>, usize), Refusal>,
@@ -39,7 +39,8 @@ pub fn text(findings: &Findings, names: &[String]) -> String {
     let found = findings.minimal.len();
     let listed = found.min(LIST_SLOTS);
     let mut text: String = findings.verdicts.iter().map(|v| format!("(verdict {})\n", v.word())).collect();
-    text.push_str(&format!("(rounds {})\n(minimal {found} {listed})\n", findings.rounds));
+    text.push_str(&format!("(rounds {})\n(decided {})\n", findings.rounds, findings.decided));
+    text.push_str(&format!("(minimal {found} {listed})\n"));
     for setting in &findings.minimal[..listed] {
         text.push_str("(cause");
         for (cause, digit) in findings.causes.iter().zip(digits(*setting, 3, findings.causes.len())) {

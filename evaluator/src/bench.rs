@@ -1,9 +1,10 @@
-//! One test: a program's run on a stored or generated file, or the evaluator's answer to a vector, compared with what is
-//! expected.
+//! One test: a program's run on a stored or generated file, or the evaluator's answer to a vector, compared with what
+//! is expected.
 
 use crate::answer::{answer, Answer};
 use crate::compare::{differing, shown, unmeant};
-use crate::kinds_tally::{met, Met};
+use crate::decided_tally;
+use crate::kinds_tally;
 use crate::run::{bad_end, run, Fault, Input};
 use crate::sample::sample;
 use crate::vectors::Vector;
@@ -25,11 +26,11 @@ pub enum Test {
     Generated(u64),
 }
 
-/// What a test gave: the evaluator's answer, what is counted of a generated file by its kinds of constraints, and the
-/// complaint if it failed.
+/// What a test gave: the evaluator's answer, what is counted of a generated file by its kinds of constraints and by its
+/// decided total, and the complaint if it failed.
 pub struct Outcome {
     pub own: Option<Answer>,
-    pub kinds: Option<Met>,
+    pub met: Option<Vec<bool>>,
     pub complaint: Option<String>,
 }
 
@@ -80,7 +81,7 @@ fn answered(path: &Path) -> Result<Outcome, String> {
     let own = evaluated(|| vector.answer().text())?;
     Ok(Outcome {
         own: None,
-        kinds: None,
+        met: None,
         complaint: differing("stored answer", vector.expected.as_bytes(), own.as_bytes()),
     })
 }
@@ -127,21 +128,21 @@ impl Bench {
         let own = evaluated(|| answer(&bytes))?;
         let expected = [("stored answer", kept.as_slice()), ("evaluator", own.text.as_bytes())];
         let complaint = self.compared(Input::Stored(path.to_path_buf()), &expected).err();
-        Ok(Outcome { own: Some(own), kinds: None, complaint })
+        Ok(Outcome { own: Some(own), met: None, complaint })
     }
 
     /// Runs the generated file of `seed`.
     fn generated(&self, seed: u64) -> Result<Outcome, String> {
         let made = sample(seed);
-        let (own, kinds) = evaluated(|| {
+        let (own, met) = evaluated(|| {
             let own = answer(&made.bytes);
-            let kinds = met(&made.bytes, &own);
-            (own, kinds)
+            let met = [kinds_tally::met(&made.bytes, &own), decided_tally::met(&made.bytes)].concat();
+            (own, met)
         })?;
         let expected = [("evaluator", own.text.as_bytes())];
         let complaint =
             unmeant(made.due, &own).or_else(|| self.compared(generated_input(seed, made.bytes), &expected).err());
-        Ok(Outcome { own: Some(own), kinds: Some(kinds), complaint })
+        Ok(Outcome { own: Some(own), met: Some(met), complaint })
     }
 
     /// Runs `test`.
@@ -151,6 +152,6 @@ impl Bench {
             Test::Vector(path) => answered(path),
             Test::Generated(seed) => self.generated(*seed),
         };
-        outcome.unwrap_or_else(|complaint| Outcome { own: None, kinds: None, complaint: Some(complaint) })
+        outcome.unwrap_or_else(|complaint| Outcome { own: None, met: None, complaint: Some(complaint) })
     }
 }

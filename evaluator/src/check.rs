@@ -1,7 +1,9 @@
 //! The driver: all tests of a program, their failures, what occurred, and the count.
 
 use crate::bench::{Bench, Test};
+use crate::decided_tally;
 use crate::kinds_tally;
+use crate::row_tally::RowTally;
 use crate::sample::{sample, SAMPLES};
 use crate::tally::Tally;
 use std::collections::BTreeMap;
@@ -110,11 +112,11 @@ pub fn check(program: &Path, folders: &[&Path], limit: Duration) -> bool {
     }
     tests.extend((0..SAMPLES).map(Test::Generated));
     let mut tally = Tally::default();
-    let mut kinds = kinds_tally::Tally::default();
+    let mut rows = RowTally::new(kinds_tally::words().chain(decided_tally::words()));
     let mut counts = Counts::default();
     let bench = Bench::new(program, limit);
     for (test, outcome) in tests.iter().zip(outcomes(&tests, |test| bench.outcome(test))) {
-        outcome.kinds.iter().for_each(|met| kinds.count(met));
+        outcome.met.iter().for_each(|met| rows.count(met));
         if let Some(own) = &outcome.own {
             counts.settings += own.settings;
             counts.searched += own.searched;
@@ -127,12 +129,12 @@ pub fn check(program: &Path, folders: &[&Path], limit: Duration) -> bool {
             None => counts.passed += 1,
         }
     }
-    let missing = tally.missing().into_iter().chain(kinds.missing());
+    let missing = tally.missing().into_iter().chain(rows.missing().into_iter().map(String::from));
     failures.extend(missing.map(|what| format!("never occurred: {what}")));
     let mut lines = vec![
         format!("generated: {SAMPLES} files; {}", tally.summary()),
         format!("every model gone through: {} settings of {}", counts.searched, counts.settings),
     ];
-    lines.extend(kinds.lines());
+    lines.extend(rows.lines());
     concluded(counts.passed, &failures, &lines)
 }

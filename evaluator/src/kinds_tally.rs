@@ -33,12 +33,6 @@ const AT_LIMIT: [(&str, Option<Kind>); 3] = [
     ("an avoid behind 32 constraints of both kinds", Some(Kind::Avoid)),
 ];
 
-/// The number of things that are counted.
-const ROWS: usize = MISREADINGS.len() + AT_LIMIT.len();
-
-/// Which of the things that are counted hold of a file.
-pub type Met = [bool; ROWS];
-
 /// `constraints` with the kinds that `kind` makes of theirs.
 fn with_kinds(constraints: &[Constraint], kind: impl Fn(Kind) -> Kind) -> Vec<Constraint> {
     constraints.iter().map(|c| Constraint { kind: kind(c.kind), body: c.body.clone() }).collect()
@@ -89,9 +83,14 @@ fn kinds(file: &[u8], own: &Answer) -> Option<(Vec<Kind>, Option<Kind>)> {
     }
 }
 
+/// The words of each thing that is counted.
+pub fn words() -> impl Iterator<Item = &'static str> {
+    MISREADINGS.into_iter().map(|(what, _)| what).chain(AT_LIMIT.into_iter().map(|(what, _)| what))
+}
+
 /// Which of the things that are counted hold of `file`, which gets `own`.
-pub fn met(file: &[u8], own: &Answer) -> Met {
-    let mut met = [false; ROWS];
+pub fn met(file: &[u8], own: &Answer) -> Vec<bool> {
+    let mut met = vec![false; words().count()];
     let (misread, at_limit) = met.split_at_mut(MISREADINGS.len());
     if let Ok(case) = file::read(file) {
         for (met, (_, misreading)) in misread.iter_mut().zip(MISREADINGS) {
@@ -105,35 +104,4 @@ pub fn met(file: &[u8], own: &Answer) -> Met {
         }
     }
     met
-}
-
-/// Counts of files, one for each thing that is counted.
-#[derive(Default)]
-pub struct Tally {
-    counts: [usize; ROWS],
-}
-
-impl Tally {
-    /// Counts a file for each row of `met`.
-    pub fn count(&mut self, met: &Met) {
-        for (count, met) in self.counts.iter_mut().zip(met) {
-            *count += usize::from(*met);
-        }
-    }
-
-    /// The words of each thing that is counted, with its count.
-    fn rows(&self) -> impl Iterator<Item = (&'static str, usize)> + '_ {
-        let words = MISREADINGS.iter().map(|(what, _)| *what).chain(AT_LIMIT.iter().map(|(what, _)| *what));
-        words.zip(self.counts)
-    }
-
-    /// A line for each count.
-    pub fn lines(&self) -> Vec<String> {
-        self.rows().map(|(what, count)| format!("{what}: {count} files")).collect()
-    }
-
-    /// What never occurred.
-    pub fn missing(&self) -> Vec<String> {
-        self.rows().filter(|(_, count)| *count == 0).map(|(what, _)| String::from(what)).collect()
-    }
 }

@@ -5,8 +5,9 @@ use crate::check::{by_folder, concluded, files, outcomes};
 use crate::compare::shown;
 use crate::file::Refusal;
 use crate::layers_answer::{layering, told, Layering};
-use crate::layers_tally::{met, Met, Tally};
+use crate::layers_tally::{met, words};
 use crate::plain::Operation;
+use crate::row_tally::RowTally;
 use crate::run::Input;
 use crate::sample::{sample, shape, SAMPLES, SHAPES};
 use crate::vectors::Vector;
@@ -15,12 +16,12 @@ use std::time::Duration;
 
 /// What a test gave: what is counted of the file, if the evaluator could tell, and the complaint if it failed.
 struct Outcome {
-    met: Option<Met>,
+    met: Option<Vec<bool>>,
     complaint: Option<String>,
 }
 
 /// What the file `bytes` should get, and what is counted of it.
-fn judged(bytes: &[u8]) -> Result<(Result<Layering, Refusal>, Met), String> {
+fn judged(bytes: &[u8]) -> Result<(Result<Layering, Refusal>, Vec<bool>), String> {
     evaluated(|| {
         let own = layering(bytes);
         let met = met(&own);
@@ -90,7 +91,7 @@ pub fn check(program: &Path, folders: &[&Path], limit: Duration) -> bool {
     by_folder(&tests).iter().for_each(|line| println!("{line}"));
     tests.extend((0..SAMPLES + SHAPES).map(Test::Generated));
     let bench = Bench::new(program, limit);
-    let mut tally = Tally::default();
+    let mut tally = RowTally::new(words());
     let mut passed = 0;
     for (test, outcome) in tests.iter().zip(outcomes(&tests, |test| outcome(&bench, test))) {
         outcome.met.iter().for_each(|met| tally.count(met));

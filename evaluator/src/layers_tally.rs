@@ -66,35 +66,12 @@ fn with_constraints(case: &Case) -> Vec<Clause> {
     case.clauses.iter().cloned().chain(case.constraints.iter().map(rule)).collect()
 }
 
-/// Which of the rows count a file.
-pub type Met = [bool; ROWS.len()];
+/// The words of each of the rows.
+pub fn words() -> impl Iterator<Item = &'static str> {
+    ROWS.into_iter().map(|(what, _)| what)
+}
 
 /// Which of the rows count a file that should get `own`.
-pub fn met(own: &Result<Layering, Refusal>) -> Met {
-    ROWS.map(|(_, holds)| holds(own))
-}
-
-/// Counts of files, one for each of the rows.
-#[derive(Default)]
-pub struct Tally {
-    counts: [usize; ROWS.len()],
-}
-
-impl Tally {
-    /// Counts a file for each row of `met`.
-    pub fn count(&mut self, met: &Met) {
-        for (count, met) in self.counts.iter_mut().zip(met) {
-            *count += usize::from(*met);
-        }
-    }
-
-    /// A line for each count.
-    pub fn lines(&self) -> Vec<String> {
-        ROWS.iter().zip(self.counts).map(|((what, _), count)| format!("{what}: {count} files")).collect()
-    }
-
-    /// What never occurred.
-    pub fn missing(&self) -> Vec<&'static str> {
-        ROWS.iter().zip(self.counts).filter(|(_, count)| *count == 0).map(|((what, _), _)| *what).collect()
-    }
+pub fn met(own: &Result<Layering, Refusal>) -> Vec<bool> {
+    ROWS.map(|(_, holds)| holds(own)).to_vec()
 }

@@ -12,7 +12,7 @@
 //! | random, names, layout, families | drawn lawful files |
 //! | shapes | drawn files with chains and rings |
 //! | edges, lists, damage, sample | files at the limits, damaged files, the file of a seed |
-//! | run, compare, tally, kinds_tally, bench, check | the driver |
+//! | run, compare, tally, row_tally, kinds_tally, decided_tally, bench, check | the driver |
 //! | layers_tally, layers_check | the driver of the program `layers` |
 //! | lookup_pairs, lookup_tally, lookup_check | the driver of the program `compare`, and the pairs that it draws |
 //! | tables | tables of the manual |
@@ -25,6 +25,7 @@ pub mod compare;
 pub mod completion;
 pub mod constraint;
 pub mod damage;
+pub mod decided_tally;
 pub mod edges;
 pub mod families;
 pub mod file;
@@ -47,6 +48,7 @@ pub mod names;
 pub mod plain;
 pub mod question;
 pub mod random;
+pub mod row_tally;
 pub mod run;
 pub mod sample;
 pub mod shapes;

@@ -41,8 +41,8 @@ pub enum Answered {
     Unread(Refusal),
     Refused(u32),
     Read(Held),
-    Settled { truths: u64, falsehoods: u64, rounds: u64 },
-    Asked { verdicts: Vec<u64>, minimal: usize, rounds: u64, list: Vec<u16>, work: Vec<u8> },
+    Settled { truths: u64, falsehoods: u64, rounds: u64, decided: u64 },
+    Asked { verdicts: Vec<u64>, minimal: usize, rounds: u64, decided: u64, list: Vec<u16>, work: Vec<u8> },
     Layered(Vec<u64>),
     Rings(Vec<Vec<usize>>),
     Compared(Outcome),
@@ -169,11 +169,14 @@ impl Answered {
             Answered::Unread(refusal) => format!("refused {} {}\n", refusal.number, refusal.line),
             Answered::Refused(number) => format!("refused {number}\n"),
             Answered::Read(held) => tables_text(held),
-            Answered::Settled { truths, falsehoods, rounds } => format!("{truths:016x} {falsehoods:016x} {rounds}\n"),
-            Answered::Asked { verdicts, minimal, rounds, list, work } => {
+            Answered::Settled { truths, falsehoods, rounds, decided } => {
+                format!("{truths:016x} {falsehoods:016x} {rounds} {decided}\n")
+            }
+            Answered::Asked { verdicts, minimal, rounds, decided, list, work } => {
                 let verdicts = joined(verdicts, ",", |v| v.to_string());
                 let settings: String = list.iter().map(|s| format!("{s}\n")).collect();
-                format!("{verdicts} {minimal} {} {rounds}\n{settings}{:016x}\n", list.len(), fnv(work))
+                let counts = format!("{minimal} {} {rounds} {decided}", list.len());
+                format!("{verdicts} {counts}\n{settings}{:016x}\n", fnv(work))
             }
             Answered::Layered(numbers) => format!("layered {}\n", joined(numbers, " ", |n| n.to_string())),
             Answered::Rings(rings) => {

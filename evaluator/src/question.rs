@@ -1,6 +1,7 @@
-//! The question: which settings explain, which of these are minimal, and the verdict on each query.
+//! The question: which settings explain, which of these are minimal, the verdict on each query, and what settling adds
+//! up to.
 //!
-//! From: document 01, Causes, settings, explanations; The question; document 02, [1], [5].
+//! From: document 01, Causes, settings, explanations; The question; document 02, [1], [5], [6].
 //!
 //! | name | meaning |
 //! |---|---|
@@ -13,8 +14,8 @@
 use crate::case::{causes, Body, Case};
 use crate::completion::{search_order, Completion, SearchOrder};
 use crate::constraint::Constraint;
-use crate::formula::{Formula, Literal, Value, TRUE};
-use crate::model::Program;
+use crate::formula::{Formula, Literal, Value, TRUE, UNKNOWN};
+use crate::model::{Program, Settled};
 pub use crate::verdict::Verdict;
 
 /// The values tried in the search for the models of a setting: so many over all settings of a case, and no fewer than
@@ -37,21 +38,24 @@ enum Choice {
 /// The choices by digit: the first three are those of a setting.
 const CHOICES: [Choice; 4] = [Choice::Nothing, Choice::Fact, Choice::Assumption, Choice::Both];
 
-/// What is found of a set: whether it explains, the value of each query and the round count.
+/// What is found of a set: whether it explains, the value of each query and what it settles to.
 struct Judged {
     explains: bool,
     queries: Vec<Value>,
-    rounds: u64,
+    settled: Settled,
 }
 
-/// The question's answer: whether each setting explains, every minimal one in rising order, the rounds over all
-/// settings, and the verdict on each query; and in how many of the settings every model was gone through.
+/// The question's answer: whether each setting explains, every minimal one in rising order, the rounds and the decided
+/// atoms over all settings, and the verdict on each query; what each setting settles to, and in how many of them every
+/// model was gone through.
 pub struct Findings {
     pub causes: Vec<usize>,
     pub explains: Vec<bool>,
     pub minimal: Vec<usize>,
     pub rounds: u64,
+    pub decided: u64,
     pub verdicts: Vec<Verdict>,
+    pub settled: Vec<Settled>,
     pub searched: usize,
 }
 
@@ -110,20 +114,20 @@ impl Engine {
         Engine { program, completion, order, tries, cap, held, searched, causes, constraints, observations, queries }
     }
 
-    /// The least model and the round count of the program with the choices `set` added.
-    fn settle(&mut self, set: &[Choice]) -> (Vec<Value>, u64) {
+    /// What the program with the choices `set` added settles to: its least model.
+    fn settle(&mut self, set: &[Choice]) -> Settled {
         for (cause, choice) in self.causes.iter().zip(set) {
             self.program.bodies[*cause] = choice.bodies();
             self.completion.equivalences[*cause] = self.program.equivalence(*cause);
         }
         if let Some(cap) = self.cap {
-            return (self.program.after(cap), cap);
+            return self.program.settle_within(cap);
         }
-        let (settled, rounds) = self.program.settle();
+        let settled = self.program.settle();
         if self.held {
-            self.hold(&settled);
+            self.hold(&settled.model);
         }
-        (settled, rounds)
+        settled
     }
 
     /// Holds the settled interpretation to the definition of the least model.
@@ -138,19 +142,20 @@ impl Engine {
         self.searched += usize::from(least.is_some());
     }
 
-    /// The least model and the round count of the setting `s`.
-    pub fn settle_setting(&mut self, s: usize) -> (Vec<Value>, u64) {
+    /// What the setting `s` settles to.
+    pub fn settle_setting(&mut self, s: usize) -> Settled {
         let set: Vec<Choice> = digits(s, 3, self.causes.len()).into_iter().map(|d| CHOICES[d]).collect();
         self.settle(&set)
     }
 
     /// What is found of the set `set`.
     fn judge(&mut self, set: &[Choice]) -> Judged {
-        let (model, rounds) = self.settle(set);
-        let observed = self.observations.iter().all(|l| l.value(&model) == TRUE);
-        let met = self.constraints.iter().all(|c| c.is_met(&model));
-        let queries = self.queries.iter().map(|query| query.value(&model)).collect();
-        Judged { explains: observed && met, queries, rounds }
+        let settled = self.settle(set);
+        let model = &settled.model;
+        let observed = self.observations.iter().all(|l| l.value(model) == TRUE);
+        let met = self.constraints.iter().all(|c| c.is_met(model));
+        let queries = self.queries.iter().map(|query| query.value(model)).collect();
+        Judged { explains: observed && met, queries, settled }
     }
 
     /// What is found of every set made of the first `base` choices, by number.
@@ -162,7 +167,7 @@ impl Engine {
 }
 
 /// Whether some proper subset of the setting `s` of `count` causes explains, by trying each of them.
-fn has_explaining_subset(s: usize, count: usize, judged: &[Judged]) -> bool {
+pub fn has_explaining_subset(s: usize, count: usize, explains: &[bool]) -> bool {
     let parts: Vec<usize> = digits(s, 3, count)
         .into_iter()
         .enumerate()
@@ -171,14 +176,14 @@ fn has_explaining_subset(s: usize, count: usize, judged: &[Judged]) -> bool {
         .collect();
     (1usize..1 << parts.len()).any(|dropped| {
         let without: usize = parts.iter().enumerate().filter(|(i, _)| dropped >> i & 1 == 1).map(|(_, p)| p).sum();
-        judged[s - without].explains
+        explains[s - without]
     })
 }
 
 /// The answer to the question on `case`.
 ///
-/// Panics if nothing is found to explain where a set with both a fact and an assumption does, or if a query gets another
-/// answer in a case of its own.
+/// Panics if nothing is found to explain where a set with both a fact and an assumption does, or if a query gets
+/// another answer in a case of its own.
 pub fn ask(case: Case) -> Findings {
     let found = findings(Engine::new(case.clone()));
     if case.queries.len() > 1 {
@@ -186,6 +191,7 @@ pub fn ask(case: Case) -> Findings {
             let own = ask_alone(&case, query);
             assert!(own.verdicts == [*verdict], "a query gets another verdict in a case of its own");
             assert!(own.rounds == found.rounds, "the rounds are others in a case with one of the queries");
+            assert!(own.decided == found.decided, "the decided atoms are others in a case with one of the queries");
             assert!(own.minimal == found.minimal, "the minimal settings are others in a case with one of the queries");
         }
     }
@@ -207,19 +213,35 @@ pub fn ask_capped(case: Case, cap: u64) -> Findings {
     findings(Engine { cap: Some(cap), ..Engine::new(case) })
 }
 
+/// The decided atoms over all settings, by what each round of each of them newly decided.
+///
+/// Panics if they are others by atom, that is, by the settings in which each is decided; or if a cause is not decided
+/// in two of three settings.
+fn decided_total(settled: &[Settled], causes: &[usize]) -> u64 {
+    let total = settled.iter().map(|s| s.decided()).sum();
+    let times = |atom: usize| settled.iter().filter(|s| s.model[atom] != UNKNOWN).count();
+    let by_atom: usize = (0..settled[0].model.len()).map(times).sum();
+    assert!(by_atom as u64 == total, "the decided atoms are others by round and by atom");
+    let in_two_of_three = |cause: &usize| 3 * times(*cause) == 2 * settled.len();
+    assert!(causes.iter().all(in_two_of_three), "a cause is not decided in two of three settings");
+    total
+}
+
 /// What `engine` finds over all settings.
 fn findings(mut engine: Engine) -> Findings {
     let count = engine.causes.len();
     let judged = engine.judge_all(3);
     let searched = engine.searched;
+    let explains: Vec<bool> = judged.iter().map(|j| j.explains).collect();
     let minimal: Vec<usize> =
-        (0..judged.len()).filter(|s| judged[*s].explains && !has_explaining_subset(*s, count, &judged)).collect();
+        (0..judged.len()).filter(|s| explains[*s] && !has_explaining_subset(*s, count, &explains)).collect();
     if minimal.is_empty() && count <= TRIED_CAUSES {
         assert!(engine.judge_all(4).iter().all(|j| !j.explains), "a set explains and no setting does");
     }
     let values = |query: usize| minimal.iter().map(|s| judged[*s].queries[query]).collect::<Vec<_>>();
     let verdicts = (0..engine.queries.len()).map(|query| Verdict::of(&values(query))).collect();
-    let rounds = judged.iter().map(|j| j.rounds).sum();
-    let explains = judged.iter().map(|j| j.explains).collect();
-    Findings { causes: engine.causes, explains, minimal, rounds, verdicts, searched }
+    let settled: Vec<Settled> = judged.into_iter().map(|j| j.settled).collect();
+    let rounds = settled.iter().map(|s| s.rounds()).sum();
+    let decided = decided_total(&settled, &engine.causes);
+    Findings { causes: engine.causes, explains, minimal, rounds, decided, verdicts, settled, searched }
 }

@@ -55,15 +55,17 @@ fn remark(found: &Findings, s: usize) -> String {
     }
 }
 
-/// A row for each setting of `case`: its number, the values of the atoms `shown`, its rounds, whether it explains.
+/// A row for each setting of `case`: its number, the values of the atoms `shown`, its rounds, how many atoms are
+/// decided, whether it explains.
 pub fn settings(case: Case, shown: &[&str]) -> Vec<String> {
     let atoms: Vec<usize> = shown.iter().filter_map(|n| case.names.iter().position(|m| m == n)).collect();
     let found = ask(case.clone());
     let mut engine = Engine::new(case);
     let mut row = |s: usize| {
-        let (model, rounds) = engine.settle_setting(s);
-        let values: Vec<&str> = atoms.iter().map(|a| word(model[*a])).collect();
-        format!("| {s} | {} | {rounds} | {} |", values.join(" | "), remark(&found, s))
+        let settled = engine.settle_setting(s);
+        let values: Vec<&str> = atoms.iter().map(|a| word(settled.model[*a])).collect();
+        let (rounds, decided) = (settled.rounds(), settled.decided());
+        format!("| {s} | {} | {rounds} | {decided} | {} |", values.join(" | "), remark(&found, s))
     };
     (0..found.explains.len()).map(&mut row).collect()
 }

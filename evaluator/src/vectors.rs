@@ -3,9 +3,10 @@
 
 use crate::case::{causes, Case};
 use crate::file;
-use crate::formula::{Value, FALSE, TRUE};
+use crate::formula::{FALSE, TRUE};
 use crate::held::Held;
 use crate::layers::{dependence, numbers, rings};
+use crate::model::mask;
 use crate::plain::{tables, Answered, Operation};
 use crate::question::{ask, Engine};
 use std::path::Path;
@@ -24,11 +25,6 @@ pub struct Vector {
     pub expected: String,
 }
 
-/// The atoms with the value `value` in `model`, bit i for atom i.
-fn mask(model: &[Value], value: Value) -> u64 {
-    model.iter().enumerate().filter(|(_, v)| **v == value).fold(0, |m, (i, _)| m | 1 << i)
-}
-
 /// The number of settings of `case`.
 fn settings(case: &Case) -> usize {
     3usize.pow(causes(case.names.len(), &case.clauses).len() as u32)
@@ -39,8 +35,9 @@ fn settled(case: Case, setting: u64) -> Answered {
     if setting >= settings(&case) as u64 {
         return Answered::Refused(14);
     }
-    let (model, rounds) = Engine::new(case).settle_setting(setting as usize);
-    Answered::Settled { truths: mask(&model, TRUE), falsehoods: mask(&model, FALSE), rounds }
+    let settled = Engine::new(case).settle_setting(setting as usize);
+    let (truths, falsehoods) = (mask(&settled.model, TRUE), mask(&settled.model, FALSE));
+    Answered::Settled { truths, falsehoods, rounds: settled.rounds(), decided: settled.decided() }
 }
 
 /// What the question on `case` answers with a list of `slots` slots and a work area of `bytes` zeros.
@@ -58,7 +55,8 @@ fn asked(case: Case, slots: usize, bytes: usize) -> Answered {
     }
     let list = found.minimal.iter().take(slots).map(|s| *s as u16).collect();
     let verdicts = found.verdicts.iter().map(|v| v.number()).collect();
-    Answered::Asked { verdicts, minimal: found.minimal.len(), rounds: found.rounds, list, work }
+    let (minimal, rounds, decided) = (found.minimal.len(), found.rounds, found.decided);
+    Answered::Asked { verdicts, minimal, rounds, decided, list, work }
 }
 
 /// What the operation `layers` may answer on `case`: the least numbers, or any of all its rings.

@@ -41,10 +41,10 @@ fn generated_files_on_standard_input_get_their_reports() {
 #[test]
 fn a_verdict_line_stands_for_each_query() {
     let run = finder(&[], b"(true a)\n(query a)\n(query (not a))\n(query b)\n");
-    let due = "(verdict follows)\n(verdict denied)\n(verdict open)\n(rounds 3)\n(minimal 1 1)\n(cause)\n";
+    let due = "(verdict follows)\n(verdict denied)\n(verdict open)\n(rounds 3)\n(decided 5)\n(minimal 1 1)\n(cause)\n";
     assert_eq!(run, Run { out: due.into(), err: String::new(), status: 0 });
     let run = finder(&[], "(query a)\n".repeat(16).as_bytes());
-    let due = "(verdict open)\n".repeat(16) + "(rounds 2)\n(minimal 1 1)\n(cause)\n";
+    let due = "(verdict open)\n".repeat(16) + "(rounds 2)\n(decided 2)\n(minimal 1 1)\n(cause)\n";
     assert_eq!(run, Run { out: due.into(), err: String::new(), status: 0 });
     let run = finder(&[], "(query a)\n".repeat(17).as_bytes());
     assert_eq!((run.out.as_slice(), run.status), (&b"(refused 10 17)\n"[..], 1));

@@ -1,8 +1,8 @@
 /* The cause finder's operations: read a case file, settle one setting, answer the question, number the atoms by layers
  * or find a ring of rules, write the report.
  *
- * From: document 01, "Case tables and sound cases" and "What each operation refuses"; document 02, [1], [3] and [5].
- * Link libembed.a (x86-64).
+ * From: document 01, "Case tables and sound cases" and "What each operation refuses"; document 02, [1], [3],
+ * [5] and [6]. Link libembed.a (x86-64).
  *
  * Lent memory is a pointer and a number of elements. The pointer is aligned for its type and reaches that many
  * elements; memory that a call writes overlaps no other memory lent to the same call. A pointer to no elements isn't
@@ -25,7 +25,7 @@ extern "C" {
 #endif
 
 /* The version of this header and of the Rust module beside it. */
-#define CAUSES_VERSION "0.3.0"
+#define CAUSES_VERSION "0.4.0"
 
 /* Sizes of the lent tables, in elements. A longer table is lawful; what is past its size keeps its contents. */
 enum {
@@ -49,7 +49,7 @@ enum {
     CAUSES_FILE_BYTES = 32768,   /* the longest file that is read */
     CAUSES_SETTINGS = 59049,     /* 3^10, the most settings: bytes of a work area */
     CAUSES_MINIMAL = 15360,      /* the most minimal explanations: slots of a list */
-    CAUSES_REPORT_BYTES = 264582 /* the longest report */
+    CAUSES_REPORT_BYTES = 264600 /* the longest report */
 };
 
 /* Sizes of a thread's stack, in bytes, with which an operation ends; each has room to spare. */
@@ -69,8 +69,9 @@ enum { CAUSES_RECORD_WORDS = 22 };
 /* Words of the answers. */
 enum {
     CAUSES_READ_WORDS = 23,     /* line of the refusal or 0, then the case record */
-    CAUSES_SETTLE_WORDS = 3,    /* true atoms, false atoms, rounds */
-    CAUSES_QUESTION_WORDS = 19, /* 16 verdicts, 0 past the formulas; minimal explanations, how many listed, rounds */
+    CAUSES_SETTLE_WORDS = 4,    /* true atoms, false atoms, rounds, how many atoms are decided */
+    CAUSES_QUESTION_WORDS = 20, /* 16 verdicts, 0 past the formulas; minimal explanations, how many listed, rounds,
+                                 * decided total */
     CAUSES_LAYERS_WORDS = 66,   /* 1 layered or 0 not, number of entries, 64 entries, 0 past the last */
     CAUSES_REPORT_WORDS = 1     /* length of the text */
 };
@@ -108,8 +109,9 @@ uint32_t causes_read(const uint8_t *file, size_t file_bytes,
                      uint64_t *answer, size_t answer_words);
 
 /* Settles one setting of a case: digit i of the setting to base three, lowest first, adds nothing, a fact or an
- * assumption for cause i. Refuses with 1, 13, 14, in this order. Writes to the answer alone.
- * answer: CAUSES_SETTLE_WORDS. */
+ * assumption for cause i. Each round decides atoms, true or false; the fourth word is the sum of what the rounds
+ * decided, and so the number of atoms in the first two words. Refuses with 1, 13, 14, in this order. Writes to the
+ * answer alone. answer: CAUSES_SETTLE_WORDS. */
 uint32_t causes_settle(const uint64_t *record, size_t record_words,
                        const uint64_t *clauses, size_t clause_words,
                        const uint64_t *constraints, size_t constraint_words,
@@ -119,8 +121,9 @@ uint32_t causes_settle(const uint64_t *record, size_t record_words,
 
 /* Answers the question of a case, with a verdict for each formula. The minimal settings go to the list in rising order,
  * as many as it has slots for, and byte s of the work area becomes 0 (setting s doesn't explain), 1 (explains, not
- * minimal) or 2 (minimal); slots and bytes behind these keep their contents. Refuses with 1, 13, 15, in this order, and
- * then touches neither. answer: CAUSES_QUESTION_WORDS. */
+ * minimal) or 2 (minimal); slots and bytes behind these keep their contents. Rounds and decided atoms are those of
+ * causes_settle, summed over all settings. Refuses with 1, 13, 15, in this order, and then touches neither.
+ * answer: CAUSES_QUESTION_WORDS. */
 uint32_t causes_question(const uint64_t *record, size_t record_words,
                          const uint64_t *clauses, size_t clause_words,
                          const uint64_t *constraints, size_t constraint_words,

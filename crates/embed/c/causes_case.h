@@ -25,15 +25,15 @@ struct causes_case {
     uint8_t names[CAUSES_NAMES_BYTES];
 };
 
-/* A settled setting: the true and the false atoms, bit i for atom i, and the rounds. */
+/* A settled setting: the true and the false atoms, bit i for atom i, the rounds, and how many atoms are decided. */
 struct causes_settled {
-    uint64_t trues, falses, rounds;
+    uint64_t trues, falses, rounds, decided;
 };
 
 /* The question's answer: how many queries there are, a verdict for each in file order, zeros behind, the number of
- * minimal explanations, how many are listed, the rounds. */
+ * minimal explanations, how many are listed, and over all settings the rounds and the decided atoms. */
 struct causes_answer {
-    uint64_t queries, verdicts[CAUSES_QUERIES], minimal, listed, rounds;
+    uint64_t queries, verdicts[CAUSES_QUERIES], minimal, listed, rounds, decided;
 };
 
 /* The layers of a case: whether it is layered, how many entries there are, and the least number of each atom in atom
@@ -66,6 +66,7 @@ static inline uint32_t causes_case_settle(const struct causes_case *c, uint64_t 
     settled->trues = words[0];
     settled->falses = words[1];
     settled->rounds = words[2];
+    settled->decided = words[3];
     return refusal;
 }
 
@@ -83,6 +84,7 @@ static inline uint32_t causes_case_question(const struct causes_case *c, uint16_
     answer->minimal = words[CAUSES_QUERIES];
     answer->listed = words[CAUSES_QUERIES + 1];
     answer->rounds = words[CAUSES_QUERIES + 2];
+    answer->decided = words[CAUSES_QUERIES + 3];
     return refusal;
 }
 

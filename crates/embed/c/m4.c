@@ -1,5 +1,5 @@
-/* Answers M4 of document 01: reads the case, asks its question, prints list, rounds and verdict, then the report.
- * The exit status is 1 where an answer is not document 01's. */
+/* Answers M4 of document 01: reads the case, asks its question, prints list, rounds, decided atoms and verdict, then
+ * the report. The exit status is 1 where an answer is not that of documents 01 and 02. */
 #include "causes_case.h"
 
 #include <stdio.h>
@@ -15,13 +15,14 @@ static const char file[] =
 static const char report[] =
     "(verdict open)\n"
     "(rounds 15)\n"
+    "(decided 36)\n"
     "(minimal 2 2)\n"
     "(cause (true shut))\n"
     "(cause (true stopped))\n";
 
 static const char *const verdicts[] = {"unexplained", "follows", "denied", "open"};
 
-/* Reads the file and asks its question; whether the answer is list 1, 3; rounds 15; open. */
+/* Reads the file and asks its question; whether the answer is list 1, 3; rounds 15; decided 36; open. */
 static int question_answered(void)
 {
     static struct causes_case m4;
@@ -42,12 +43,13 @@ static int question_answered(void)
     printf("list:");
     for (i = 0; i < answer.listed; i++)
         printf(" %u", (unsigned)list[i]);
-    printf("\nrounds: %lu\nverdict: %s\n", (unsigned long)answer.rounds, verdicts[answer.verdicts[0]]);
+    printf("\nrounds: %lu\ndecided: %lu\nverdict: %s\n", (unsigned long)answer.rounds, (unsigned long)answer.decided,
+           verdicts[answer.verdicts[0]]);
     return answer.queries == 1 && answer.verdicts[0] == CAUSES_OPEN && answer.minimal == 2 && answer.listed == 2
-        && answer.rounds == 15 && list[0] == 1 && list[1] == 3;
+        && answer.rounds == 15 && answer.decided == 36 && list[0] == 1 && list[1] == 3;
 }
 
-/* Prints the file's report; whether it is document 01's. */
+/* Prints the file's report; whether it is that of documents 01 and 02. */
 static int report_written(void)
 {
     static uint8_t out[CAUSES_REPORT_BYTES];

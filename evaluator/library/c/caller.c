@@ -142,13 +142,14 @@ static void struct_calls(uint64_t setting, size_t slots, size_t bytes)
         printf("name %s\n", name);
     }
     refusal = causes_case_settle(&lent, setting, &settled);
-    printf("settle %s %" PRIu64 " %" PRIu64 " %" PRIu64 "\n", refusal_name(refusal), settled.trues, settled.falses,
-           settled.rounds);
+    printf("settle %s %" PRIu64 " %" PRIu64 " %" PRIu64 " %" PRIu64 "\n", refusal_name(refusal), settled.trues,
+           settled.falses, settled.rounds, settled.decided);
     blank();
     refusal = causes_case_question(&lent, list, slots, work, bytes, &answer);
     print_verdicts(refusal, answer.verdicts, (size_t)answer.queries);
     print_words("verdicts", answer.verdicts, CAUSES_QUERIES);
-    printf("counts %" PRIu64 " %" PRIu64 " %" PRIu64 "\n", answer.minimal, answer.listed, answer.rounds);
+    printf("counts %" PRIu64 " %" PRIu64 " %" PRIu64 " %" PRIu64 "\n", answer.minimal, answer.listed, answer.rounds,
+           answer.decided);
     print_list(slots);
     print_bytes("work", work, bytes);
     refusal = causes_case_layers(&lent, &layering);

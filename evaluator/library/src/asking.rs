@@ -1,6 +1,6 @@
 //! Families of the question: stored, generated and drawn cases, with lists and work areas around what is needed.
 
-use crate::calls::{question, Room, ASKED_WORDS};
+use crate::calls::{question, Room, ASKED_WORDS, DECIDED, ROUNDS};
 use crate::corpus::{folders, generated, some_accepted, Input};
 use crate::drawn::{drawn, small, strewn};
 use crate::due::{unasked, Asking};
@@ -81,17 +81,17 @@ fn files(tests: &mut Tests, name: &str, inputs: &[Input]) -> Met {
 /// Asks the questions of the load files, with the program's list.
 fn load(tests: &mut Tests, name: &str, inputs: &[Input]) {
     tests.family(name);
-    let mut most = 0;
+    let mut most = [0, 0];
     for input in inputs {
         let case = file::read(&input.bytes).unwrap_or_else(|r| panic!("refused with {}", r.number));
         let held = strewn(&mut Random::new(1), &Held::of(&case));
         let asking = Asking::of(case);
         let due = asking.due(LIST_SLOTS);
-        most = most.max(due.answer[ASKED_WORDS - 1]);
+        most = [most[0].max(due.answer[ROUNDS]), most[1].max(due.answer[DECIDED])];
         let room = Room { list: LIST_SLOTS, work: asking.settings(), answer: ASKED_WORDS };
         tests.call(|| format!("{}, {room:?}", input.name), question(&held, room, &due));
     }
-    tests.require("rounds past 2^20", most > 1 << 20);
+    tests.require("rounds and decided atoms past 2^20", most.iter().all(|sum| *sum > 1 << 20));
 }
 
 /// Drawn cases, with garbage past the counts.

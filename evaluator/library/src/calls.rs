@@ -3,11 +3,12 @@
 //! | name | meaning |
 //! |---|---|
 //! | `Sizes` | how many entries are lent to reading |
-//! | `ASKED_WORDS`, `LAYERS_WORDS` | how many words the question and the layers answer |
+//! | `SETTLED_WORDS`, `ASKED_WORDS`, `LAYERS_WORDS` | how many words settling, the question and the layers answer |
+//! | `ROUNDS`, `DECIDED` | where the question answers the rounds and the decided total |
 //! | `ReadDue`, `QuestionDue` | the number, the answer's words and what is written; empty where nothing is touched |
 //! | `LayersDue` | the same of the layers, where a ring may be any |
 //! | `read`, `settle`, `question`, `layers` | make the call and give the complaints |
-//! | `layers_words` | makes the call and gives the words |
+//! | `settled_words`, `asked_words`, `layers_words` | make the call and give the words |
 
 use crate::due::Layering;
 use crate::held::{Held, ATOMS, CLAUSE_WORDS, CONSTRAINT_WORDS, FORMULA_BYTES, NAMES_BYTES, QUERIES, RECORD_WORDS};
@@ -36,8 +37,13 @@ impl Sizes {
     };
 }
 
-/// The words of the question's answer: the verdicts, m, w and the rounds.
-pub const ASKED_WORDS: usize = QUERIES + 3;
+/// The words of settling's answer: the true atoms, the false atoms, the rounds and the number of decided atoms.
+pub const SETTLED_WORDS: usize = 4;
+
+/// The words of the question's answer: the verdicts, m, w, the rounds and the decided total.
+pub const ASKED_WORDS: usize = QUERIES + 4;
+pub const ROUNDS: usize = QUERIES + 2;
+pub const DECIDED: usize = QUERIES + 3;
 
 /// The words of the layers' answer: whether the case is layered, the number of entries, the entries.
 pub const LAYERS_WORDS: usize = 2 + ATOMS;
@@ -147,12 +153,10 @@ impl LentCase {
     }
 }
 
-/// Settles `setting` of `held` with an answer of `words` words; `due` are the number and the words written.
-pub fn settle(held: &Held, setting: u64, words: usize, due: (u32, &[u64])) -> Complaints {
-    let case = LentCase::of(held);
-    let mut answer = Lent::blank(words);
+/// Settles `setting` of `case`; the number answered.
+fn call_settle(case: &LentCase, setting: u64, answer: &mut Lent<u64>) -> u32 {
     // SAFETY: each pointer comes with the number of entries that its own memory has.
-    let got = unsafe {
+    unsafe {
         raw::causes_settle(
             case.record.at(),
             case.record.len(),
@@ -166,9 +170,27 @@ pub fn settle(held: &Held, setting: u64, words: usize, due: (u32, &[u64])) -> Co
             answer.at_mut(),
             answer.len(),
         )
-    };
+    }
+}
+
+/// Settles `setting` of `held` with an answer of `words` words; `due` are the number and the words written.
+pub fn settle(held: &Held, setting: u64, words: usize, due: (u32, &[u64])) -> Complaints {
+    let case = LentCase::of(held);
+    let mut answer = Lent::blank(words);
+    let got = call_settle(&case, setting, &mut answer);
     let own = [other_number(due.0, got), answer.complaint("answer", due.1)];
     own.into_iter().chain(case.touched()).flatten().collect()
+}
+
+/// The words that each of the first `count` settings of `held` is answered with.
+pub fn settled_words(held: &Held, count: u64) -> Vec<[u64; SETTLED_WORDS]> {
+    let case = LentCase::of(held);
+    let words = |setting| {
+        let mut answer = Lent::blank(SETTLED_WORDS);
+        call_settle(&case, setting, &mut answer);
+        answer.lent().try_into().expect("the words lent")
+    };
+    (0..count).map(words).collect()
 }
 
 /// The entries lent to the question: slots of the list, bytes of the work area, words of the answer.
@@ -179,14 +201,10 @@ pub struct Room {
     pub answer: usize,
 }
 
-/// Asks the question of `held` with memory of the given sizes; a list without slots has the null pointer.
-pub fn question(held: &Held, room: Room, due: &QuestionDue) -> Complaints {
-    let case = LentCase::of(held);
-    let mut list = lent(room.list, true);
-    let mut work = lent(room.work, false);
-    let mut answer = lent(room.answer, false);
+/// Asks the question of `case`; the number answered.
+fn call_question(case: &LentCase, list: &mut Lent<u16>, work: &mut Lent<u8>, answer: &mut Lent<u64>) -> u32 {
     // SAFETY: each pointer comes with the number of entries that its own memory has.
-    let got = unsafe {
+    unsafe {
         raw::causes_question(
             case.record.at(),
             case.record.len(),
@@ -203,7 +221,16 @@ pub fn question(held: &Held, room: Room, due: &QuestionDue) -> Complaints {
             answer.at_mut(),
             answer.len(),
         )
-    };
+    }
+}
+
+/// Asks the question of `held` with memory of the given sizes; a list without slots has the null pointer.
+pub fn question(held: &Held, room: Room, due: &QuestionDue) -> Complaints {
+    let case = LentCase::of(held);
+    let mut list = lent(room.list, true);
+    let mut work = lent(room.work, false);
+    let mut answer = lent(room.answer, false);
+    let got = call_question(&case, &mut list, &mut work, &mut answer);
     let own = [
         other_number(due.refusal, got),
         list.complaint("list", &due.list),
@@ -211,6 +238,13 @@ pub fn question(held: &Held, room: Room, due: &QuestionDue) -> Complaints {
         answer.complaint("answer", &due.answer),
     ];
     own.into_iter().chain(case.touched()).flatten().collect()
+}
+
+/// The words that the question of `held`, which has `settings` settings, is answered with.
+pub fn asked_words(held: &Held, settings: u64) -> Vec<u64> {
+    let mut answer = Lent::blank(ASKED_WORDS);
+    call_question(&LentCase::of(held), &mut Lent::blank(0), &mut Lent::blank(settings as usize), &mut answer);
+    answer.lent().to_vec()
 }
 
 /// Asks for the layers of `case`; the number answered.

@@ -1,7 +1,7 @@
 //! Families of settling, the question and the layers with records, tables and answers of every size, and the order of
 //! refusals.
 
-use crate::calls::{layers, question, settle, LayersDue, Room, ASKED_WORDS, LAYERS_WORDS};
+use crate::calls::{layers, question, settle, LayersDue, Room, ASKED_WORDS, LAYERS_WORDS, SETTLED_WORDS};
 use crate::drawn::{drawn, rich, strewn, word};
 use crate::due::{unanswered, unasked, Asking, Layering, Settling};
 use crate::held::{Held, CLAUSE_WORDS, CONSTRAINT_WORDS, FORMULAS, FORMULA_BYTES, RECORD_WORDS};
@@ -17,7 +17,7 @@ const ROOM: Room = Room { list: 5, work: 81, answer: ASKED_WORDS };
 /// A sound case with what is due: its settling, its asking and its layering.
 struct Known {
     held: Held,
-    settled: [u64; 3],
+    settled: [u64; SETTLED_WORDS],
     asking: Asking,
     layering: Layering,
 }
@@ -35,7 +35,7 @@ impl Known {
 
     /// Calls the operations on `held`, which holds this case in memory of other lengths.
     fn accepted(&self, tests: &mut Tests, what: &str, held: &Held) {
-        tests.call(|| format!("settle, {what}"), settle(held, 0, 3, (0, &self.settled)));
+        tests.call(|| format!("settle, {what}"), settle(held, 0, SETTLED_WORDS, (0, &self.settled)));
         tests.call(|| format!("question, {what}"), question(held, ROOM, &self.asking.due(ROOM.list)));
         tests.call(|| format!("layers, {what}"), layers(held, LAYERS_WORDS, &LayersDue::Told(&self.layering)));
     }
@@ -43,7 +43,7 @@ impl Known {
 
 /// Calls the operations on `held`, to be refused with `number`.
 pub fn refused(tests: &mut Tests, what: &str, held: &Held, number: u32) {
-    tests.call(|| format!("settle, {what}"), settle(held, 0, 3, (number, &[0; 3])));
+    tests.call(|| format!("settle, {what}"), settle(held, 0, SETTLED_WORDS, (number, &[0; SETTLED_WORDS])));
     tests.call(|| format!("question, {what}"), question(held, ROOM, &unasked(number)));
     tests.call(|| format!("layers, {what}"), layers(held, LAYERS_WORDS, &LayersDue::Refused(number)));
 }
@@ -86,7 +86,7 @@ fn records(tests: &mut Tests) {
         for length in 0..RECORD_WORDS {
             for held in [known.held.clone(), resized(&known.held, "clauses", 767)] {
                 let short = resized(&held, "record", length);
-                tests.call(|| format!("settle, {length}"), settle(&short, 0, 3, (1, &[])));
+                tests.call(|| format!("settle, {length}"), settle(&short, 0, SETTLED_WORDS, (1, &[])));
                 tests.call(|| format!("question, {length}"), question(&short, ROOM, &unanswered()));
                 let complaints = layers(&short, LAYERS_WORDS, &LayersDue::Untouched);
                 tests.call(|| format!("layers, {length}"), complaints);
@@ -106,7 +106,7 @@ fn answers(tests: &mut Tests) {
     tests.family("settle, question, layers: answers with too few words");
     for known in (0..20).map(Known::of) {
         for held in [known.held.clone(), resized(&known.held, "formula", 2_047)] {
-            for words in 0..3 {
+            for words in 0..SETTLED_WORDS {
                 tests.call(|| format!("settle, {words}"), settle(&held, 0, words, (1, &[])));
                 tests.call(|| format!("settle, {words}"), settle(&held, u64::MAX, words, (1, &[])));
             }
@@ -123,7 +123,8 @@ fn answers(tests: &mut Tests) {
     for known in (0..20).map(Known::of) {
         for more in 0..16 {
             let room = Room { answer: ASKED_WORDS + more, ..ROOM };
-            tests.call(|| format!("settle, {}", 3 + more), settle(&known.held, 0, 3 + more, (0, &known.settled)));
+            let words = SETTLED_WORDS + more;
+            tests.call(|| format!("settle, {words}"), settle(&known.held, 0, words, (0, &known.settled)));
             tests.call(|| format!("question, {room:?}"), question(&known.held, room, &known.asking.due(ROOM.list)));
             let words = LAYERS_WORDS + more;
             let complaints = layers(&known.held, words, &LayersDue::Told(&known.layering));
@@ -141,14 +142,20 @@ fn order(tests: &mut Tests) {
         unsound.record[FORMULAS] = 0;
         for (held, number) in [(&unsound, 1), (&known.held, 1)] {
             let short = resized(held, "constraints", CONSTRAINT_WORDS - 1);
-            tests.call(|| String::from("settle, 1"), settle(&short, u64::MAX, 3, (number, &[0; 3])));
+            tests.call(
+                || String::from("settle, 1"),
+                settle(&short, u64::MAX, SETTLED_WORDS, (number, &[0; SETTLED_WORDS])),
+            );
             tests.call(|| String::from("question, 1"), question(&short, room, &unasked(number)));
             tests.call(|| String::from("layers, 1"), layers(&short, LAYERS_WORDS, &LayersDue::Refused(number)));
         }
-        tests.call(|| String::from("settle, 13"), settle(&unsound, u64::MAX, 3, (13, &[0; 3])));
+        tests.call(|| String::from("settle, 13"), settle(&unsound, u64::MAX, SETTLED_WORDS, (13, &[0; SETTLED_WORDS])));
         tests.call(|| String::from("question, 13"), question(&unsound, room, &unasked(13)));
         tests.call(|| String::from("layers, 13"), layers(&unsound, LAYERS_WORDS, &LayersDue::Refused(13)));
-        tests.call(|| String::from("settle, 14"), settle(&known.held, u64::MAX, 3, (14, &[0; 3])));
+        tests.call(
+            || String::from("settle, 14"),
+            settle(&known.held, u64::MAX, SETTLED_WORDS, (14, &[0; SETTLED_WORDS])),
+        );
         tests.call(|| String::from("question, 15"), question(&known.held, room, &unasked(15)));
     }
 }

@@ -1,7 +1,7 @@
 //! Families of chains: each atom follows from the one before it, so that each round decides one atom more and each
 //! layer has one atom.
 
-use crate::calls::{layers, settle, LayersDue, LAYERS_WORDS};
+use crate::calls::{layers, settle, LayersDue, LAYERS_WORDS, SETTLED_WORDS};
 use crate::due::{Layering, Settling};
 use crate::held::Held;
 use crate::tests::Tests;
@@ -43,10 +43,11 @@ impl Chain {
         }
     }
 
-    /// The true atoms, the false atoms and the rounds where the first link is true, false or unknown.
-    fn due(&self, first: Option<bool>) -> [u64; 3] {
-        let Some(first) = first else { return [0; 3] };
-        let mut due = [0, 0, self.atoms as u64];
+    /// The true atoms, the false atoms, the rounds and the number of decided atoms where the first link is true, false
+    /// or unknown.
+    fn due(&self, first: Option<bool>) -> [u64; SETTLED_WORDS] {
+        let Some(first) = first else { return [0; SETTLED_WORDS] };
+        let mut due = [0, 0, self.atoms as u64, self.atoms as u64];
         for link in 0..self.atoms {
             let swapped = self.negated && link % 2 == 1;
             due[usize::from(first == swapped)] |= 1 << self.atom(link);
@@ -64,10 +65,10 @@ fn settings(tests: &mut Tests, chain: Chain, first: Option<Body>, values: &[Opti
     for (s, value) in (0..).zip(values) {
         let due = chain.due(*value);
         tests.require(&format!("{chain:?}, setting {s}: the evaluator's words"), settling.words(s) == due);
-        tests.call(|| format!("{chain:?}, setting {s}, {value:?}"), settle(&held, s, 3, (0, &due)));
+        tests.call(|| format!("{chain:?}, setting {s}, {value:?}"), settle(&held, s, SETTLED_WORDS, (0, &due)));
     }
     let past = values.len() as u64;
-    tests.call(|| format!("{chain:?}, setting {past}"), settle(&held, past, 3, (14, &[0; 3])));
+    tests.call(|| format!("{chain:?}, setting {past}"), settle(&held, past, SETTLED_WORDS, (14, &[0; SETTLED_WORDS])));
 }
 
 /// The layers of `chain`, whose first link has the body `first`: the number of each link is its place.

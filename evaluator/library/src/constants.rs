@@ -64,9 +64,10 @@ fn most_minimal() -> u64 {
 
 /// The bytes of a report that has the longest of each line.
 fn longest_report() -> u64 {
-    let rounds = 3u64.pow(CAUSES as u32) * ATOMS as u64;
+    let most = 3u64.pow(CAUSES as u32) * ATOMS as u64;
     let verdicts = "(verdict unexplained)\n".repeat(QUERIES);
-    let head = format!("{verdicts}(rounds {rounds})\n(minimal {} {LIST_SLOTS})\n", most_minimal());
+    let sums = format!("(rounds {most})\n(decided {most})\n");
+    let head = format!("{verdicts}{sums}(minimal {} {LIST_SLOTS})\n", most_minimal());
     let cause = format!("(cause{})\n", format!(" (false {})", "n".repeat(NAME_BYTES)).repeat(CAUSES));
     (head.len() + LIST_SLOTS * cause.len()) as u64
 }

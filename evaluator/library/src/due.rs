@@ -1,11 +1,12 @@
 //! What is due by the evaluator: of a reading, of a settled setting, of a question, of layers.
 
-use crate::calls::{QuestionDue, ReadDue, ASKED_WORDS, LAYERS_WORDS};
+use crate::calls::{QuestionDue, ReadDue, ASKED_WORDS, LAYERS_WORDS, SETTLED_WORDS};
 use crate::held::{padded, Held, ATOMS, QUERIES, RECORD_WORDS};
 use evaluator::case::Case;
 use evaluator::file;
 use evaluator::formula::{Value, FALSE, TRUE};
 use evaluator::layers::{dependence, is_ring, numbers, Dependence};
+use evaluator::model::Settled;
 use evaluator::question::{ask, Engine, Findings};
 use evaluator::verdict::Verdict;
 
@@ -48,15 +49,15 @@ impl Settling {
         3u64.pow(self.engine.causes.len() as u32)
     }
 
-    /// The least model of the setting `s`, by atom, and its rounds.
-    pub fn model(&mut self, s: u64) -> (Vec<Value>, u64) {
+    /// What the setting `s` settles to: its least model by atom, and what each round newly decided.
+    pub fn settled(&mut self, s: u64) -> Settled {
         self.engine.settle_setting(s as usize)
     }
 
-    /// The true atoms, the false atoms and the rounds of the setting `s`.
-    pub fn words(&mut self, s: u64) -> [u64; 3] {
-        let (model, rounds) = self.model(s);
-        [mask(&model, TRUE), mask(&model, FALSE), rounds]
+    /// The true atoms, the false atoms, the rounds and the number of decided atoms of the setting `s`.
+    pub fn words(&mut self, s: u64) -> [u64; SETTLED_WORDS] {
+        let settled = self.settled(s);
+        [mask(&settled.model, TRUE), mask(&settled.model, FALSE), settled.rounds(), settled.decided()]
     }
 }
 
@@ -99,7 +100,7 @@ impl Asking {
         for s in &self.findings.minimal {
             work[*s] = 2;
         }
-        let counts = [self.minimal() as u64, listed as u64, self.findings.rounds];
+        let counts = [self.minimal() as u64, listed as u64, self.findings.rounds, self.findings.decided];
         QuestionDue {
             refusal: 0,
             answer: padded(self.verdicts(), QUERIES).into_iter().chain(counts).collect(),

@@ -1,7 +1,8 @@
 //! Families of calls whose memory begins where a page ends that can't be touched; in all others it ends where one
 //! begins.
 
-use crate::calls::{layers, question, read, settle, LayersDue, Room, Sizes, ASKED_WORDS, LAYERS_WORDS};
+use crate::calls::{layers, question, read, settle, LayersDue, Room, Sizes};
+use crate::calls::{ASKED_WORDS, LAYERS_WORDS, SETTLED_WORDS};
 use crate::corpus::{generated, refused_files, stored, Input, EACH, M4};
 use crate::drawn::strewn;
 use crate::due::{self, Asking, Layering, Settling};
@@ -35,7 +36,7 @@ fn cases(tests: &mut Tests, inputs: &[Input]) {
         let last = settling.settings() - 1;
         for s in [0, last] {
             let due = settling.words(s);
-            tests.call(|| format!("{}, setting {s}", input.name), settle(&held, s, 3, (0, &due)));
+            tests.call(|| format!("{}, setting {s}", input.name), settle(&held, s, SETTLED_WORDS, (0, &due)));
         }
         let layering = Layering::of(&case);
         let complaints = layers(&held, LAYERS_WORDS, &LayersDue::Told(&layering));

@@ -1,7 +1,7 @@
 //! Families of the C headers: a program in C (c/caller.c) that names every constant, calls every function and prints
 //! what it gets, compared with the evaluator.
 
-use crate::calls::LAYERS_WORDS;
+use crate::calls::{LAYERS_WORDS, SETTLED_WORDS};
 use crate::constants::{due as constants, refusal};
 use crate::corpus::{all_folders, refused_files, Input, EACH, M4};
 use crate::due::{self, unasked, Asking, Layering, Settling};
@@ -80,7 +80,7 @@ struct Lent {
 
 /// What settling and the question of a file answer: a number and the words each, then the list and the work area.
 struct Answers {
-    settled: (u32, [u64; 3]),
+    settled: (u32, [u64; SETTLED_WORDS]),
     question: (u32, Vec<u64>),
     list: Vec<u16>,
     work: Vec<u8>,
@@ -89,11 +89,11 @@ struct Answers {
 /// The answers due for `bytes`; a refused file leaves a record that is not sound.
 fn answers(bytes: &[u8], lent: &Lent) -> Answers {
     let (settled, due) = match file::read(bytes) {
-        Err(_) => ((13, [0; 3]), unasked(13)),
+        Err(_) => ((13, [0; SETTLED_WORDS]), unasked(13)),
         Ok(case) => {
             let mut settling = Settling::of(case.clone());
             let past = lent.setting >= settling.settings();
-            let settled = if past { (14, [0; 3]) } else { (0, settling.words(lent.setting)) };
+            let settled = if past { (14, [0; SETTLED_WORDS]) } else { (0, settling.words(lent.setting)) };
             let asking = Asking::of(case);
             (settled, if lent.work < asking.settings() { unasked(15) } else { asking.due(lent.slots) })
         }
@@ -196,10 +196,9 @@ fn by_struct(bytes: &[u8], lent: &Lent) -> Vec<u8> {
         let name = names.get(atom).map_or(untouched, |name| name.clone().into_bytes());
         rows.push([b"name ".as_slice(), &name, b"\n"].concat());
     }
-    let [trues, falses, rounds] = answers.settled.1;
     let (verdicts, counts) = answers.question.1.split_at(QUERIES);
     let answered = if answers.question.0 == 0 { queries } else { 0 };
-    let mut rest = format!("settle {} {trues} {falses} {rounds}\n", refusal(answers.settled.0));
+    let mut rest = format!("settle {}{}", refusal(answers.settled.0), line("", answers.settled.1));
     rest += &(question_line(&answers.question, answered) + &line("verdicts", verdicts) + &line("counts", counts));
     rest += &(line("list", &answers.list) + &line("work", &answers.work));
     rest += &layers_line(bytes);

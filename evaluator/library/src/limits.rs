@@ -1,7 +1,7 @@
 //! Families of sound cases at each limit, and with parts past the formulas that are no formulas, and kinds past the
 //! constraints that are no kinds.
 
-use crate::calls::{layers, question, settle, LayersDue, Room, ASKED_WORDS, LAYERS_WORDS};
+use crate::calls::{layers, question, settle, LayersDue, Room, ASKED_WORDS, LAYERS_WORDS, SETTLED_WORDS};
 use crate::case_sizes::refused;
 use crate::drawn::{deep, drawn, strewn, Shape};
 use crate::due::{Asking, Layering, Settling};
@@ -30,7 +30,7 @@ pub fn accepted(tests: &mut Tests, what: &str, case: Case, held: &Held) {
     let mut settling = Settling::of(case.clone());
     for s in [0, settling.settings() - 1, settling.settings() / 2] {
         let due = settling.words(s);
-        tests.call(|| format!("{what}, settle {s}"), settle(held, s, 3, (0, &due)));
+        tests.call(|| format!("{what}, settle {s}"), settle(held, s, SETTLED_WORDS, (0, &due)));
     }
     let layering = Layering::of(&case);
     tests.call(|| format!("{what}, layers"), layers(held, LAYERS_WORDS, &LayersDue::Told(&layering)));

@@ -1,9 +1,10 @@
 //! Families of M1 to M10, and of M6 with `avoid`, read into tables that are worked out by hand; settled, asked and
 //! layered from these.
 //!
-//! From: document 01, Ten marked files; Case tables and sound cases; document 02, [5].
+//! From: document 01, Ten marked files; Case tables and sound cases; document 02, [5], [6].
 
-use crate::calls::{layers, question, read, settle, LayersDue, ReadDue, Room, Sizes, ASKED_WORDS, LAYERS_WORDS};
+use crate::calls::{layers, question, read, settle, LayersDue, ReadDue, Room, Sizes};
+use crate::calls::{ASKED_WORDS, DECIDED, LAYERS_WORDS, ROUNDS, SETTLED_WORDS};
 use crate::corpus::stored;
 use crate::due::{self, Asking, Layering, Settling};
 use crate::held::{Held, NODES};
@@ -27,6 +28,21 @@ const MARKED: [Marked; 11] = [
     ("m08", [1, 0, 0, 1, 0, 0], &[], &[], &[67, 0, 0], &["a"], 2),
     ("m09", [2, 1, 0, 1, 0, 1], &[128, 2, 2], &[], &[0], &["b", "a"], 4),
     ("m10", [1, 2, 0, 1, 0, 0], &[0, 0, 0, 64, 0, 0], &[], &[0], &["a"], 1),
+];
+
+/// The decided atoms of their settings, by the setting's number.
+const DECIDED_ATOMS: [&[u64]; 11] = [
+    &[1, 3, 3],
+    &[0, 1, 1],
+    &[0],
+    &M4_DECIDED,
+    &M4_DECIDED,
+    &M4_DECIDED,
+    &M4_DECIDED,
+    &[0, 1, 1],
+    &[0, 1, 1],
+    &[0, 2, 2],
+    &[1],
 ];
 
 /// The least numbers of their atoms, none for a ring.
@@ -61,6 +77,8 @@ const LISTS: [(&[u16], u64); 11] = [
 
 const M4_CLAUSES: [u64; 12] = [128, 2, 4, 128, 8, 16, 66, 0, 0, 68, 0, 0];
 const M4_NAMES: [&str; 5] = ["low", "shut", "ab1", "stopped", "ab2"];
+/// Both abnormalities everywhere, a cause where its digit is not 0, `low` where one cause is true or both are false.
+const M4_DECIDED: [u64; 9] = [2, 4, 3, 4, 5, 5, 3, 5, 5];
 
 /// The record and the tables of a marked file.
 fn held((_, record, clauses, constraints, formula, names, _): Marked) -> Held {
@@ -102,31 +120,35 @@ fn reads(tests: &mut Tests, folder: &Path) {
 /// Settles every setting from the tables by hand, and the one past the last.
 fn settles(tests: &mut Tests) {
     tests.family("settle: M1 to M10, tables by hand");
-    for row in MARKED {
+    for (row, decided) in MARKED.into_iter().zip(DECIDED_ATOMS) {
         let (name, .., rounds) = row;
         let held = held(row);
         let mut settling = Settling::of(held.case());
+        tests.require(&format!("{name}: its settings"), settling.settings() == decided.len() as u64);
         let mut sum = 0;
-        for s in 0..settling.settings() {
+        for (s, decided) in (0..).zip(decided) {
             let due = settling.words(s);
+            tests.require(&format!("{name}, setting {s}: {decided} decided atoms"), due[3] == *decided);
             sum += due[2];
-            tests.call(|| format!("{name}, setting {s}"), settle(&held, s, 3, (0, &due)));
+            tests.call(|| format!("{name}, setting {s}"), settle(&held, s, SETTLED_WORDS, (0, &due)));
         }
         tests.require(&format!("{name}: {rounds} rounds"), sum == rounds);
         let past = settling.settings();
-        tests.call(|| format!("{name}, setting {past}"), settle(&held, past, 3, (14, &[0; 3])));
+        tests.call(|| format!("{name}, setting {past}"), settle(&held, past, SETTLED_WORDS, (14, &[0; SETTLED_WORDS])));
     }
 }
 
 /// The question from the tables by hand, with a list of two slots.
 fn questions(tests: &mut Tests) {
     tests.family("question: M1 to M10, lists by hand");
-    for (row, (list, verdict)) in MARKED.into_iter().zip(LISTS) {
+    for ((row, decided), (list, verdict)) in MARKED.into_iter().zip(DECIDED_ATOMS).zip(LISTS) {
         let held = held(row);
         let asking = Asking::of(held.case());
         let due = asking.due(2);
         let own = (due.list.as_slice(), asking.minimal(), asking.verdicts());
         tests.require(&format!("{}: the evaluator's list", row.0), own == (list, list.len(), vec![verdict]));
+        let sums = (due.answer[ROUNDS], due.answer[DECIDED]);
+        tests.require(&format!("{}: the evaluator's sums", row.0), sums == (row.6, decided.iter().sum()));
         let room = Room { list: 2, work: asking.settings(), answer: ASKED_WORDS };
         tests.call(|| String::from(row.0), question(&held, room, &due));
     }

@@ -1,6 +1,6 @@
 //! Families of the Rust module's case, which owns its record and tables, and of its report.
 
-use crate::calls::{layers_words, ASKED_WORDS};
+use crate::calls::{layers_words, DECIDED, ROUNDS};
 use crate::corpus::{stored, Input};
 use crate::due::{Asking, Layering, Settling};
 use crate::held::Held;
@@ -67,7 +67,7 @@ fn questions(tests: &mut Tests, inputs: &[Input]) {
         let mut settling = Settling::of(said.clone());
         let end = settling.settings();
         for s in [0, end / 2, end - 1] {
-            let got = case.settle(s).map(|a| [a.trues, a.falses, a.rounds]);
+            let got = case.settle(s).map(|a| [a.trues, a.falses, a.rounds, u64::from(a.decided)]);
             tests.call(name, differing(Ok(settling.words(s)), got));
             let got = case.explanation(s).map(|e| (e.setting, e.to_string()));
             tests.call(name, differing(Ok((s, line(&said, s as usize))), got));
@@ -90,7 +90,8 @@ fn asked(said: &evaluator::case::Case, case: &Case) -> Complaints {
     let named = got.explanations.iter().all(|e| e.causes.iter().all(|c| said.names.iter().any(|n| n == c.name)));
     [
         differing(asking.verdicts(), verdicts),
-        differing((due.answer[0], due.answer[ASKED_WORDS - 1]), (got.verdict() as u64, got.rounds)),
+        differing(due.answer[0], got.verdict() as u64),
+        differing((due.answer[ROUNDS], due.answer[DECIDED]), (got.rounds, got.decided)),
         differing(due.list.iter().map(|s| u64::from(*s)).collect(), settings),
         differing(due_lines, lines),
         differing(true, named),

@@ -1,12 +1,12 @@
-//! Families of settling: settings of stored, generated and drawn cases, the rounds that stored reports tell, and
-//! settings past the last.
+//! Families of settling: settings of stored, generated and drawn cases, the sums that stored reports tell and that the
+//! question answers, and settings past the last.
 
-use crate::calls::settle;
+use crate::calls::{asked_words, settle, settled_words, DECIDED, ROUNDS, SETTLED_WORDS};
 use crate::corpus::{folders, generated, some_accepted, Input};
 use crate::drawn::{drawn, small, strewn};
 use crate::due::Settling;
 use crate::held::Held;
-use crate::tests::{differing, Tests};
+use crate::tests::{differing, Complaints, Tests};
 use crate::wrappers::{record, tables};
 use causes::lent;
 use evaluator::case::{causes, Case};
@@ -37,7 +37,7 @@ fn case_settings(tests: &mut Tests, name: &str, case: Case, held: &Held) {
     let mut settling = Settling::of(case);
     for s in some_settings(settling.settings()) {
         let due = settling.words(s);
-        tests.call(|| format!("{name}, setting {s}"), settle(held, s, 3 + s as usize % 3, (0, &due)));
+        tests.call(|| format!("{name}, setting {s}"), settle(held, s, SETTLED_WORDS + s as usize % 3, (0, &due)));
     }
 }
 
@@ -53,23 +53,61 @@ fn files(tests: &mut Tests, name: &str, inputs: &[Input]) {
     }
 }
 
-/// The rounds over all settings that the report `text` tells, none if it tells a refusal.
-fn told_rounds(text: &[u8]) -> Option<u64> {
+/// The number that the report `text` tells behind `word`, none if it tells a refusal.
+fn told(text: &[u8], word: &str) -> Option<u64> {
     let text = std::str::from_utf8(text).expect("a report in ASCII");
-    text.lines().find_map(|line| line.strip_prefix("(rounds ")?.strip_suffix(')')?.parse().ok())
+    text.lines().find_map(|line| line.strip_prefix(word)?.strip_suffix(')')?.parse().ok())
 }
 
-/// The rounds that settling every setting of a stored file gives, held to its report.
+/// The rounds and the decided atoms that settling every setting of a stored file gives, held to its report.
 fn sums(tests: &mut Tests, folder: &Path) {
-    tests.family("settle: rounds over all settings, by the stored reports");
+    tests.family("settle: sums over all settings, by the stored reports");
     for input in folders(folder).into_iter().flat_map(|(_, inputs)| inputs) {
-        let Some(rounds) = input.report.as_deref().and_then(told_rounds) else { continue };
+        let report = input.report.as_deref().expect("a stored report");
+        let Some(rounds) = told(report, "(rounds ") else { continue };
+        let decided = told(report, "(decided ");
         let case = file::read(&input.bytes).unwrap_or_else(|r| panic!("{}: refused with {}", input.name, r.number));
         let held = Held::of(&case);
         let (record, tables) = (record(&case, &held), tables(&held));
         let end = 3u64.pow(causes(case.names.len(), &case.clauses).len() as u32);
-        let settled = (0..end).map(|s| lent::settle(&record, &tables, s).map(|a| a.rounds));
-        tests.call(|| input.name.clone(), differing(Ok(rounds), settled.sum()));
+        let settled: Result<Vec<_>, _> = (0..end).map(|s| lent::settle(&record, &tables, s)).collect();
+        let sums = settled.map(|all| {
+            let decided = all.iter().map(|a| u64::from(a.decided)).sum();
+            (all.iter().map(|a| a.rounds).sum(), Some(decided))
+        });
+        tests.call(|| input.name.clone(), differing(Ok((rounds, decided)), sums));
+    }
+}
+
+/// The answers to `held`, which has `settings` settings, by themselves: a setting's decided atoms are the ones in its
+/// words, and the sums over all settings are what the question answers.
+fn adds_up(held: &Held, settings: u64) -> Complaints {
+    let settled = settled_words(held, settings);
+    let ones = |words: &[u64; SETTLED_WORDS]| u64::from(words[0].count_ones() + words[1].count_ones());
+    let sum = |place: usize| settled.iter().map(|words| words[place]).sum::<u64>();
+    let asked = asked_words(held, settings);
+    [
+        differing(settled.iter().map(ones).collect::<Vec<_>>(), settled.iter().map(|words| words[3]).collect()),
+        differing((sum(2), sum(3)), (asked[ROUNDS], asked[DECIDED])),
+    ]
+    .concat()
+}
+
+/// Whether settling and the question agree on generated and drawn cases, whatever the evaluator says.
+fn agreement(tests: &mut Tests) {
+    tests.family("settle: sums over all settings, as the question answers them");
+    for input in generated(SEEDS, |s| s % 2 == 0 && s % 20 != 0) {
+        let Ok(case) = file::read(&input.bytes) else { continue };
+        let end = 3u64.pow(causes(case.names.len(), &case.clauses).len() as u32);
+        tests.call(|| input.name.clone(), adds_up(&Held::of(&case), end));
+    }
+    for seed in 0..DRAWN {
+        let mut random = Random::new(seed);
+        let shape = small(&mut random);
+        let case = drawn(&mut random, shape);
+        let end = 3u64.pow(causes(case.names.len(), &case.clauses).len() as u32);
+        let held = strewn(&mut random, &Held::of(&case));
+        tests.call(|| format!("drawn, seed {seed}"), adds_up(&held, end));
     }
 }
 
@@ -102,11 +140,14 @@ fn past_the_last(tests: &mut Tests) {
             let end = settling.settings();
             tests.require("3^k settings", end == 3u64.pow(causes as u32));
             let due = settling.words(end - 1);
-            tests.call(|| format!("seed {seed}, the last"), settle(&held, end - 1, 3, (0, &due)));
+            tests.call(|| format!("seed {seed}, the last"), settle(&held, end - 1, SETTLED_WORDS, (0, &due)));
             let past =
                 [end, end + 1, 2 * end, 3 * end, 59_049, 65_536, 1 << 32, (1 << 32) + end - 1, 1 << 63, u64::MAX];
             for s in past.into_iter().filter(|s| *s >= end) {
-                tests.call(|| format!("seed {seed}, setting {s}"), settle(&held, s, 4, (14, &[0; 3])));
+                tests.call(
+                    || format!("seed {seed}, setting {s}"),
+                    settle(&held, s, SETTLED_WORDS + 1, (14, &[0; SETTLED_WORDS])),
+                );
             }
         }
     }
@@ -119,6 +160,7 @@ pub fn run(tests: &mut Tests, folder: &Path) {
     }
     files(tests, "settle: generated files", &generated(SEEDS, |s| s % 2 == 0));
     sums(tests, folder);
+    agreement(tests);
     drawn_cases(tests);
     past_the_last(tests);
 }

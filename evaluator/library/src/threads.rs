@@ -1,6 +1,7 @@
 //! A family of calls from several threads at once: each gets what it gets alone.
 
-use crate::calls::{layers, question, read, settle, LayersDue, Room, Sizes, ASKED_WORDS, LAYERS_WORDS};
+use crate::calls::{layers, question, read, settle, LayersDue, Room, Sizes};
+use crate::calls::{ASKED_WORDS, LAYERS_WORDS, SETTLED_WORDS};
 use crate::corpus::{generated, Input};
 use crate::due::{self, Asking, Layering, Settling};
 use crate::held::Held;
@@ -18,7 +19,7 @@ fn calls(input: &Input) -> Vec<Complaints> {
     if let Ok(case) = file::read(&input.bytes) {
         let held = Held::of(&case);
         let due = Settling::of(case.clone()).words(0);
-        found.push(settle(&held, 0, 3, (0, &due)));
+        found.push(settle(&held, 0, SETTLED_WORDS, (0, &due)));
         found.push(layers(&held, LAYERS_WORDS, &LayersDue::Told(&Layering::of(&case))));
         let asking = Asking::of(case);
         let room = Room { list: 2, work: asking.settings(), answer: ASKED_WORDS };

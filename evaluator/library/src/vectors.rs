@@ -57,7 +57,8 @@ impl Lent {
     /// The answer of settling `setting`.
     fn settled(&self, setting: u64) -> Result<Answered, Refusal> {
         let a = lent::settle(&self.record, &self.tables, setting)?;
-        Ok(Answered::Settled { truths: a.trues, falsehoods: a.falses, rounds: a.rounds })
+        let decided = u64::from(a.decided);
+        Ok(Answered::Settled { truths: a.trues, falsehoods: a.falses, rounds: a.rounds, decided })
     }
 
     /// The answer of the layers, with the ring told.
@@ -75,7 +76,8 @@ impl Lent {
         let a = lent::question(&self.record, &self.tables, &mut list, &mut work)?;
         list.truncate(a.listed);
         let verdicts = a.verdicts().iter().map(|verdict| *verdict as u64).collect();
-        Ok(Answered::Asked { verdicts, minimal: a.minimal as usize, rounds: a.rounds, list, work })
+        let (minimal, rounds, decided) = (a.minimal as usize, a.rounds, a.decided);
+        Ok(Answered::Asked { verdicts, minimal, rounds, decided, list, work })
     }
 }
 

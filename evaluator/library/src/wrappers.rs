@@ -98,7 +98,7 @@ fn cases(tests: &mut Tests, inputs: &[Input]) {
         let got = lent::question(&record, &tables, &mut list, &mut work);
         let shown = got.map(|a| {
             let verdicts: Vec<u64> = a.verdicts().iter().map(|verdict| *verdict as u64).collect();
-            [padded(verdicts, QUERIES), vec![a.minimal, a.listed as u64, a.rounds]].concat()
+            [padded(verdicts, QUERIES), vec![a.minimal, a.listed as u64, a.rounds, a.decided]].concat()
         });
         tests.call(name, differing(Ok(asking.verdicts().len()), got.map(|a| a.verdicts().len())));
         let listed = due.list.len();
@@ -117,10 +117,10 @@ fn cases(tests: &mut Tests, inputs: &[Input]) {
 
 /// The complaints on the setting `s` as `got` has it, atom by atom.
 fn settled(settling: &mut Settling, s: u64, got: Result<lent::Settled, Refusal>) -> Complaints {
-    let (model, rounds) = settling.model(s);
-    let due = Ok((mask(&model, TRUE), mask(&model, FALSE), rounds));
-    let mut complaints = differing(due, got.map(|a| (a.trues, a.falses, a.rounds)));
-    for (atom, value) in model.iter().enumerate() {
+    let own = settling.settled(s);
+    let due = Ok((mask(&own.model, TRUE), mask(&own.model, FALSE), own.rounds(), own.decided()));
+    let mut complaints = differing(due, got.map(|a| (a.trues, a.falses, a.rounds, u64::from(a.decided))));
+    for (atom, value) in own.model.iter().enumerate() {
         let value = match *value {
             TRUE => Some(true),
             FALSE => Some(false),

@@ -1,5 +1,5 @@
-//! Answers M4 of document 01: reads the case, asks its question, prints settings, rounds and verdict, then the report.
-//! The exit status is 1 where an answer is not document 01's.
+//! Answers M4 of document 01: reads the case, asks its question, prints settings, rounds, decided atoms and verdict,
+//! then the report. The exit status is 1 where an answer is not that of documents 01 and 02.
 
 use causes::{Case, Refusal, Verdict};
 use std::process::ExitCode;
@@ -14,21 +14,22 @@ const FILE: &[u8] = b"(if low shut (not ab1))
 
 const REPORT: &[u8] = b"(verdict open)
 (rounds 15)
+(decided 36)
 (minimal 2 2)
 (cause (true shut))
 (cause (true stopped))
 ";
 
-/// Asks the file's question; whether the answer is list 1, 3; rounds 15; open.
+/// Asks the file's question; whether the answer is list 1, 3; rounds 15; decided 36; open.
 fn question_answered() -> Result<bool, Refusal> {
     let case = Case::read(FILE)?;
     let answer = case.question();
     let list: Vec<u64> = answer.explanations.iter().map(|explanation| explanation.setting).collect();
-    println!("list: {list:?}\nrounds: {}\nverdict: {}", answer.rounds, answer.verdict());
-    Ok(answer.verdicts == [Verdict::Open] && answer.rounds == 15 && list == [1, 3])
+    println!("list: {list:?}\nrounds: {}\ndecided: {}\nverdict: {}", answer.rounds, answer.decided, answer.verdict());
+    Ok(answer.verdicts == [Verdict::Open] && answer.rounds == 15 && answer.decided == 36 && list == [1, 3])
 }
 
-/// Prints the file's report; whether it is document 01's.
+/// Prints the file's report; whether it is that of documents 01 and 02.
 fn report_written() -> Result<bool, Refusal> {
     let report = causes::report(FILE)?;
     print!("{}", String::from_utf8_lossy(&report));

@@ -11,6 +11,8 @@ pub struct Answer<'a> {
     pub verdicts: Vec<Verdict>,
     /// The rounds over all settings.
     pub rounds: u64,
+    /// The decided atoms of the least models of all settings, summed.
+    pub decided: u64,
     /// All minimal explanations, by rising number of their setting.
     pub explanations: Vec<Explanation<'a>>,
 }

@@ -15,6 +15,7 @@ use crate::Refusal;
 /// assert_eq!(case.settings(), 3);
 /// let shut = case.settle(1)?;
 /// assert_eq!((shut.value(0), shut.value(1), shut.value(2)), (Some(true), Some(true), Some(false)));
+/// assert_eq!((shut.rounds, shut.decided), (2, 3));
 /// assert_eq!(case.explanation(1)?.to_string(), "(cause (true shut))");
 /// # Ok::<(), causes::Refusal>(())
 /// ```
@@ -79,7 +80,7 @@ impl Case {
         let causes = self.causes();
         let explanations =
             list[..answer.listed].iter().map(|setting| self.named(&causes, u64::from(*setting))).collect();
-        Answer { verdicts: answer.verdicts().to_vec(), rounds: answer.rounds, explanations }
+        Answer { verdicts: answer.verdicts().to_vec(), rounds: answer.rounds, decided: answer.decided, explanations }
     }
 
     /// The least number of each atom, or a ring of rules where there are no numbers.
@@ -138,7 +139,7 @@ impl Case {
 ///
 /// ```
 /// let report = causes::report(b"(query a)\n")?;
-/// assert_eq!(report, b"(verdict open)\n(rounds 2)\n(minimal 1 1)\n(cause)\n");
+/// assert_eq!(report, b"(verdict open)\n(rounds 2)\n(decided 2)\n(minimal 1 1)\n(cause)\n");
 /// # Ok::<(), causes::Refusal>(())
 /// ```
 pub fn report(file: &[u8]) -> Result<Vec<u8>, Refusal> {

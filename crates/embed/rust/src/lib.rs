@@ -24,7 +24,7 @@
 //! let case = causes::Case::read(file)?;
 //! let answer = case.question();
 //! assert_eq!(answer.verdict(), causes::Verdict::Open);
-//! assert_eq!(answer.rounds, 15);
+//! assert_eq!((answer.rounds, answer.decided), (15, 36));
 //! let lines: Vec<String> = answer.explanations.iter().map(|e| e.to_string()).collect();
 //! assert_eq!(lines, ["(cause (true shut))", "(cause (true stopped))"]);
 //! # Ok::<(), causes::Refusal>(())

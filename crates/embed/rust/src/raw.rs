@@ -24,7 +24,7 @@ extern "C" {
         answer_words: usize,
     ) -> u32;
 
-    /// Settles one setting of a case; answer: the true atoms, the false atoms, the rounds.
+    /// Settles one setting of a case; answer: the true atoms, the false atoms, the rounds, how many are decided.
     pub fn causes_settle(
         record: *const u64,
         record_words: usize,
@@ -39,7 +39,8 @@ extern "C" {
         answer_words: usize,
     ) -> u32;
 
-    /// Answers the question of a case; answer: 16 verdicts, number of minimal explanations, how many listed, rounds.
+    /// Answers the question of a case; answer: 16 verdicts, number of minimal explanations, how many listed, rounds,
+    /// decided total.
     pub fn causes_question(
         record: *const u64,
         record_words: usize,

@@ -1,6 +1,6 @@
 //! The sizes of lent memory, in elements.
 //!
-//! From: document 01, Case tables and sound cases; What each operation refuses; document 02, `[1]` and `[5]`.
+//! From: document 01, Case tables and sound cases; What each operation refuses; document 02, `[1]`, `[5]` and `[6]`.
 
 /// Words of the clause table, three a clause.
 pub const CLAUSE_WORDS: usize = 768;
@@ -39,4 +39,4 @@ pub const SETTINGS: usize = 59_049;
 pub const MINIMAL: usize = 15_360;
 
 /// The longest report: an output of so many bytes is long enough for each.
-pub const REPORT_BYTES: usize = 264_582;
+pub const REPORT_BYTES: usize = 264_600;

@@ -7,7 +7,7 @@ use super::tables::{Record, Tables};
 use crate::sizes::{ATOMS, QUERIES, RECORD_WORDS};
 use crate::{raw, Refusal, Verdict};
 
-/// A settled setting: its least model and its round count.
+/// A settled setting: its least model, its round count and how many atoms are decided.
 #[derive(Clone, Copy, Debug, PartialEq, Eq)]
 #[non_exhaustive]
 pub struct Settled {
@@ -17,6 +17,8 @@ pub struct Settled {
     pub falses: u64,
     /// The round count.
     pub rounds: u64,
+    /// The number of decided atoms, that is of true and false ones: the sum of what each round newly decided.
+    pub decided: u32,
 }
 
 impl Settled {
@@ -43,6 +45,8 @@ pub struct Answer {
     pub listed: usize,
     /// The rounds over all settings.
     pub rounds: u64,
+    /// The decided atoms over all settings: the sum of what [`Settled::decided`] is for each.
+    pub decided: u64,
 }
 
 impl Answer {
@@ -109,7 +113,7 @@ pub fn read(file: &[u8], tables: &mut Tables) -> Result<Record, Refusal> {
 /// Settles the setting `setting` of a case. Refuses with 13 and 14.
 pub fn settle(record: &Record, tables: &Tables, setting: u64) -> Result<Settled, Refusal> {
     let record = record.words();
-    let mut words = [0; 3];
+    let mut words = [0; 4];
     // SAFETY: each pointer comes with the length of its slice; the answer's words are local.
     let number = unsafe {
         raw::causes_settle(
@@ -126,8 +130,8 @@ pub fn settle(record: &Record, tables: &Tables, setting: u64) -> Result<Settled,
             words.len(),
         )
     };
-    let [trues, falses, rounds] = words;
-    accepted(number, 0).map(|()| Settled { trues, falses, rounds })
+    let [trues, falses, rounds, decided] = words;
+    accepted(number, 0).map(|()| Settled { trues, falses, rounds, decided: decided as u32 })
 }
 
 /// Answers the question of a case. `list` gets the minimal settings in rising order, as many as it has slots for;
@@ -136,7 +140,7 @@ pub fn settle(record: &Record, tables: &Tables, setting: u64) -> Result<Settled,
 pub fn question(record: &Record, tables: &Tables, list: &mut [u16], work: &mut [u8]) -> Result<Answer, Refusal> {
     let formulas = record.formulas as usize;
     let record = record.words();
-    let mut words = [0; QUERIES + 3];
+    let mut words = [0; QUERIES + 4];
     // SAFETY: each pointer comes with the length of its slice; list and work area are borrowed for writing.
     let number = unsafe {
         raw::causes_question(
@@ -156,9 +160,9 @@ pub fn question(record: &Record, tables: &Tables, list: &mut [u16], work: &mut [
             words.len(),
         )
     };
-    let [verdicts @ .., minimal, listed, rounds] = words;
+    let [verdicts @ .., minimal, listed, rounds, decided] = words;
     let verdicts = verdicts.map(|number| Verdict::from_number(number).expect("a verdict of document 01"));
-    accepted(number, 0).map(|()| Answer { formulas, verdicts, minimal, listed: listed as usize, rounds })
+    accepted(number, 0).map(|()| Answer { formulas, verdicts, minimal, listed: listed as usize, rounds, decided })
 }
 
 /// Numbers the atoms of a case by layers, or finds a ring where it isn't layered. Refuses with 13.
