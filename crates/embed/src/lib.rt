@@ -2,7 +2,7 @@
 // and writes the rest of its answer to lent words. A lent record or answer with too few words is refused with 1, and
 // nothing is touched.
 ghost use mathlib.Core.Path.{_≡_};
-ghost use mathlib.Core.List.{[], _∷_};
+ghost use mathlib.Core.List.{_∷_};
 ghost use Prim.Native.Nat.{_≤_};
 ghost use lib.ListN.{length};
 ghost use Rattle.words.specs.Bits.{digit};

@@ -1,10 +1,9 @@
 -- The decided atoms of lanes: counted atom by atom, they are those of each lane together. Assumes nothing.
-use mathlib.Core.Path.{_≡_, refl, sym, ap, ap₂, _∙_}
+use mathlib.Core.Path.{_≡_, sym, ap, ap₂, _∙_}
 use mathlib.Core.Bool.{_||_}
 use mathlib.Core.List.{List}
-use Prim.Native.Nat.{ℕ, suc, _+_, _*_, _^_, _≤_, _<_}
+use Prim.Native.Nat.{ℕ, _+_, _^_, _≤_, _<_}
 use native.Mathlib.Nat.{lt-of-le-of-lt}
-use native.Mathlib.Numerals.{add-one}
 use native.Mathlib.Omega.{arith}
 use lib.Bits.{bitAnd, bitOr, and-le-r}
 use lib.Count.{ones, ones-le}
@@ -13,7 +12,7 @@ use Rattle.words.specs.Below.{sum}
 use Rattle.words.specs.Bits.{has, digit}
 use Rattle.words.proofs.Bits.{has-or}
 use Rattle.words.proofs.Words.{has-word}
-use Rattle.words.proofs.Sums.{sum-ext, sum-swap, sum-le, ones-lowest}
+use Rattle.words.proofs.Sums.{sum-none, sum-more, sum-ext, sum-swap, sum-le, ones-lowest}
 use Rattle.logic.specs.Value.{isDecided}
 use Rattle.logic.specs.Interpretation.{valueAt, decidedIn}
 use Rattle.logic.proofs.Interpretations.{decided-at}
@@ -33,8 +32,7 @@ module _ (t f : List ℕ) (v : ℕ) where
     pub total-is : total ≡ sum a (λ b. ones (bitAnd (decidedLanes b) v))
 
   pub counting-start : Counting 0 0
-  unfolding sum
-  counting-start = record { below = omega arith; total-is = refl }
+  counting-start = record { below = omega arith; total-is = sym (sum-none _) }
 
   module _ {total a : ℕ} (c : Counting total a) where
     pub counting-small : {r : ℕ} → r ≡ ones (bitAnd (decidedLanes a) v) → v < 2 ^ 64 → total + r ≤ 5000
@@ -45,11 +43,9 @@ module _ (t f : List ℕ) (v : ℕ) where
         omega (arith, c .below, c .total-is, each, few a)
 
     pub counting-next : {r : ℕ} → r ≡ ones (bitAnd (decidedLanes a) v) → a < 64 → Counting (total + r) (a + 1)
-    unfolding sum
     counting-next e l = record {
       below = omega arith;
-      total-is = ap₂ _+_ (c .total-is) e
-          ∙ ap (λ (n : ℕ). sum n (λ b. ones (bitAnd (decidedLanes b) v))) (sym (add-one a));
+      total-is = ap₂ _+_ (c .total-is) e ∙ sum-more a (λ b. ones (bitAnd (decidedLanes b) v));
     }
 
     -- v has the lowest m bits

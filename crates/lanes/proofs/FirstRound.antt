@@ -1,15 +1,15 @@
 -- Where the lanes stand after the first round: each lane has the opening with its additions. Assumes nothing.
-use mathlib.Core.Path.{_≡_, refl, sym, ap, ap₂, _∙_}
+use mathlib.Core.Path.{_≡_, sym, ap, ap₂, _∙_}
 use mathlib.Core.Bool.{not, _&&_, _||_}
 use mathlib.Core.List.{List}
-use Prim.Native.Nat.{ℕ, zero, suc, _-_, _^_, _<_, min}
+use Prim.Native.Nat.{ℕ, _-_, _^_, _<_, min}
 use native.Mathlib.Omega.{arith}
 use lib.Bits.{bitAnd}
 use lib.Dec.{ltb}
-use Rattle.words.specs.Below.{sum}
 use Rattle.words.specs.Bits.{has}
 use Rattle.words.proofs.Bits.{has-zero, has-and, has-or, has-not, differs}
 use Rattle.words.proofs.Words.{has-word}
+use Rattle.words.proofs.Sums.{sum-zeros}
 use Rattle.words.proofs.Counts.{Within}
 use Rattle.logic.specs.declared.interpretation.Interpretation.{Interpretation}
 use Rattle.logic.specs.Interpretation.{nothing, sameIn}
@@ -107,16 +107,11 @@ module _ (cl : List ℕ) (n : ℕ) (o : Opening) (eo : o ≡ openingOf cl n) (ca
         b .atoms-are j a l q
         (sym (first-moved a q) ∙ ap (λ (w : Interpretation). has (changed w nothing) a) first-column ∙ h)
 
-  no-round : (m : ℕ) → sum m (λ j. min 0 (roundCount (programWith cl n (x j)))) ≡ 0
-  unfolding sum
-  no-round zero = refl
-  no-round (suc i) = omega (arith, no-round i)
-
   pub settling-start : (m : ℕ) → Settling cl n x m t f c 0 0
   settling-start m = record {
     sizes = b .sizes;
     columns-are = first-column;
     lanes-are = first-lane;
     atoms-are = first-atoms;
-    total-is = sym (no-round m);
+    total-is = sym (sum-zeros m (λ j. min 0 (roundCount (programWith cl n (x j)))) (λ j l. omega arith));
   }

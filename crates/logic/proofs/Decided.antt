@@ -89,7 +89,8 @@ module _ (i j : Interpretation) where
 
   pub newly-counted : i .trues < 2 ^ 64 → i .falses < 2 ^ 64 → Good j → decidedIn newlyIn ≡ newlyDecided i j
   newly-counted t f h =
-      ones-joined 64 (newlyIn .trues) (newlyIn .falses) (cut (j .trues) (h .trues-fit)) (cut (j .falses) (h .falses-fit))
+      ones-joined 64 (newlyIn .trues) (newlyIn .falses) (cut (j .trues) (h .trues-fit))
+      (cut (j .falses) (h .falses-fit))
       (λ a l. ap₂ _&&_ (has-and (j .trues) openIn a) (has-and (j .falses) openIn a)
       ∙ apart (has (j .trues) a) (has (j .falses) a) (has openIn a) (apart-at j (h .disjoint) a))
       ∙ sum-ext 64 _ (λ a. digit (newlyAt a)) (λ a l. ap digit (newly a l))

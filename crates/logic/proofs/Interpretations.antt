@@ -2,9 +2,8 @@
 use mathlib.Core.Path.{_≡_, refl, sym, ap, ap₂, _∙_}
 use mathlib.Core.Bool.{Bool, true, false, not, _&&_, _||_, or-true, or-false, and-true, and-false}
 use mathlib.Core.Bool.{true≢false, Bool·not-not}
-use mathlib.Core.Logic.{_⊎_, inl, inr, ⊎-elim}
+use mathlib.Core.Logic.{⊎-elim}
 use Prim.Native.Nat.{ℕ, _-_, _^_, _≤_, _<_}
-use native.Mathlib.Omega.{arith}
 use lib.Dec.{eqb, lit<}
 use lib.Bits.{bitAnd, bitOr, bitXor, and-lt, or-lt, xor-lt}
 use borrow.Author.Tests.{eqb-true, eq-eqb}
@@ -20,7 +19,7 @@ use Rattle.logic.specs.declared.value.Value.{Value}
 use Rattle.logic.specs.declared.value.Value.the-variants.{Unknown}
 use Rattle.logic.specs.declared.interpretation.Interpretation.{Interpretation}
 use Rattle.logic.specs.Value.{isTrue, isFalse, isDecided}
-use Rattle.logic.specs.Interpretation.{nothing, among, valueAt, ofValues, decidedIn, Disjoint, sameIn}
+use Rattle.logic.specs.Interpretation.{nothing, among, valueAt, ofValues, Disjoint, sameIn}
 use Rattle.logic.specs.Assigned.{assigned}
 use Rattle.logic.specs.Order.{Contained}
 use Rattle.logic.proofs.Values.{by-tests, not-both, true-among, false-among, decided-among}

@@ -1,6 +1,6 @@
 -- Laws of the order of information: a partial order that the connectives keep. Assumes nothing.
 use mathlib.Core.Path.{_≡_, refl, sym, _∙_}
-use mathlib.Core.Bool.{Bool, true, false, _||_, false≢true}
+use mathlib.Core.Bool.{Bool, true, false, false≢true}
 use Rattle.words.proofs.Tests.{Gives, or-gives, and-gives}
 use Rattle.logic.specs.declared.value.Value.{Value}
 use Rattle.logic.specs.declared.value.Value.the-variants.{False, Unknown, True}

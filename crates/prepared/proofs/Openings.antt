@@ -11,7 +11,6 @@ use Rattle.words.proofs.Bits.{has-zero, has-and, has-or, has-not}
 use Rattle.words.proofs.Words.{word-lt, has-word, is-word}
 use Rattle.logic.specs.declared.value.Value.{Value}
 use Rattle.logic.specs.declared.value.Value.the-variants.{False, Unknown, True}
-use Rattle.logic.specs.declared.interpretation.Interpretation.{Interpretation}
 use Rattle.logic.specs.Value.{isTrue, isFalse, greater}
 use Rattle.logic.specs.Formula.{Formula, valueOf, anyOf}
 use Rattle.logic.specs.Interpretation.{nothing, valueAt}

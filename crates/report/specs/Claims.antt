@@ -56,8 +56,8 @@ abbrev pub VerdictsOnQueries : Type 0
 VerdictsOnQueries = (f : List ℕ) (st : Said) → readFile f ≡ Outcome.case st
     → verdictsIn st ≡ map (verdictOn st) (fileContent f .queries)
 
--- the report of an accepted file with one query line, whose formula is g: one verdict, the rounds, the decided atoms, how
--- many minimal settings there are and are listed, and the listed ones
+-- the report of an accepted file with one query line, whose formula is g: one verdict, the rounds, the decided atoms,
+-- how many minimal settings there are and are listed, and the listed ones
 abbrev pub OneQuery : Type 0
 OneQuery = (f : List ℕ) (st : Said) (g : Formula) → length f ≤ 32768 → readFile f ≡ Outcome.case st
     → fileContent f .queries ≡ (g ∷ [])

@@ -4,8 +4,8 @@
 --   listLength             the slots of the program's list
 --   judgeIn st             the judge of what a file says
 --   causesIn st            its causes; minimalsOf st its minimal settings
---   roundsOf st            the rounds over all settings; decidedOf st the decided atoms; totalsOf st both with the number
---                          of minimal settings
+--   roundsOf st            the rounds over all settings; decidedOf st the decided atoms
+--   totalsOf st            both, and the number of minimal settings
 --   shownOf a              those numbers of an answer of the question
 --   verdictsIn st          its verdicts, in file order; verdictNumbers st their numbers
 --   outcomeText said o     the text of an outcome of reading, where said gives that of what a file says

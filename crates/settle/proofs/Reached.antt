@@ -10,8 +10,8 @@ use native.Mathlib.Numerals.{add-one}
 use native.Mathlib.Omega.{arith}
 use lib.Count.{ones}
 use borrow.Author.Count.{below-more}
-use Rattle.words.specs.Below.{sum}
 use Rattle.words.proofs.Below.{first-is}
+use Rattle.words.proofs.Sums.{sum-none, sum-more}
 use Rattle.logic.specs.declared.value.Value.{Value}
 use Rattle.logic.specs.declared.interpretation.Interpretation.{Interpretation}
 use Rattle.logic.specs.Interpretation.{nothing, valueAt, decidedIn}
@@ -74,11 +74,12 @@ module _ (p : List Clause) (s : Steady p) where
 
   -- the atoms newly decided by k rounds are those decided after them
   pub sum-decided : (k : ℕ) → decidedSum p k ≡ decidedIn (rounds p k)
-  unfolding rounds sum ones
-  sum-decided zero = refl
+  unfolding rounds ones
+  sum-decided zero = sum-none _
   sum-decided (suc k) =
       let i = rounds p k in
-      omega (arith, sum-decided k, newly-more i (step p i) (rounds-good p k) (step-good p i) (rounds-rise k))
+      let more = newly-more i (step p i) (rounds-good p k) (step-good p i) (rounds-rise k) in
+      ap (decidedSum p) (sym (add-one k)) ∙ sym (sum-more k _) ∙ omega (arith, sum-decided k, more)
 
   pub settled-decided : settled p .decided ≡ decidedIn (settled p .interpretation)
   unfolding settled
@@ -93,7 +94,7 @@ module _ (p : List Clause) (s : Steady p) where
       more : decidedIn i < decidedIn t
       more = ⊎-elim (λ q. absurd (ne (ap decidedIn (e ∙ sym q)))) (λ q. rw e q) onwards
 
-      pub falls : 64 - decidedIn t < 64 - decidedIn i
+      falls : 64 - decidedIn t < 64 - decidedIn i
       falls = omega (arith, more, good-decided t (rw e (step-good p i)))
 
       next-is : t ≡ rounds p (suc k)
@@ -146,11 +147,10 @@ module _ (p : List Clause) (s : Steady p) where
       -- d atoms are newly decided so far
       module _ (d : ℕ) (z : d ≡ decidedSum p k) where
         pub sum-again : d + t .decided ≡ decidedSum p (k + 1)
-        unfolding sum
         sum-again =
             ap₂ _+_ z
             (ap (λ (x : Stepped). x .decided) e ∙ ap (λ (x : Interpretation). stepped p x .decided) (r .is))
-            ∙ ap (decidedSum p) (sym (add-one k))
+            ∙ sum-more k (λ j. stepped p (rounds p j) .decided)
 
         pub sum-few : d + t .decided ≤ 64
         sum-few = omega (arith, sum-again, sum-decided (k + 1), good-decided (rounds p (k + 1)) (rounds-good p (k + 1)))

@@ -4,8 +4,8 @@ ghost use Rattle.settle.specs.Operation.{refusedWith, SettledOne};
 use logic::interpretation::Interpretation;
 use program::case::Case;
 
-// What settling one setting answers: 0, the two words, the rounds and the number of decided atoms, or a refusal's number
-// and zeros.
+// What settling one setting answers: 0, the two words, the rounds and the number of decided atoms, or a refusal's
+// number and zeros.
 pub struct Answer {
     pub refusal: u32,
     pub trues: u64,

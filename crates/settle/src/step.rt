@@ -31,8 +31,8 @@ pub struct Stepped {
     pub decided: u32,
 }
 
-// The interpretation after i, and how many atoms it decides newly. The defined atoms are false at first, and each clause
-// raises its head to its body's value.
+// The interpretation after i, and how many atoms it decides newly. The defined atoms are false at first, and each
+// clause raises its head to its body's value.
 pub fn apply(i: Interpretation, clauses: &[u64], n: usize, heads: u64, added: Additions) -> Stepped
     requires { ⌜ Disjoint i × (n ≤ 256) × (3 * n ≤ length (now clauses)) × (heads ≡ headsOf (now clauses) n) ⌝ }
     ensures { λ r. ⌜ r ≡ stepped (programWith (now (clauses .entry)) n added) i ⌝ }

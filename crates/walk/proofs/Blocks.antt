@@ -9,7 +9,7 @@ use lib.ListN.{length, getD}
 use Rattle.words.specs.Below.{sum}
 use Rattle.words.specs.Bits.{has}
 use Rattle.words.specs.OneBit.{BitOf}
-use Rattle.words.proofs.Sums.{sum-ext, sum-append, sum-le}
+use Rattle.words.proofs.Sums.{sum-none, sum-ext, sum-append, sum-le}
 use Rattle.logic.specs.declared.interpretation.Interpretation.{Interpretation}
 use Rattle.logic.specs.Interpretation.{valueAt, Disjoint}
 use Rattle.program.specs.declared.case.Case.{Case}
@@ -42,12 +42,12 @@ use Rattle.verdict.proofs.Counting.{minimals-le, counted-none, counted-few}
 use Rattle.verdict.proofs.Asking.{askable-counted}
 use Rattle.verdict.proofs.Leaving.{left-start, work-kept, written-free}
 
--- nothing is summed up yet, and two sums together
-abbrev pub noSums : Sums
-noSums = record { rounds = 0; decided = 0 }
+abbrev pub sums : ℕ → ℕ → Sums
+sums k d = record { rounds = k; decided = d }
 
-abbrev pub both : Sums → Sums → Sums
-both r d = record { rounds = r .rounds + d .rounds; decided = r .decided + d .decided }
+-- those of r and d together
+abbrev both : Sums → Sums → Sums
+both r d = sums (r .rounds + d .rounds) (r .decided + d .decided)
 
 -- nothing is found for n queries yet
 abbrev pub noneFound : ℕ → Found
@@ -85,9 +85,8 @@ module _ {c : Case} {cl co fo : List ℕ} {causes end : ℕ} {work₀ : List ℕ
   start = omega arith
 
   pub walking-start : {list₀ : List ℕ} (row : List ℕ) → length row ≡ 1848
-      → Walking c cl co fo causes end list₀ work₀ list₀ work₀ row (noneFound (c .formulas)) noSums
+      → Walking c cl co fo causes end list₀ work₀ list₀ work₀ row (noneFound (c .formulas)) (sums 0 0)
       (record { facts = 0; assumptions = 0 }) 923 0
-  unfolding sum
   walking-start {list₀} row e = record {
     place-is = refl;
     added-is = additions-start causes;
@@ -95,7 +94,8 @@ module _ {c : Case} {cl co fo : List ℕ} {causes end : ℕ} {work₀ : List ℕ
     covered = λ s l. absurd (omega arith);
     visited = subst (λ (n : ℕ). Visited J cs list₀ work₀ n (noneFound (c .formulas)) list₀ work₀) start
         (record { counted = counted-none J cs; left = left-start J cs list₀ work₀ });
-    summed = subst (λ (n : ℕ). Summed J n noSums) start (record { rounds-are = refl; decided-are = refl });
+    summed = subst (λ (n : ℕ). Summed J n (sums 0 0)) start
+        (record { rounds-are = sym (sum-none _); decided-are = sym (sum-none _) });
   }
 
   module _ {list₀ list work row : List ℕ} {f : Found} {r : Sums} {added : Additions} {b s : ℕ}
@@ -180,10 +180,12 @@ module _ {c : Case} {cl co fo : List ℕ} {causes end : ℕ} {work₀ : List ℕ
               ap₂ _+_ (below ∙ ap (λ (i : ℕ). sum i h) here) block ∙ sum-append s m h ∙ ap (λ (i : ℕ). sum i h) z
 
         pub rounds-fit : r .rounds + d .rounds ≤ 8000000
-        rounds-fit = sum-fits (J .rounds) (w .summed .rounds-are) rounds-block (rounds-few c cl co fo (g .is-sound))
+        rounds-fit =
+            sum-fits (J .rounds) (w .summed .rounds-are) rounds-block (rounds-few c cl co fo (g .is-sound))
 
         pub decided-fit : r .decided + d .decided ≤ 8000000
-        decided-fit = sum-fits (J .decided) (w .summed .decided-are) decided-block (decided-few c cl co fo (g .is-sound))
+        decided-fit =
+            sum-fits (J .decided) (w .summed .decided-are) decided-block (decided-few c cl co fo (g .is-sound))
 
         -- e has the lanes that explain, larger those of which a proper subset explains
         module _ {e larger : ℕ} {weights x y row₁ : List ℕ} (ew : Weights causes weights) (ex : Filled causes s x y)

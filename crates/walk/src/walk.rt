@@ -21,8 +21,8 @@ use verdict::counts::Counts;
 use verdict::visit::Found;
 use verdict::visit::visit;
 
-// What a walk leaves: what it found setting by setting, and the rounds and decided atoms, which are summed 64 settings at
-// a time.
+// What a walk leaves: what it found setting by setting, and the rounds and decided atoms, which are summed 64 settings
+// at a time.
 pub struct Tally {
     pub found: Found,
     pub sums: Sums,
@@ -61,10 +61,8 @@ fn visit_all(
         counts: Counts::none(c.formulas),
         written: 0,
     };
-    let mut sums = Sums {
-        rounds: 0,
-        decided: 0,
-    };
+    let mut rounds: u64 = 0;
+    let mut decided: u64 = 0;
     let mut added = Additions {
         facts: 0,
         assumptions: 0,
@@ -96,9 +94,8 @@ fn visit_all(
             &mut t,
             &mut f,
         );
-        let rounds = sums.rounds + block.rounds;
-        let decided = sums.decided + block.decided;
-        sums = Sums { rounds, decided };
+        rounds = rounds + block.rounds;
+        decided = decided + block.decided;
         let e = explaining(c, constraints, &t, &f);
         let larger = cover(row, b, e, causes, weights, &x, &y);
         found = visit(&nodes, formula, e, larger, &t, &f, m, s, found, list, work);
@@ -106,6 +103,7 @@ fn visit_all(
         b += 1;
         s += 64;
     }
+    let sums = Sums { rounds, decided };
     Tally { found, sums }
 }
 

@@ -80,13 +80,15 @@ module _ (name : ℕ → List ℕ) (short : (a : ℕ) → length (name a) ≤ 16
         → length (answerText name w vs t l) ≤ 264600
     unfolding answerText
     answer-length vs t l g s f =
+        let rounds = roundsLine (t .rounds) in
+        let decided = decidedLine (t .decided) in
         let minimals = minimalLine (t .minimal) (length l) in
         let causes = causeLines name w l in
         omega (
           arith,
-          length-append (verdictLines vs) (roundsLine (t .rounds) ++ (decidedLine (t .decided) ++ (minimals ++ causes))),
-          length-append (roundsLine (t .rounds)) (decidedLine (t .decided) ++ (minimals ++ causes)),
-          length-append (decidedLine (t .decided)) (minimals ++ causes),
+          length-append (verdictLines vs) (rounds ++ (decided ++ (minimals ++ causes))),
+          length-append rounds (decided ++ (minimals ++ causes)),
+          length-append decided (minimals ++ causes),
           length-append minimals causes,
           lines-length verdictLine 22 verdict-line-length vs,
           rounds-line-length (t .rounds) (s .rounds-short),

@@ -1,11 +1,11 @@
 -- `run` meets its contract: the loop's interpretation is reached by as many rounds as it counts, each of which newly
 -- decided something, and it sums up what they newly decided. The measure is what is left of 64 decided atoms. Assumes
 -- nothing.
-use mathlib.Core.Path.{_≡_, refl}
+use mathlib.Core.Path.{_≡_, sym}
 use Prim.Native.Nat.{_-_}
 use native.Mathlib.Omega.{arith}
 use borrow.Author.Needs.{needs}
-use Rattle.words.specs.Below.{sum}
+use Rattle.words.proofs.Sums.{sum-none}
 use Rattle.logic.specs.Interpretation.{decidedIn}
 use Rattle.program.specs.Program.{programWith}
 use Rattle.settle.specs.Rounds.{decidedSum}
@@ -40,8 +40,7 @@ nothing-requires : tie.Need-nothing-requires Inv-loop μ-loop
 nothing-requires c κs = search needs
 
 loop-holds : tie.Need-loop-holds Inv-loop μ-loop
-unfolding sum
-loop-holds c = (rw (c .nothing .ensures) (start _), refl)
+loop-holds c = (rw (c .nothing .ensures) (start _), sym (sum-none _))
 
 apply-requires : tie.Need-apply-requires Inv-loop μ-loop
 apply-requires c κs = (reached-good _ (c .loop .inv .0) .disjoint, search needs, search needs, search needs)

@@ -1,5 +1,5 @@
--- `apply` meets its contract: the loop walks the clauses (`walked` of Passes.antt) and keeps the two words disjoint, and
--- what it comes to is counted against i. The measure is the number of clauses left. Assumes nothing.
+-- `apply` meets its contract: the loop walks the clauses (`walked` of Passes.antt) and keeps the two words disjoint,
+-- and what it comes to is counted against i. The measure is the number of clauses left. Assumes nothing.
 use mathlib.Core.Path.{_≡_, refl, ap, ap₂, _∙_}
 use Prim.Native.Nat.{ℕ, _-_, _^_, _≤_, _<_}
 use native.Mathlib.Nat.{le-antisymm}

@@ -10,18 +10,18 @@ use Rattle.walk.proofs.Bounds.{constraints-fit}
 use Rattle.verdict.proofs.Leaving.{list-kept}
 use Rattle.walk.proofs.Blocks.{Walking, walking-start, end-few, weights-few, word-inside, walking-room}
 use Rattle.walk.proofs.Blocks.{walking-work, lanes-planes, rounds-fit, decided-fit, walking-next}
-use Rattle.walk.proofs.Blocks.{walking-end}
+use Rattle.walk.proofs.Blocks.{walking-end, sums}
 use Rattle.walk.proofs.walk.visit_all.Statement.{statement}
 use Rattle.walk.proofs.walk.visit_all.Tie as tie
 
 abbrev Inv-loop : tie.InvT-loop
 Inv-loop c clauses constraints formula causes opening dependents last prev weights ot of oh end list₀ work₀ row₀ nodes
-    found₀ sums₀ added₀ b₀ s₀ list work row found sums added b s =
-    Walking c clauses constraints formula causes end list₀ work₀ list work row found sums added b s
+    found₀ rounds₀ decided₀ added₀ b₀ s₀ list work row found rounds decided added b s =
+    Walking c clauses constraints formula causes end list₀ work₀ list work row found (sums rounds decided) added b s
 
 abbrev μ-loop : tie.MeasureT-loop
 μ-loop c clauses constraints formula causes opening dependents last prev weights ot of oh end list₀ work₀ row₀ nodes
-    found₀ sums₀ added₀ b₀ s₀ list work row found sums added b s = end - s
+    found₀ rounds₀ decided₀ added₀ b₀ s₀ list work row found rounds decided added b s = end - s
 
 -- ---- the places before, from the last to the first
 abbrev visited : tie.After-slice-known4 Inv-loop μ-loop → tie.After-visit Inv-loop μ-loop
@@ -36,8 +36,8 @@ covered c = c .before .before .before .before .before
 abbrev judged : tie.After-y3 Inv-loop μ-loop → tie.After-explaining Inv-loop μ-loop
 judged c = c .before .before .before
 
-abbrev summed : tie.After-struct-known4 Inv-loop μ-loop → tie.After-run Inv-loop μ-loop
-summed c = c .before .before .before .before
+abbrev summed : tie.After-struct-known2 Inv-loop μ-loop → tie.After-run Inv-loop μ-loop
+summed c = c .before .before
 
 abbrev settled : tie.After-f2 Inv-loop μ-loop → tie.After-run Inv-loop μ-loop
 settled c = summed (c .before .before)
@@ -110,7 +110,7 @@ run-requires c κs =
 
 add-rounds : tie.Need-add-rounds Inv-loop μ-loop
 add-rounds c =
-    let d = c .before .before in
+    let d = c .before in
     let t = turn d in
     omega (
       arith,

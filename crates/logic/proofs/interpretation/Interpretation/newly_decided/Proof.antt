@@ -3,7 +3,6 @@
 use mathlib.Core.Path.{_∙_}
 use native.Mathlib.Omega.{arith}
 use borrow.Author.Needs.{needs}
-use Rattle.logic.specs.declared.interpretation.Interpretation.{Interpretation}
 use Rattle.logic.proofs.Interpretations.{Good}
 use Rattle.logic.proofs.Decided.{newly-counted}
 use Rattle.logic.proofs.interpretation.Interpretation.newly_decided.Statement.{statement}
