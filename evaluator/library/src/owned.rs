@@ -67,7 +67,7 @@ fn questions(tests: &mut Tests, inputs: &[Input]) {
         let mut settling = Settling::of(said.clone());
         let end = settling.settings();
         for s in [0, end / 2, end - 1] {
-            let got = case.settle(s).map(|a| [a.trues, a.falses, a.rounds, u64::from(a.decided)]);
+            let got = case.settle(s).map(|a| [a.trues, a.falses, a.rounds, a.decided]);
             tests.call(name, differing(Ok(settling.words(s)), got));
             let got = case.explanation(s).map(|e| (e.setting, e.to_string()));
             tests.call(name, differing(Ok((s, line(&said, s as usize))), got));

@@ -71,10 +71,7 @@ fn sums(tests: &mut Tests, folder: &Path) {
         let (record, tables) = (record(&case, &held), tables(&held));
         let end = 3u64.pow(causes(case.names.len(), &case.clauses).len() as u32);
         let settled: Result<Vec<_>, _> = (0..end).map(|s| lent::settle(&record, &tables, s)).collect();
-        let sums = settled.map(|all| {
-            let decided = all.iter().map(|a| u64::from(a.decided)).sum();
-            (all.iter().map(|a| a.rounds).sum(), Some(decided))
-        });
+        let sums = settled.map(|all| (all.iter().map(|a| a.rounds).sum(), Some(all.iter().map(|a| a.decided).sum())));
         tests.call(|| input.name.clone(), differing(Ok((rounds, decided)), sums));
     }
 }

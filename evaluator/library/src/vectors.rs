@@ -57,8 +57,7 @@ impl Lent {
     /// The answer of settling `setting`.
     fn settled(&self, setting: u64) -> Result<Answered, Refusal> {
         let a = lent::settle(&self.record, &self.tables, setting)?;
-        let decided = u64::from(a.decided);
-        Ok(Answered::Settled { truths: a.trues, falsehoods: a.falses, rounds: a.rounds, decided })
+        Ok(Answered::Settled { truths: a.trues, falsehoods: a.falses, rounds: a.rounds, decided: a.decided })
     }
 
     /// The answer of the layers, with the ring told.

@@ -119,7 +119,7 @@ fn cases(tests: &mut Tests, inputs: &[Input]) {
 fn settled(settling: &mut Settling, s: u64, got: Result<lent::Settled, Refusal>) -> Complaints {
     let own = settling.settled(s);
     let due = Ok((mask(&own.model, TRUE), mask(&own.model, FALSE), own.rounds(), own.decided()));
-    let mut complaints = differing(due, got.map(|a| (a.trues, a.falses, a.rounds, u64::from(a.decided))));
+    let mut complaints = differing(due, got.map(|a| (a.trues, a.falses, a.rounds, a.decided)));
     for (atom, value) in own.model.iter().enumerate() {
         let value = match *value {
             TRUE => Some(true),

@@ -18,7 +18,7 @@ pub struct Settled {
     /// The round count.
     pub rounds: u64,
     /// The number of decided atoms, that is of true and false ones: the sum of what each round newly decided.
-    pub decided: u32,
+    pub decided: u64,
 }
 
 impl Settled {
@@ -131,7 +131,7 @@ pub fn settle(record: &Record, tables: &Tables, setting: u64) -> Result<Settled,
         )
     };
     let [trues, falses, rounds, decided] = words;
-    accepted(number, 0).map(|()| Settled { trues, falses, rounds, decided: decided as u32 })
+    accepted(number, 0).map(|()| Settled { trues, falses, rounds, decided })
 }
 
 /// Answers the question of a case. `list` gets the minimal settings in rising order, as many as it has slots for;
