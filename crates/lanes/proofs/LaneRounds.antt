@@ -39,7 +39,8 @@ use Rattle.lanes.specs.Rounds.{Settles}
 use Rattle.planes.proofs.Columns.{column-good}
 use Rattle.lanes.proofs.OneRound.{redone-column, moved-at}
 
-abbrev sums : ℕ → ℕ → Sums
+-- k rounds and d decided atoms
+abbrev pub sums : ℕ → ℕ → Sums
 sums k d = record { rounds = k; decided = d }
 
 one-more : (k r : ℕ) → min k r + digit (ltb k r) ≡ min (k + 1) r

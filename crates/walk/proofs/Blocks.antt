@@ -24,6 +24,7 @@ use Rattle.planes.specs.Planes.{column, Planes}
 use Rattle.planes.specs.Fill.{Filled}
 use Rattle.lanes.specs.declared.rounds.Sums.{Sums}
 use Rattle.lanes.specs.Rounds.{addsAt, Settles}
+use Rattle.lanes.proofs.LaneRounds.{sums}
 use Rattle.explanation.specs.Explanation.{explainsUnder}
 use Rattle.explanation.specs.Judge.{Judge, judgeOf}
 use Rattle.explanation.specs.Covering.{Weights}
@@ -41,9 +42,6 @@ use Rattle.walk.proofs.Bounds.{settings-few, rounds-few, decided-few, f
 use Rattle.verdict.proofs.Counting.{minimals-le, counted-none, counted-few}
 use Rattle.verdict.proofs.Asking.{askable-counted}
 use Rattle.verdict.proofs.Leaving.{left-start, work-kept, written-free}
-
-abbrev pub sums : ℕ → ℕ → Sums
-sums k d = record { rounds = k; decided = d }
 
 -- those of r and d together
 abbrev both : Sums → Sums → Sums

@@ -6,11 +6,12 @@ use native.Mathlib.Omega.{arith}
 use lib.ListN.{getD-replicate}
 use borrow.Author.Needs.{needs}
 use Rattle.program.proofs.Soundness.{sound-formulas}
-use Rattle.walk.proofs.Bounds.{constraints-fit}
+use Rattle.lanes.proofs.LaneRounds.{sums}
 use Rattle.verdict.proofs.Leaving.{list-kept}
+use Rattle.walk.proofs.Bounds.{constraints-fit}
 use Rattle.walk.proofs.Blocks.{Walking, walking-start, end-few, weights-few, word-inside, walking-room}
 use Rattle.walk.proofs.Blocks.{walking-work, lanes-planes, rounds-fit, decided-fit, walking-next}
-use Rattle.walk.proofs.Blocks.{walking-end, sums}
+use Rattle.walk.proofs.Blocks.{walking-end}
 use Rattle.walk.proofs.walk.visit_all.Statement.{statement}
 use Rattle.walk.proofs.walk.visit_all.Tie as tie
 
