@@ -81,7 +81,7 @@ fn sums(tests: &mut Tests, folder: &Path) {
 fn adds_up(held: &Held, settings: u64) -> Complaints {
     let settled = settled_words(held, settings);
     let ones = |words: &[u64; SETTLED_WORDS]| u64::from(words[0].count_ones() + words[1].count_ones());
-    let sum = |place: usize| settled.iter().map(|words| words[place]).sum::<u64>();
+    let sum = |place: usize| settled.iter().fold(0, |sum: u64, words| sum.wrapping_add(words[place]));
     let asked = asked_words(held, settings);
     [
         differing(settled.iter().map(ones).collect::<Vec<_>>(), settled.iter().map(|words| words[3]).collect()),
