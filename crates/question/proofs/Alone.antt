@@ -7,7 +7,7 @@ use Prim.Native.Nat.{ℕ, _-_, _≤_, _<_}
 use native.Mathlib.Omega.{arith}
 use lib.ListN.{length, getD, take}
 use lib.Seq.{take-at}
-use Rattle.words.proofs.Sums.{sum-ext}
+use Rattle.words.specs.Below.{sum}
 use Rattle.logic.specs.Formula.{Formula, valueOf}
 use Rattle.logic.specs.Nodes.{oneFormula, formulaOf}
 use Rattle.program.specs.declared.case.Case.{Case}
@@ -22,14 +22,16 @@ use Rattle.program.proofs.Soundness.{full-clauses, full-constraints, full-formu
 use Rattle.program.proofs.Soundness.{nodes-length, nodes-first, sound-full, sound-atoms, sound-clauses}
 use Rattle.program.proofs.Soundness.{sound-constraints, sound-formulas, sound-each, sound-clause-table}
 use Rattle.program.proofs.Soundness.{sound-constraint-table, sound-within, sound-causes, sound-rest}
+use Rattle.settle.specs.declared.settle.Settled.{Settled}
 use Rattle.settle.specs.Rounds.{settled}
+use Rattle.settle.specs.Operation.{programOf}
 use Rattle.table.specs.Filled.{padded}
 use Rattle.table.proofs.Filled.{padded-length, padded-at, padded-split}
 use Rattle.explanation.specs.Explanation.{settledWith}
 use Rattle.explanation.specs.Judge.{Judge, judgeOf}
 use Rattle.explanation.proofs.Minimal.{explains-alike}
 use Rattle.verdict.specs.declared.verdict.Verdict.{Verdict}
-use Rattle.verdict.specs.Walk.{minimalsBelow, roundsBelow, decidedBelow}
+use Rattle.verdict.specs.Walk.{minimalsBelow}
 use Rattle.verdict.proofs.Counting.{minimals-alike}
 use Rattle.verdict.proofs.Verdicts.{verdict-alike, verdicts-one}
 use Rattle.question.specs.Operation.{settingsIn, minimalsIn}
@@ -104,11 +106,11 @@ module _ (c : Case) (cl co fo : List ℕ) (h : sound c cl co fo ≡ true) (q : �
   same-explains : (s : ℕ) → K .explains s ≡ J .explains s
   same-explains s = explains-alike (alone c q) c cl co s refl refl refl refl refl
 
-  same-rounds : (s : ℕ) → K .rounds s ≡ J .rounds s
-  same-rounds s = ap (λ (w : ℕ). settled (programWith cl (c .clauses) (additionsOf w s)) .rounds) same-causes
-
-  same-decided : (s : ℕ) → K .decided s ≡ J .decided s
-  same-decided s = ap (λ (w : ℕ). settled (programWith cl (c .clauses) (additionsOf w s)) .decided) same-causes
+  -- what h takes of each settled setting, summed
+  same-sum : (h : Settled → ℕ) → sum (settingsIn (alone c q) cl) (λ s. h (settled (programOf (alone c q) cl s)))
+      ≡ sum (settingsIn c cl) (λ s. h (settled (programOf c cl s)))
+  same-sum h =
+      ap (λ (w : ℕ). sum (settingsOf w) (λ s. h (settled (programWith cl (c .clauses) (additionsOf w s))))) same-causes
 
   same-value : (s : ℕ) → K .value 0 s ≡ J .value q s
   same-value s =
@@ -126,8 +128,6 @@ module _ (c : Case) (cl co fo : List ℕ) (h : sound c cl co fo ≡ true) (q : �
     minimals-are = same-minimals;
     verdict-is = verdicts-one K (minimalsIn c cl co fo) refl
         ∙ ap (λ (v : Verdict). v ∷ []) (verdict-alike K J 0 q same-value (minimalsIn c cl co fo));
-    rounds-are = ap (λ (w : ℕ). roundsBelow K (settingsOf w)) same-causes
-        ∙ sum-ext (settingsIn c cl) (K .rounds) (J .rounds) (λ s l. same-rounds s);
-    decided-are = ap (λ (w : ℕ). decidedBelow K (settingsOf w)) same-causes
-        ∙ sum-ext (settingsIn c cl) (K .decided) (J .decided) (λ s l. same-decided s);
+    rounds-are = same-sum (λ (x : Settled). x .rounds);
+    decided-are = same-sum (λ (x : Settled). x .decided);
   }

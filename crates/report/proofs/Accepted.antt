@@ -4,7 +4,7 @@ use mathlib.Core.Path.{_≡_, refl, ap, _∙_}
 use mathlib.Core.Bool.{true}
 use mathlib.Core.List.{List, [], _++_}
 use mathlib.Core.Logic.{⊎-elim}
-use Prim.Native.Nat.{ℕ, _-_, _≤_, _<_, min}
+use Prim.Native.Nat.{ℕ, _-_, _*_, _^_, _≤_, _<_, min}
 use native.Mathlib.Nat.{mul-le-mul}
 use native.Mathlib.Omega.{arith}
 use lib.ListN.{length, take, drop, length-take, length-append, length-map}
@@ -43,8 +43,7 @@ use Rattle.reader.proofs.FileSays.{says}
 use Rattle.reader.proofs.Theorems.{accepted-sound, accepted-names}
 use Rattle.wording.specs.Text.{answerText}
 use Rattle.report.specs.Report.{clauseTable, constraintTable, formulaTable, causesIn, judgeIn, minimalsOf}
-use Rattle.report.specs.Report.{roundsOf, decidedOf, totalsOf, shownOf, verdictsIn, verdictNumbers, nameOf}
-use Rattle.report.specs.Report.{saidText, listLength}
+use Rattle.report.specs.Report.{totalsOf, shownOf, verdictsIn, verdictNumbers, nameOf, saidText, listLength}
 use Rattle.wording.proofs.Naming.{answer-alike}
 use Rattle.wording.proofs.Lengths.{answer-length, Short}
 
@@ -129,15 +128,11 @@ module _ (f : List ℕ) (st : Said) (e : readFile f ≡ Outcome.case st) where
       rw (causes-counted (causesIn st) (causes-fit (caseSaid st) _ _ _ said-sound))
       (sound-few (caseSaid st) _ _ _ said-sound)
 
-  said-rounds : roundsOf st ≤ 3779136
-  said-rounds =
+  -- a sum over the settings of at most as many as there are atoms
+  said-sum : {n : ℕ} → n ≤ settingsIn (caseSaid st) (clauseTable st) * caseSaid st .atoms → n < 10 ^ 7
+  said-sum h =
       let a = sound-atoms (caseSaid st) _ _ _ said-sound .1 in
-      omega (arith, rounds-bounded (caseSaid st) _ _ _ said-sound, mul-le-mul said-settings a)
-
-  said-decided : decidedOf st ≤ 3779136
-  said-decided =
-      let a = sound-atoms (caseSaid st) _ _ _ said-sound .1 in
-      omega (arith, decided-bounded (caseSaid st) _ _ _ said-sound, mul-le-mul said-settings a)
+      omega (arith, h, mul-le-mul said-settings a)
 
   said-minimals : length (minimalsOf st) ≤ 59049
   said-minimals =
@@ -150,8 +145,8 @@ module _ (f : List ℕ) (st : Said) (e : readFile f ≡ Outcome.case st) where
 
   said-short : Short (totalsOf st)
   said-short = record {
-    rounds-short = omega (arith, said-rounds);
-    decided-short = omega (arith, said-decided);
+    rounds-short = said-sum (rounds-bounded (caseSaid st) _ _ _ said-sound);
+    decided-short = said-sum (decided-bounded (caseSaid st) _ _ _ said-sound);
     minimal-short = omega (arith, said-minimals);
   }
 

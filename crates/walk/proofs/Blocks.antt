@@ -9,7 +9,7 @@ use lib.ListN.{length, getD}
 use Rattle.words.specs.Below.{sum}
 use Rattle.words.specs.Bits.{has}
 use Rattle.words.specs.OneBit.{BitOf}
-use Rattle.words.proofs.Sums.{sum-none, sum-ext, sum-append, sum-le}
+use Rattle.words.proofs.Sums.{sum-none, sum-append, sum-le}
 use Rattle.logic.specs.declared.interpretation.Interpretation.{Interpretation}
 use Rattle.logic.specs.Interpretation.{valueAt, Disjoint}
 use Rattle.program.specs.declared.case.Case.{Case}
@@ -18,6 +18,7 @@ use Rattle.program.specs.Program.{Clause, programWith}
 use Rattle.program.specs.Cause.{causesOf, atomsIn}
 use Rattle.program.specs.Setting.{choicesFor, settingsOf, additionsOf}
 use Rattle.program.proofs.Soundness.{sound-formulas, sound-each}
+use Rattle.settle.specs.declared.settle.Settled.{Settled}
 use Rattle.settle.specs.Rounds.{settled}
 use Rattle.settle.proofs.Reached.{settled-good}
 use Rattle.planes.specs.Planes.{column, Planes}
@@ -149,17 +150,16 @@ module _ {c : Case} {cl co fo : List ℕ} {causes end : ℕ} {work₀ : List ℕ
             subst (λ (i : Interpretation). Disjoint i) (sym (v .columns-are j q))
             (settled-good (programWith cl (c .clauses) (addsAt causes s j)) .disjoint)
 
+        -- what h takes of each settled setting of the block, summed
+        block-sum : (h : Settled → ℕ) → sum m (λ j. h (settled (program causes j)))
+            ≡ sum m (λ j. h (settled (program (causesOf c cl) j)))
+        block-sum h = ap (λ (i : ℕ). sum m (λ j. h (settled (program i j)))) (g .causes-are)
+
         rounds-block : d .rounds ≡ sum m (λ j. J .rounds (s + j))
-        rounds-block =
-            v .rounds-are
-            ∙ sum-ext m (λ j. settled (program causes j) .rounds) (λ j. J .rounds (s + j))
-            (λ j q. ap (λ (i : ℕ). settled (program i j) .rounds) (g .causes-are))
+        rounds-block = v .rounds-are ∙ block-sum (λ (x : Settled). x .rounds)
 
         decided-block : d .decided ≡ sum m (λ j. J .decided (s + j))
-        decided-block =
-            v .decided-are
-            ∙ sum-ext m (λ j. settled (program causes j) .decided) (λ j. J .decided (s + j))
-            (λ j q. ap (λ (i : ℕ). settled (program i j) .decided) (g .causes-are))
+        decided-block = v .decided-are ∙ block-sum (λ (x : Settled). x .decided)
 
         -- h is what is summed, k its sum over the settings before, and n that over the block
         module _ (h : ℕ → ℕ) {k n : ℕ} (below : k ≡ sum (min s end) h) (block : n ≡ sum m (λ j. h (s + j))) where

@@ -6,9 +6,11 @@ use native.Mathlib.Omega.{arith}
 use lib.ListN.{length, length-append}
 use Rattle.program.specs.Cause.{atomsIn}
 use Rattle.program.specs.Setting.{digitsOf}
+use Rattle.text.specs.Bytes.{bytes}
+use Rattle.output.specs.Decimal.{decimal}
+use Rattle.output.specs.Forms.{spaced, line}
 use Rattle.output.proofs.Decimals.{decimal-length, decimal-short}
 use Rattle.output.proofs.FormTexts.{spaced-nil, spaced-more, spaced-one, spaced-two, form-length, line-length}
-use Rattle.output.specs.Forms.{spaced}
 use Rattle.wording.specs.declared.Totals.{Totals}
 use Rattle.wording.specs.Text.{linesOf, verdictWord, verdictLine, verdictLines, roundsLine, decidedLine}
 use Rattle.wording.specs.Text.{minimalLine}
@@ -32,13 +34,9 @@ verdict-line-length : (v : ℕ) → length (verdictLine v) ≤ 22
 unfolding verdictLine
 verdict-line-length v = rw (line-length, spaced-one) (omega (arith, verdict-word-length v))
 
-rounds-line-length : (n : ℕ) → n < 10 ^ 7 → length (roundsLine n) ≤ 17
-unfolding roundsLine
-rounds-line-length n h = rw (line-length, spaced-one) (omega (arith, decimal-short 6 n h))
-
-decided-line-length : (n : ℕ) → n < 10 ^ 7 → length (decidedLine n) ≤ 18
-unfolding decidedLine
-decided-line-length n h = rw (line-length, spaced-one) (omega (arith, decimal-short 6 n h))
+-- one number of at most 7 digits behind a word
+number-line-length : (w : List ℕ) (n : ℕ) → n < 10 ^ 7 → length (line w (decimal n ∷ [])) ≤ length w + 11
+number-line-length w n h = rw (line-length, spaced-one) (omega (arith, decimal-short 6 n h))
 
 minimal-line-length : (m w : ℕ) → m < 10 ^ 5 → w < 10 ^ 4 → length (minimalLine m w) ≤ 21
 unfolding minimalLine
@@ -78,7 +76,7 @@ module _ (name : ℕ → List ℕ) (short : (a : ℕ) → length (name a) ≤ 16
 
     pub answer-length : (vs : List ℕ) (t : Totals) (l : List ℕ) → length vs ≤ 16 → Short t → length l ≤ 1024
         → length (answerText name w vs t l) ≤ 264600
-    unfolding answerText
+    unfolding answerText roundsLine decidedLine
     answer-length vs t l g s f =
         let rounds = roundsLine (t .rounds) in
         let decided = decidedLine (t .decided) in
@@ -91,8 +89,8 @@ module _ (name : ℕ → List ℕ) (short : (a : ℕ) → length (name a) ≤ 16
           length-append decided (minimals ++ causes),
           length-append minimals causes,
           lines-length verdictLine 22 verdict-line-length vs,
-          rounds-line-length (t .rounds) (s .rounds-short),
-          decided-line-length (t .decided) (s .decided-short),
+          number-line-length (bytes "rounds") (t .rounds) (s .rounds-short),
+          number-line-length (bytes "decided") (t .decided) (s .decided-short),
           minimal-line-length (t .minimal) (length l) (s .minimal-short) (omega arith),
           lines-length (causeLine name w) 258 cause-line-length l,
         )

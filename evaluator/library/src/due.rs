@@ -4,9 +4,9 @@ use crate::calls::{QuestionDue, ReadDue, ASKED_WORDS, LAYERS_WORDS, SETTLED_WORD
 use crate::held::{padded, Held, ATOMS, QUERIES, RECORD_WORDS};
 use evaluator::case::Case;
 use evaluator::file;
-use evaluator::formula::{Value, FALSE, TRUE};
+use evaluator::formula::{FALSE, TRUE};
 use evaluator::layers::{dependence, is_ring, numbers, Dependence};
-use evaluator::model::Settled;
+use evaluator::model::{mask, Settled};
 use evaluator::question::{ask, Engine, Findings};
 use evaluator::verdict::Verdict;
 
@@ -26,11 +26,6 @@ pub fn read(bytes: &[u8]) -> ReadDue {
 pub fn refused(number: u32, line: u64) -> ReadDue {
     let tables = (number > 2).then(Held::zeros);
     ReadDue { refusal: number, answer: padded(vec![line], 1 + RECORD_WORDS), tables }
-}
-
-/// The atoms with the value `value` in `model`, bit i for atom i.
-pub fn mask(model: &[Value], value: Value) -> u64 {
-    model.iter().enumerate().filter(|(_, v)| **v == value).fold(0, |m, (i, _)| m | 1 << i)
 }
 
 /// A case with what is due for its settings.

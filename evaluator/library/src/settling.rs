@@ -23,6 +23,11 @@ const DRAWN: u64 = 1_000;
 /// The most settings that are all tried.
 const TRIED: u64 = 243;
 
+/// The number of settings of `case`.
+fn settings(case: &Case) -> u64 {
+    3u64.pow(causes(case.names.len(), &case.clauses).len() as u32)
+}
+
 /// All settings below `end`, or for many the first, the last and some between.
 fn some_settings(end: u64) -> Vec<u64> {
     if end <= TRIED {
@@ -69,7 +74,7 @@ fn sums(tests: &mut Tests, folder: &Path) {
         let case = file::read(&input.bytes).unwrap_or_else(|r| panic!("{}: refused with {}", input.name, r.number));
         let held = Held::of(&case);
         let (record, tables) = (record(&case, &held), tables(&held));
-        let end = 3u64.pow(causes(case.names.len(), &case.clauses).len() as u32);
+        let end = settings(&case);
         let settled: Result<Vec<_>, _> = (0..end).map(|s| lent::settle(&record, &tables, s)).collect();
         let sums = settled.map(|all| (all.iter().map(|a| a.rounds).sum(), Some(all.iter().map(|a| a.decided).sum())));
         tests.call(|| input.name.clone(), differing(Ok((rounds, decided)), sums));
@@ -95,14 +100,14 @@ fn agreement(tests: &mut Tests) {
     tests.family("settle: sums over all settings, as the question answers them");
     for input in generated(SEEDS, |s| s % 2 == 0 && s % 20 != 0) {
         let Ok(case) = file::read(&input.bytes) else { continue };
-        let end = 3u64.pow(causes(case.names.len(), &case.clauses).len() as u32);
+        let end = settings(&case);
         tests.call(|| input.name.clone(), adds_up(&Held::of(&case), end));
     }
     for seed in 0..DRAWN {
         let mut random = Random::new(seed);
         let shape = small(&mut random);
         let case = drawn(&mut random, shape);
-        let end = 3u64.pow(causes(case.names.len(), &case.clauses).len() as u32);
+        let end = settings(&case);
         let held = strewn(&mut random, &Held::of(&case));
         tests.call(|| format!("drawn, seed {seed}"), adds_up(&held, end));
     }

@@ -2,7 +2,7 @@
 
 use crate::calls::layers_words;
 use crate::corpus::{all_folders, generated, refused_files, stored, Input};
-use crate::due::{self, mask, Asking, Layering, Settling};
+use crate::due::{self, Asking, Layering, Settling};
 use crate::held::{masks, padded, Held, NODES, QUERIES, RECORD_WORDS};
 use crate::tests::{differing, Complaints, Tests};
 use causes::lent::{self, Record, Tables};
@@ -10,6 +10,7 @@ use causes::Refusal;
 use evaluator::case::Case;
 use evaluator::file;
 use evaluator::formula::{FALSE, TRUE};
+use evaluator::model::mask;
 use evaluator::sample::SAMPLES;
 use std::path::Path;
 

@@ -21,38 +21,30 @@ enum-told-2 c = search needs
 enum-told-3 : tie.Need-enum-told-3
 enum-told-3 c = search needs
 
+-- the interpretation before
+good : (s : tie.After-single) → Good (s .before .args .self)
+good s = record { trues-fit = omega arith; falses-fit = omega arith; disjoint = s .before .pre .1 }
+
 returns : tie.Need-returns
 returns c =
     let s = c .before .before .before .before in
-    let b = s .before in
-    let i = b .args .self in
-    let a = b .args .atom in
-    let l = b .pre .0 in
-    let g : Good i = record { trues-fit = omega arith; falses-fit = omega arith; disjoint = b .pre .1 } in
+    let l = s .before .pre .0 in
     rw (c .before .before .enum-told .given .1, s .single .ensures)
-    (interpretation-eq (trues-more i a g l True refl) (falses-less i a g l True refl))
+    (interpretation-eq (trues-more _ _ (good s) l True refl) (falses-less _ _ (good s) l True refl))
 
 returns-2 : tie.Need-returns-2
 returns-2 c =
     let s = c .before .before .before .before in
-    let b = s .before in
-    let i = b .args .self in
-    let a = b .args .atom in
-    let l = b .pre .0 in
-    let g : Good i = record { trues-fit = omega arith; falses-fit = omega arith; disjoint = b .pre .1 } in
+    let l = s .before .pre .0 in
     rw (c .before .before .enum-told2 .given .1, s .single .ensures)
-    (interpretation-eq (trues-less i a g l False refl) (falses-more i a g l False refl))
+    (interpretation-eq (trues-less _ _ (good s) l False refl) (falses-more _ _ (good s) l False refl))
 
 returns-3 : tie.Need-returns-3
 returns-3 c =
     let s = c .before .before .before .before in
-    let b = s .before in
-    let i = b .args .self in
-    let a = b .args .atom in
-    let l = b .pre .0 in
-    let g : Good i = record { trues-fit = omega arith; falses-fit = omega arith; disjoint = b .pre .1 } in
+    let l = s .before .pre .0 in
     rw (c .before .before .enum-told3 .given .1, s .single .ensures)
-    (interpretation-eq (trues-less i a g l Unknown refl) (falses-less i a g l Unknown refl))
+    (interpretation-eq (trues-less _ _ (good s) l Unknown refl) (falses-less _ _ (good s) l Unknown refl))
 
 pub decide-spec : {M : Type 1} → statement M
 decide-spec =
