@@ -1,7 +1,7 @@
 -- The lent tables of a case.
--- From: document 01, "Case tables and sound cases"; document 02, [5] (a third word for each constraint).
+-- From: document 01, "Case tables and sound cases"; document 02, [5] (a third word for each constraint), [7] (prices).
 --
---   clauseSize, ..           the sizes of the lent tables, names among them
+--   clauseSize, ..           the sizes of the lent tables, names and prices among them
 --   partSize                 the size of one formula's part of the formula table
 --   tablesFull cl co fo      clauses, constraints and formula have their full sizes
 --   headAt, kindAt           head and kind of clause k: its first word is head + 64 × kind
@@ -15,7 +15,7 @@ use Prim.Native.Nat.{ℕ, _+_, _*_, _/_, _%_}
 use lib.Dec.{leb}
 use lib.ListN.{length, getD, take, drop}
 
--- the sizes of the lent tables: words of clauses and of constraints, bytes of the formulas and of the names
+-- the sizes of the lent tables: words of clauses and of constraints, bytes of the formulas and of the names, prices
 abbrev pub clauseSize : ℕ
 clauseSize = 768
 
@@ -27,6 +27,9 @@ formulaSize = 2048
 
 abbrev pub nameSize : ℕ
 nameSize = 1024
+
+abbrev pub priceSize : ℕ
+priceSize = 64
 
 -- 16 parts of 128 bytes
 abbrev pub partSize : ℕ

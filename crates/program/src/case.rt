@@ -27,7 +27,8 @@ impl Case {
 
     pub const CAUSES: u32 = 10;
 
-    // Sizes of the lent tables: words of clauses, words of constraints, bytes of the formulas and of the names.
+    // Sizes of the lent tables: words of clauses, words of constraints, bytes of the formulas and of the names,
+    // prices.
     pub const CLAUSE_WORDS: usize = 768;
 
     pub const CONSTRAINT_WORDS: usize = 96;
@@ -35,6 +36,8 @@ impl Case {
     pub const FORMULA_BYTES: usize = 2048;
 
     pub const NAME_BYTES: usize = 1024;
+
+    pub const PRICES: usize = 64;
 }
 
 // Whether the lent tables have their full sizes.
