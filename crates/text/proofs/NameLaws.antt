@@ -1,9 +1,10 @@
 -- The names of tokens, by the first of them. Assumes nothing.
 use mathlib.Core.Path.{_≡_, refl}
+use mathlib.Core.Bool.{true, false}
 use mathlib.Core.List.{List, [], _∷_}
 use Prim.Native.Nat.{ℕ}
 use Rattle.text.specs.Tokens.{Token}
-use Rattle.text.specs.Words.{namesFrom, namesIn}
+use Rattle.text.specs.Words.{beginsWithLetter, namesFrom, namesIn}
 
 pub names-end : namesIn [] ≡ []
 unfolding namesFrom
@@ -15,9 +16,13 @@ module _ (ts : List Token) where
   names-closing = refl
 
   module _ (w : List ℕ) where
-    pub names-name : namesIn (Token.word w ∷ ts) ≡ w ∷ namesIn ts
+    pub names-name : beginsWithLetter w ≡ true → namesIn (Token.word w ∷ ts) ≡ w ∷ namesIn ts
     unfolding namesFrom
-    names-name = refl
+    names-name h = rw h
+
+    pub names-other : beginsWithLetter w ≡ false → namesIn (Token.word w ∷ ts) ≡ namesIn ts
+    unfolding namesFrom
+    names-other h = rw h
 
     pub names-form : namesIn (Token.opening ∷ (Token.word w ∷ ts)) ≡ namesIn ts
     unfolding namesFrom

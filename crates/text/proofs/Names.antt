@@ -7,8 +7,10 @@ use Prim.Native.Nat.{ℕ, _-_, _≤_, _<_}
 use native.Mathlib.Nat.{le-refl}
 use native.Mathlib.Omega.{arith}
 use lib.ListN.{length, drop}
+use lib.Seq.{slice}
+use Rattle.words.specs.Choice.{consIf}
 use Rattle.text.specs.Tokens.{tokens}
-use Rattle.text.specs.Words.{namesFrom, namesIn}
+use Rattle.text.specs.Words.{isNameBehind, namesFrom, namesIn}
 use Rattle.text.specs.Scanning.{firstToken, Found, firstName, NameInside, NameFound}
 use Rattle.text.specs.declared.tokens.Next.{Next}
 use Rattle.text.specs.declared.tokens.Next.the-variants.{End, Open, Close, Word}
@@ -42,16 +44,20 @@ module _ {l : List ℕ} {at i : ℕ} {b : Bool} {r : Next} (h : Looking l at i b
     unfolding namesFrom
     looking-close e = let k = found-inside f e in record { onward = omega arith; names-are = next-is e }
 
-  module _ {a e : ℕ} (q : r ≡ Word a e) where
-    pub looking-form : b ≡ true → Looking l at e false
+  -- a word that is a name, and one that is none
+  module _ {a e : ℕ} (q : r ≡ Word a e) {t : Bool} (n : t ≡ isNameBehind b (slice a e l)) where
+    word-is : {u : Bool} → t ≡ u
+        → namesIn (tokens (drop at l)) ≡ consIf u (slice a e l) (namesIn (tokens (drop e l)))
     unfolding namesFrom
-    looking-form t = let k = found-inside f q in record { onward = omega arith; names-are = next-is q ∙ rw t }
+    word-is v = next-is q ∙ rw (← n, v)
 
-    pub looking-name : b ≡ false → NameFound l at (Name a e)
-    unfolding namesFrom
-    looking-name t =
+    pub looking-name : t ≡ true → NameFound l at (Name a e)
+    looking-name v =
         let k = found-inside f q in
-        record { names-are = next-is q ∙ rw t; inside = (omega arith, k .1, k .2) }
+        record { names-are = word-is v; inside = (omega arith, k .1, k .2) }
+
+    pub looking-other : t ≡ false → Looking l at e false
+    looking-other v = let k = found-inside f q in record { onward = omega arith; names-are = word-is v }
 
 -- the name q was found at or behind place at
 module _ {l : List ℕ} {at : ℕ} {r q : NextName} (f : NameFound l at r) (e : r ≡ q) where

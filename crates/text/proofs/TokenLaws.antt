@@ -134,6 +134,14 @@ module _ {l : List ℕ} {i : ℕ} {r q : Next} (f : Found l i r) (e : r ≡ q) w
   pub found-inside : Inside l i q
   found-inside = subst (Inside l i) e (f .inside)
 
+-- a word that was found has a byte, and lies in the line
+module _ {l : List ℕ} {i a e : ℕ} {r : Next} (f : Found l i r) (q : r ≡ Word a e) where
+  pub word-filled : a < e
+  word-filled = found-inside f q .1
+
+  pub word-within : e ≤ length l
+  word-within = found-inside f q .2
+
 -- what is left of the line grows shorter
 module _ {l : List ℕ} {i : ℕ} {r : Next} (f : Found l i r) where
   pub opening-less : {n : ℕ} → r ≡ Open n → length l - n < length l - i

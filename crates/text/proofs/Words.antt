@@ -8,10 +8,10 @@ use native.Mathlib.Omega.{arith}
 use lib.Dec.{eqb}
 use lib.ListN.{length, getD, length-append}
 use lib.Seq.{slice, slice-cons}
-use Rattle.words.specs.Choice.{pick}
+use Rattle.words.specs.Choice.{pick, consIf}
 use Rattle.text.specs.Bytes.{isLetter, isWordByte, allOf}
 use Rattle.text.specs.Tokens.{Token, ended, bracket, tokensFrom, tokens}
-use Rattle.text.specs.Words.{beginsWithLetter, namesFrom, namesIn}
+use Rattle.text.specs.Words.{beginsWithLetter, isNameBehind, namesFrom, namesIn}
 use Rattle.text.proofs.Each.{Each}
 use Rattle.text.proofs.ByteLaws.{all-push}
 
@@ -35,13 +35,16 @@ module _ (P : List ℕ → Type 0) where
   bracket-each : (b : ℕ) (ts : List Token) → EachWord ts → EachWord (bracket b ts)
   bracket-each b ts h = picked-each (eqb b 40) _ _ (λ _. h) (λ _. picked-each (eqb b 41) _ _ (λ _. h) (λ _. h))
 
+  kept-each : (t : Bool) (w : List ℕ) (ws : List (List ℕ)) → P w → Each P ws → Each P (consIf t w ws)
+  kept-each true w ws h k = (h, k)
+  kept-each false w ws h k = k
+
   names-each : (b : Bool) (ts : List Token) → EachWord ts → Each P (namesFrom b ts)
   unfolding namesFrom
   names-each b [] h = tt
   names-each b (Token.opening ∷ ts) h = names-each true ts h
   names-each b (Token.closing ∷ ts) h = names-each false ts h
-  names-each true (Token.word w ∷ ts) h = names-each false ts (h .1)
-  names-each false (Token.word w ∷ ts) h = (h .0, names-each false ts (h .1))
+  names-each b (Token.word w ∷ ts) h = kept-each (isNameBehind b w) w (namesFrom false ts) (h .0) (names-each false ts (h .1))
 
 -- ---- the bytes of words
 ended-bytes : (w : List ℕ) (ts : List Token) → allOf isWordByte w ≡ true → EachWord IsWord ts

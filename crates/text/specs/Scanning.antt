@@ -6,7 +6,9 @@
 --   Found l at r        r is the first token at or behind place at of the line l
 --   firstName l r       the names that begin with what r found in the line l
 --   NameFound l at r    r is the first name at or behind place at of the line l, where no bracket is open at that place
+--   NumberRead w r      r is the number that the word w is, or that it is none
 use mathlib.Core.Path.{_≡_}
+use mathlib.Core.Bool.{true, false}
 use mathlib.Core.List.{List, [], _∷_}
 use Prim.Native.Nat.{ℕ, _+_, _≤_, _<_}
 use lib.ListN.{length, drop}
@@ -15,9 +17,12 @@ use Rattle.text.specs.declared.tokens.Next.{Next}
 use Rattle.text.specs.declared.tokens.Next.the-variants.{End, Open, Close, Word}
 use Rattle.text.specs.declared.name.NextName.{NextName}
 use Rattle.text.specs.declared.name.NextName.the-variants.{NoName, Name}
+use Rattle.text.specs.declared.number.Number.{Number}
+use Rattle.text.specs.declared.number.Number.the-variants.{NoNumber, Value}
 use Rattle.text.specs.Lines.{lines}
 use Rattle.text.specs.Tokens.{Token, tokens}
 use Rattle.text.specs.Words.{namesIn}
+use Rattle.text.specs.Numbers.{numberOf, isNumber}
 
 pub record LineEnds (f : List ℕ) (at e : ℕ) : Type 0 where
   pub onward : at ≤ e
@@ -58,3 +63,10 @@ NameInside l at (Name a e) = (at ≤ a) × (a < e) × (e ≤ length l)
 pub record NameFound (l : List ℕ) (at : ℕ) (r : NextName) : Type 0 where
   pub names-are : namesIn (tokens (drop at l)) ≡ firstName l r
   pub inside : NameInside l at r
+
+abbrev pub NumberIs : List ℕ → Number → Type 0
+NumberIs w NoNumber = isNumber w ≡ false
+NumberIs w (Value n) = (isNumber w ≡ true) × (n ≡ numberOf w)
+
+pub record NumberRead (w : List ℕ) (r : Number) : Type 0 where
+  pub number-is : NumberIs w r

@@ -1,13 +1,15 @@
 -- The words of a line: which of them are names, and the place of a word among others.
--- From: document 01, "The file" ("A word after `(` is a form's word; elsewhere a name, even if spelled alike").
+-- From: document 01, "The file" ("A word after `(` is a form's word; elsewhere a name, even if spelled alike");
+-- document 02, [7] (numbers stand where words do, and are no names).
 --
 --   beginsWithLetter w   w begins with a letter; the rest of a word is letters, digits and `-` anyway
---   namesIn ts           the names of a line's tokens in order: the words that do not follow an opening bracket
+--   namesIn ts           the names of a line's tokens in order: the words that begin with a letter and do not follow an
+--                        opening bracket
 --   placeOf ws w         the place of the first of the words ws that is w, or how many there are
-use mathlib.Core.Bool.{Bool, true, false}
+use mathlib.Core.Bool.{Bool, true, false, not, _&&_}
 use mathlib.Core.List.{List, [], _∷_}
 use Prim.Native.Nat.{ℕ, suc}
-use Rattle.words.specs.Choice.{pick}
+use Rattle.words.specs.Choice.{pick, consIf}
 use Rattle.text.specs.Bytes.{isLetter, sameBytes}
 use Rattle.text.specs.Tokens.{Token}
 
@@ -15,13 +17,16 @@ unfoldable pub beginsWithLetter : List ℕ → Bool
 beginsWithLetter [] = false
 beginsWithLetter (b ∷ w) = isLetter b
 
--- the names of what is left, behind an opening bracket where the test holds
+-- the word w, behind an opening bracket where b holds, is a name
+abbrev pub isNameBehind : Bool → List ℕ → Bool
+isNameBehind b w = not b && beginsWithLetter w
+
+-- the names of what is left, behind an opening bracket where b holds
 unfoldable pub namesFrom : Bool → List Token → List (List ℕ)
 namesFrom b [] = []
 namesFrom b (Token.opening ∷ ts) = namesFrom true ts
 namesFrom b (Token.closing ∷ ts) = namesFrom false ts
-namesFrom true (Token.word w ∷ ts) = namesFrom false ts
-namesFrom false (Token.word w ∷ ts) = w ∷ namesFrom false ts
+namesFrom b (Token.word w ∷ ts) = consIf (isNameBehind b w) w (namesFrom false ts)
 
 abbrev pub namesIn : List Token → List (List ℕ)
 namesIn ts = namesFrom false ts

@@ -2,4 +2,5 @@
 pub mod bytes;
 pub mod lines;
 pub mod name;
+pub mod number;
 pub mod tokens;

@@ -3,7 +3,7 @@ ghost use mathlib.Core.Path.{_≡_};
 ghost use Prim.Native.Nat.{_≤_, _<_};
 ghost use lib.ListN.{length};
 ghost use lib.Seq.{slice};
-ghost use Rattle.text.specs.Words.{beginsWithLetter};
+ghost use Rattle.text.specs.Words.{beginsWithLetter, isNameBehind};
 ghost use Rattle.text.specs.Scanning.{NameFound};
 use crate::tokens::Next;
 use crate::tokens::token;
@@ -26,7 +26,18 @@ pub fn is_name(l: &[u8], a: usize, e: usize) -> bool
     b <= 122
 }
 
-// The first name at or behind a place that follows no opening bracket.
+// Whether the word from a to e, behind an opening bracket where so told, is a name.
+fn is_name_behind(l: &[u8], opened: bool, a: usize, e: usize) -> bool
+    requires { ⌜ (a < e) × (e ≤ length (now l)) ⌝ }
+    ensures { λ r. ⌜ r ≡ isNameBehind opened (slice a e (now (l .entry))) ⌝ }
+{
+    if opened {
+        return false;
+    }
+    is_name(l, a, e)
+}
+
+// The first name at or behind a place: a word that begins with a letter and follows no opening bracket.
 pub fn next_name(l: &[u8], at: usize) -> NextName
     ensures { λ r. ⌜ NameFound (now (l .entry)) at r ⌝ }
 {
@@ -46,7 +57,7 @@ pub fn next_name(l: &[u8], at: usize) -> NextName
                 i = n;
             }
             Next::Word(a, e) => {
-                if !opened {
+                if is_name_behind(l, opened, a, e) {
                     return NextName::Name(a, e);
                 }
                 opened = false;

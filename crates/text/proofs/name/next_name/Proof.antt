@@ -1,12 +1,11 @@
 -- `text::name::next_name` meets its contract. The invariant is `Looking`: no name stands before place i.
 -- Assumes nothing.
 use borrow.Author.Needs.{needs}
-use borrow.Author.Tests.{not-true, not-false}
 use Prim.Native.Nat.{_-_}
 use lib.ListN.{length}
-use Rattle.text.proofs.TokenLaws.{opening-less, closing-less, word-less}
+use Rattle.text.proofs.TokenLaws.{opening-less, closing-less, word-less, word-filled, word-within}
 use Rattle.text.proofs.Names.{Looking, looking-none, looking-end, looking-open, looking-close}
-use Rattle.text.proofs.Names.{looking-form, looking-name}
+use Rattle.text.proofs.Names.{looking-name, looking-other}
 use Rattle.text.proofs.name.next_name.Statement.{statement}
 use Rattle.text.proofs.name.next_name.Tie as tie
 
@@ -49,14 +48,17 @@ loop-again-2 c = search (needs, looking-close)
 enum-known-a : tie.Need-enum-known-a Inv-loop μ-loop
 enum-known-a c = search needs
 
+is-name-behind-requires : tie.Need-is-name-behind-requires Inv-loop μ-loop
+is-name-behind-requires c κs = search (needs, word-filled, word-within)
+
 returns-2 : tie.Need-returns-2 Inv-loop μ-loop
-returns-2 c = search (needs, looking-name, not-true)
+returns-2 c = search (needs, looking-name)
 
 loop-less-3 : tie.Need-loop-less-3 Inv-loop μ-loop
 loop-less-3 c = search (needs, word-less)
 
 loop-again-3 : tie.Need-loop-again-3 Inv-loop μ-loop
-loop-again-3 c = search (needs, looking-form, not-false)
+loop-again-3 c = search (needs, looking-other)
 
 pub next-name-spec : {M : Type 1} → statement M
 next-name-spec =
@@ -75,6 +77,7 @@ next-name-spec =
     loop-less-2
     loop-again-2
     enum-known-a
+    is-name-behind-requires
     returns-2
     loop-less-3
     loop-again-3)
