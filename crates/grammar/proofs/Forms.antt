@@ -29,9 +29,9 @@ use Rattle.formulas.proofs.Formulas.{found-as, parsed-as}
 use Rattle.formulas.proofs.Reading.{items-end, items-closing, items-name, items-word}
 use Rattle.formulas.proofs.FirstItem.{Filled, found-unclosed, found-unnamed, found-filled}
 use Rattle.grammar.specs.Line.{Line, Literal, takes}
-use Rattle.grammar.specs.LineOf.{withBody, seenOf, bodyLine, withItems, kindOf, lineOf}
+use Rattle.grammar.specs.LineOf.{withBody, seenOf, bodyLine, withItems, behindWord, kindOf, lineOf}
 use Rattle.grammar.specs.Parsing.{endsItems, bodyIn, fitsBody, hasBody, BodyMakes}
-use Rattle.grammar.specs.Parsing.{endsLine, FormAfter, FormFound}
+use Rattle.grammar.specs.Parsing.{endsLine, FormIs, FormAfter, FormFound}
 use Rattle.grammar.specs.declared.line.Form.{Form}
 use Rattle.grammar.specs.declared.line.Form.the-variants.{Skipped, NoForm, Clause, Constraint, Seen, Query}
 use Rattle.grammar.proofs.KindLaws.{fit-body, unfit-body, kind-unnamed, kind-named, body-kind}
@@ -88,6 +88,15 @@ module _ {l : List ℕ} {at : ℕ} {x : Line} where
         line-is = e ∙ ap (withBody k make) (b .literals-are) ∙ fit-body k make (b .literals) (b .fits);
       }
 
+-- Lines of formulas: all but costs
+
+pub behind-items : (k : ℕ) (ts : List Token) → (k ≡ 7 → ⊥) → behindWord k ts ≡ withItems k (itemsOf ts)
+behind-items k ts n = rw (ne-eqb k 7 n)
+
+after-items : {l : List ℕ} {at k : ℕ} {r : Form} → (k ≡ 7 → ⊥)
+    → FormIs l r (withItems k (itemsOf (tokens (drop at l)))) → FormAfter l at k r
+after-items {l} {at} {k} n f = record { form-is = rw (behind-items k (tokens (drop at l)) n) f }
+
 -- The ways out of `clause_form`
 
 pub clause-is : (k : ℕ) {ts us : List Token} {w : List ℕ} → k ≤ 2 → ts ≡ Token.word w ∷ us → beginsWithLetter w ≡ true
@@ -96,27 +105,27 @@ clause-is k {us = us} {w = w} i e n = rw (e, items-name us w n) (kind-named k i 
 
 module _ {l : List ℕ} {at k : ℕ} {r : Next} where
   pub clause-wordless : Found l at r → k ≤ 2 → OneOf (0 ∷ (1 ∷ (2 ∷ []))) (tagOf the-type r) → FormAfter l at k NoForm
-  clause-wordless t i h = record { form-is = kind-unnamed k i (itemsOf (tokens (drop at l))) (found-unnamed t h) }
+  clause-wordless t i h =
+      after-items (λ z. omega arith) (kind-unnamed k i (itemsOf (tokens (drop at l))) (found-unnamed t h))
 
   module _ {a e : ℕ} (w : r ≡ Word a e) (t : Found l at r) (i : k ≤ 2) where
     pub clause-word : beginsWithLetter (slice a e l) ≡ false → FormAfter l at k NoForm
-    clause-word h = record {
-      form-is = kind-unnamed k i (itemsOf (tokens (drop at l)))
-          (rw (found-as t w .tokens-are, items-word (tokens (drop e l)) (slice a e l) h));
-    }
+    clause-word h =
+        after-items (λ z. omega arith) (kind-unnamed k i (itemsOf (tokens (drop at l)))
+        (rw (found-as t w .tokens-are, items-word (tokens (drop e l)) (slice a e l) h)))
 
     module _ (n : beginsWithLetter (slice a e l) ≡ true) where
       pub clause-unfit : hasBody l e k ≡ false → FormAfter l at k NoForm
       unfolding hasBody
-      clause-unfit h = record {
-        form-is = clause-is k i (found-as t w .tokens-are) n ∙ unfit-body k _ (bodyIn (tokens (drop e l))) h;
-      }
+      clause-unfit h =
+          after-items (λ z. omega arith)
+          (clause-is k i (found-as t w .tokens-are) n ∙ unfit-body k _ (bodyIn (tokens (drop e l))) h)
 
       pub clause-found : hasBody l e k ≡ true → FormAfter l at k (Clause k a e e)
       clause-found h =
           let g = found-as t w in
           let makes = body-makes k (Line.clause k (slice a e l)) (clause-is k i (g .tokens-are) n) h in
-          record { form-is = (i, (g .inside .1, g .inside .2), makes) }
+          after-items (λ z. omega arith) (i, (g .inside .1, g .inside .2), makes)
 
 -- The ways out of `query_form`
 
@@ -131,7 +140,7 @@ none-line (Option.some []) h = refl
 none-line (Option.some (Item.closing ∷ l)) h = refl
 none-line (Option.some (Item.formula f ∷ l)) h = absurd (true≢false h)
 
-ends-is : (x : Items) → endsItems x ≡ true → x ≡ Option.some (Item.closing ∷ [])
+pub ends-is : (x : Items) → endsItems x ≡ true → x ≡ Option.some (Item.closing ∷ [])
 ends-is Option.none h = absurd (true≢false (sym h))
 ends-is (Option.some []) h = absurd (true≢false (sym h))
 ends-is (Option.some (Item.formula f ∷ l)) h = absurd (true≢false (sym h))
@@ -181,23 +190,23 @@ other-kind : (k : ℕ) (ls : List Literal) → 5 ≤ k → (k ≡ 5 → ⊥) →
 other-kind k ls h n = rw (le-ltb k 5 h, ne-eqb k 5 n)
 
 -- a line of literals alone
-literals-line : (l : List ℕ) (at k : ℕ) → 3 ≤ k → (k ≡ 6 → ⊥)
-    → withItems k (itemsOf (tokens (drop at l))) ≡ withBody k (bodyLine k) (bodyIn (tokens (drop at l)))
-literals-line l at k i n = body-kind k (itemsOf (tokens (drop at l))) i n
+literals-line : (l : List ℕ) (at k : ℕ) → 3 ≤ k → (k ≡ 6 → ⊥) → (k ≡ 7 → ⊥)
+    → behindWord k (tokens (drop at l)) ≡ withBody k (bodyLine k) (bodyIn (tokens (drop at l)))
+literals-line l at k i n m = behind-items k (tokens (drop at l)) m ∙ body-kind k (itemsOf (tokens (drop at l))) i n
 
 module _ {l : List ℕ} {at k : ℕ} where
   pub form-as : {j : ℕ} {r : Form} → k ≡ j → FormAfter l at j r → FormAfter l at k r
   form-as {r = r} e f = subst (λ j. FormAfter l at j r) (sym e) f
 
-  pub form-unfit : 3 ≤ k → (k ≡ 6 → ⊥) → hasBody l at k ≡ false → FormAfter l at k NoForm
+  pub form-unfit : 3 ≤ k → (k ≡ 6 → ⊥) → (k ≡ 7 → ⊥) → hasBody l at k ≡ false → FormAfter l at k NoForm
   unfolding hasBody
-  form-unfit i n h = record {
-    form-is = literals-line l at k i n ∙ unfit-body k (bodyLine k) (bodyIn (tokens (drop at l))) h;
+  form-unfit i n m h = record {
+    form-is = literals-line l at k i n m ∙ unfit-body k (bodyLine k) (bodyIn (tokens (drop at l))) h;
   }
 
   pub form-constraint : 3 ≤ k → k < 5 → hasBody l at k ≡ true → FormAfter l at k (Constraint (k - 3) at)
   form-constraint i j h =
-      let makes = body-makes k (bodyLine k) (literals-line l at k i (λ z. omega arith)) h in
+      let makes = body-makes k (bodyLine k) (literals-line l at k i (λ z. omega arith) (λ z. omega arith)) h in
       let line = makes .line-is ∙ constraint-kind k (makes .literals) j in
       record {
         form-is =
@@ -208,12 +217,12 @@ module _ {l : List ℕ} {at k : ℕ} where
   unfolding hasBody
   form-seen e h =
       let o = one-literal (bodyIn (tokens (drop at l))) (rw e at h) in
-      let f = literals-line l at 5 (omega arith) (λ z. omega arith) ∙ ap (withBody 5 seenOf) (o .1) in
+      let f = literals-line l at 5 (omega arith) (λ z. omega arith) (λ z. omega arith) ∙ ap (withBody 5 seenOf) (o .1) in
       form-as e (record { form-is = record { reading = o .0; literals-are = o .1; line-is = f } })
 
-  pub form-other : 5 ≤ k → (k ≡ 6 → ⊥) → hasBody l at k ≡ true → (k ≡ 5 → ⊥) → FormAfter l at k NoForm
-  form-other i n h m =
-      let makes = body-makes k (bodyLine k) (literals-line l at k (omega arith) n) h in
+  pub form-other : 5 ≤ k → (k ≡ 6 → ⊥) → (k ≡ 7 → ⊥) → hasBody l at k ≡ true → (k ≡ 5 → ⊥) → FormAfter l at k NoForm
+  form-other i n p h m =
+      let makes = body-makes k (bodyLine k) (literals-line l at k (omega arith) n p) h in
       record { form-is = makes .line-is ∙ other-kind k (makes .literals) i m }
 
 -- The ways out of `form_of`

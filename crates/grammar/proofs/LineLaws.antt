@@ -19,7 +19,8 @@ use types.Run.{OneOf, miss}
 use borrow.Author.Tests.{ltb-true, eqb-true}
 use Rattle.text.specs.Tokens.{Token}
 use Rattle.text.specs.Words.{namesIn}
-use Rattle.text.proofs.NameLaws.{names-end, names-closing, names-name, names-form}
+use Rattle.text.proofs.NameLaws.{names-end, names-closing, names-name, names-other, names-form}
+use Rattle.text.proofs.NumberLaws.{number-unlettered}
 use Rattle.text.proofs.ByteLaws.{and-true-both}
 use Rattle.text.proofs.Each.{Each}
 use Rattle.formulas.specs.Sentence.{sentenceNames, formTokens, tokensOf, isSentence}
@@ -30,11 +31,11 @@ use Rattle.formulas.specs.Parsing.{sizeOf}
 use Rattle.formulas.specs.Items.{Item}
 use Rattle.formulas.proofs.Sizes.{formula-size}
 use Rattle.grammar.specs.Line.{Literal, Line, lineWords, ofLiteral, bodyTokens, lineTokens, areNamed, takes}
-use Rattle.grammar.specs.Line.{isLine, bodyNames, lineNames, bringing}
+use Rattle.grammar.specs.Line.{isCost, isLine, bodyNames, lineNames, bringing, pricing}
 use Rattle.grammar.specs.LineOf.{lineOf}
 use Rattle.grammar.specs.Parsing.{Brought}
 use Rattle.grammar.specs.declared.line.Form.{Form}
-use Rattle.grammar.specs.declared.line.Form.the-variants.{Skipped, NoForm, Clause, Constraint, Seen, Query}
+use Rattle.grammar.specs.declared.line.Form.the-variants.{Skipped, NoForm, Clause, Constraint, Seen, Query, Cost}
 use Rattle.grammar.specs.declared.brings.Brings.{Brings}
 use Rattle.grammar.proofs.line.Form.{the-type}
 use Rattle.grammar.proofs.Spelling.{sentence-read, clause-parts, constraint-parts}
@@ -46,30 +47,48 @@ literal-names : (x : Literal) → sentenceNames (ofLiteral x) ≡ bodyNames (x �
 literal-names (Literal.literal false w) = name-names w
 literal-names (Literal.literal true w) = negation-names w
 
-body-names : (ls : List Literal) (ts : List Token) → namesIn (bodyTokens ls ++ ts) ≡ bodyNames ls ++ namesIn ts
-unfolding bodyTokens
-body-names [] ts = refl
-body-names (Literal.literal b w ∷ ls) ts =
-    rw (append-assoc, sentence-names (ofLiteral (Literal.literal b w)), literal-names, body-names ls)
+body-names : (ls : List Literal) (ts : List Token) → areNamed ls ≡ true
+    → namesIn (bodyTokens ls ++ ts) ≡ bodyNames ls ++ namesIn ts
+unfolding bodyTokens areNamed
+body-names [] ts h = refl
+body-names (Literal.literal b w ∷ ls) ts h =
+    let x = Literal.literal b w in
+    let a = and-true-both (isSentence (ofLiteral x)) (areNamed ls) h in
+    rw (append-assoc, sentence-names (ofLiteral x) _ (a .0), literal-names, body-names ls ts (a .1))
 
 -- a line with the word w, of whose tokens ns are the names
 form-names : (w : List ℕ) (ts : List Token) {ns : List (List ℕ)}
     → namesIn (ts ++ (Token.closing ∷ [])) ≡ ns ++ namesIn (Token.closing ∷ []) → namesIn (formTokens w ts) ≡ ns
 form-names w ts h = names-form (ts ++ (Token.closing ∷ [])) w ∙ h ∙ rw (names-closing, names-end, append-nil)
 
-pub names-are : (x : Line) → namesIn (lineTokens x) ≡ lineNames x
-unfolding lineTokens
-names-are Line.skipped = names-end
-names-are Line.noForm = names-end
-names-are (Line.clause k w ls) =
-    form-names (getD lineWords k []) (Token.word w ∷ bodyTokens ls) (rw (names-name, body-names ls))
-names-are (Line.constraint k ls) = form-names (getD lineWords (3 + k) []) (bodyTokens ls) (body-names ls _)
-names-are (Line.seen x) =
-    form-names (getD lineWords 5 []) (tokensOf (ofLiteral x)) (sentence-names (ofLiteral x) _) ∙ literal-names x
-names-are (Line.query f) = form-names (getD lineWords 6 []) (tokensOf f) (sentence-names f _)
+-- numbers are no names
+cost-names : (w p s : List ℕ) → isCost w p s ≡ true
+    → namesIn (Token.word w ∷ (Token.word p ∷ (Token.word s ∷ (Token.closing ∷ []))))
+    ≡ (w ∷ []) ++ namesIn (Token.closing ∷ [])
+cost-names w p s h =
+    let a = and-true-both _ _ h in
+    let b = and-true-both _ _ (a .0) in
+    rw (names-name _ w (b .0), names-other _ p (number-unlettered p (b .1)), names-other _ s (number-unlettered s (a .1)))
+
+pub names-are : (x : Line) → isLine x ≡ true → namesIn (lineTokens x) ≡ lineNames x
+unfolding lineTokens isLine
+names-are Line.skipped h = names-end
+names-are Line.noForm h = names-end
+names-are (Line.clause k w ls) h =
+    let p = clause-parts {k = k} {w = w} {ls = ls} h in
+    form-names (getD lineWords k []) (Token.word w ∷ bodyTokens ls)
+    (rw (names-name _ w (p .head), body-names ls _ (p .body)))
+names-are (Line.constraint k ls) h =
+    form-names (getD lineWords (3 + k) []) (bodyTokens ls)
+    (body-names ls _ (constraint-parts {k = k} {ls = ls} h .body))
+names-are (Line.seen x) h =
+    form-names (getD lineWords 5 []) (tokensOf (ofLiteral x)) (sentence-names (ofLiteral x) _ h) ∙ literal-names x
+names-are (Line.query f) h = form-names (getD lineWords 6 []) (tokensOf f) (sentence-names f _ h)
+names-are (Line.cost w p s) h =
+    form-names (getD lineWords 7 []) (Token.word w ∷ (Token.word p ∷ (Token.word s ∷ []))) (cost-names w p s h)
 
 pub line-names : (ts : List Token) → isLine (lineOf ts) ≡ true → namesIn ts ≡ lineNames (lineOf ts)
-line-names ts h = sym (ap namesIn (line-spells ts h)) ∙ names-are (lineOf ts)
+line-names ts h = sym (ap namesIn (line-spells ts h)) ∙ names-are (lineOf ts) h
 
 -- they begin with a letter
 
@@ -91,6 +110,7 @@ line-lettered (Line.clause k w ls) h =
 line-lettered (Line.constraint k ls) h = body-lettered ls (constraint-parts {k = k} {ls = ls} h .body)
 line-lettered (Line.seen x) h = rw (literal-names x) at (sentence-lettered (ofLiteral x) h)
 line-lettered (Line.query f) h = sentence-lettered f h
+line-lettered (Line.cost w p s) h = (and-true-both _ _ (and-true-both _ _ h .0) .0, tt)
 
 -- What a line brings, by its form
 
@@ -101,6 +121,7 @@ bringsOf (Clause k a e at) = bringing 1 0 0 0
 bringsOf (Constraint k at) = bringing 0 1 0 0
 bringsOf (Seen at) = bringing 0 0 0 0
 bringsOf (Query at d) = bringing 0 0 1 d
+bringsOf (Cost a e p s) = pricing p s
 
 brought : (x : Form) → Brought x (bringsOf x)
 brought Skipped l y h = rw h
@@ -109,6 +130,7 @@ brought (Clause k a e at) l y h = rw (h .2 .line-is)
 brought (Constraint k at) l y h = rw (h .1 .line-is)
 brought (Seen at) l y h = rw (h .line-is)
 brought (Query at d) l y h = rw (h .line-is, h .depth-is)
+brought (Cost a e p s) l y h = rw (h .1 .line-is, h .1 .price-is, h .1 .supplement-is)
 
 -- the forms that bring nothing
 pub brought-nothing : (x : Form) → OneOf (0 ∷ (1 ∷ (4 ∷ []))) (tagOf the-type x) → Brought x (bringing 0 0 0 0)
@@ -118,6 +140,7 @@ brought-nothing (Clause k a e at) h = absurd (miss (0 ∷ (1 ∷ (4 ∷ []))) 2 
 brought-nothing (Constraint k at) h = absurd (miss (0 ∷ (1 ∷ (4 ∷ []))) 3 tt h)
 brought-nothing (Seen at) h = brought (Seen at)
 brought-nothing (Query at d) h = absurd (miss (0 ∷ (1 ∷ (4 ∷ []))) 5 tt h)
+brought-nothing (Cost a e p s) h = absurd (miss (0 ∷ (1 ∷ (4 ∷ []))) 6 tt h)
 
 pub brought-as : {x : Form} (y : Form) → x ≡ y → Brought x (bringsOf y)
 brought-as y e = subst (λ z. Brought z (bringsOf y)) (sym e) (brought y)
@@ -142,6 +165,7 @@ Shaped n (Line.clause k w ls) = ClauseShaped k ls
 Shaped n (Line.constraint k ls) = (k < 2) × Bodied ls
 Shaped n (Line.seen x) = Unit {0}
 Shaped n (Line.query f) = 2 * sizeOf f ≤ n
+Shaped n (Line.cost w p s) = Unit {0}
 
 no-literal : (ls : List Literal) → length ls ≡ 0 → ls ≡ []
 no-literal [] h = refl
@@ -171,6 +195,7 @@ shaped (Line.constraint k ls) h = let p = constraint-parts h in constraint-shape
 shaped (Line.seen x) h = tt
 shaped (Line.query f) h =
     omega (arith, formula-size (tokensOf f ++ (Token.closing ∷ [])) f (Item.closing ∷ []) (sentence-read f h))
+shaped (Line.cost w p s) h = tt
 
 right-shaped : (ts : List Token) (x : Line) → Right ts x → Shaped (length ts) x
 right-shaped ts x (inl e) = rw e tt

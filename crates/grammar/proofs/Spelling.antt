@@ -27,10 +27,11 @@ use Rattle.formulas.proofs.Spelling.{tokensOf-read, spelledItems, AreSentences,
 use Rattle.grammar.specs.Line.{Literal, Line, lineWords, ofLiteral, bodyTokens, lineTokens, areNamed, takes}
 use Rattle.grammar.specs.Line.{isLine}
 use Rattle.grammar.specs.LineOf.{withSentence, literalsOf, withBody, seenOf, clauseOf, queryOf, bodyLine, ofKind}
-use Rattle.grammar.specs.LineOf.{withItems, kindOf, lineOf, isNoForm}
+use Rattle.grammar.specs.LineOf.{withItems, flatWords, withWords, behindWord, kindOf, lineOf, isNoForm}
 use Rattle.grammar.specs.Parsing.{literalsAmong, bodyIn}
 use Rattle.grammar.proofs.KindLaws.{word-kind, kind-word, fit-body, body-kind}
-use Rattle.grammar.proofs.Forms.{clause-is, constraint-kind}
+use Rattle.grammar.proofs.Forms.{behind-items, clause-is, constraint-kind}
+use Rattle.grammar.proofs.Costs.{FlatSpells, flat-spells, cost-spells, cost-words}
 
 -- What is spelled is read
 
@@ -61,16 +62,17 @@ body-read (x ∷ ls) h =
 
 -- the line with the word of kind k and the tokens ts behind it
 word-read : (k : ℕ) (ts : List Token) → k < length lineWords
-    → lineOf (formTokens (getD lineWords k []) ts) ≡ withItems k (itemsOf (ts ++ (Token.closing ∷ [])))
+    → lineOf (formTokens (getD lineWords k []) ts) ≡ behindWord k (ts ++ (Token.closing ∷ []))
 unfolding lineOf
 word-read k ts h = rw (word-kind k h)
 
 -- and where these are literals
-literals-read : (k : ℕ) (ts : List Token) (ls : List Literal) → k < length lineWords → 3 ≤ k → (k ≡ 6 → ⊥)
+literals-read : (k : ℕ) (ts : List Token) (ls : List Literal) → 3 ≤ k → k < 6
     → bodyIn (ts ++ (Token.closing ∷ [])) ≡ Option.some ls → takes k (length ls) ≡ true
     → lineOf (formTokens (getD lineWords k []) ts) ≡ bodyLine k ls
-literals-read k ts ls h i n e t =
-    word-read k ts h ∙ body-kind k (itemsOf (ts ++ (Token.closing ∷ []))) i n ∙ ap (withBody k (bodyLine k)) e
+literals-read k ts ls i j e t =
+    word-read k ts (omega arith) ∙ behind-items k (ts ++ (Token.closing ∷ [])) (λ z. omega arith)
+    ∙ body-kind k (itemsOf (ts ++ (Token.closing ∷ []))) i (λ z. omega arith) ∙ ap (withBody k (bodyLine k)) e
     ∙ fit-body k (bodyLine k) ls t
 
 -- what a clause that passes isLine is made of
@@ -93,7 +95,10 @@ clause-read : (k : ℕ) (w : List ℕ) (ls : List Literal) → isLine (Line.clau
 unfolding lineTokens
 clause-read k w ls h =
     let p = clause-parts h in
-    word-read k (Token.word w ∷ bodyTokens ls) (omega arith) ∙ clause-is k (omega arith) refl (p .head)
+    let lt = p .kind-lt in
+    word-read k (Token.word w ∷ bodyTokens ls) (omega arith)
+    ∙ behind-items k (Token.word w ∷ (bodyTokens ls ++ (Token.closing ∷ []))) (λ z. omega arith)
+    ∙ clause-is k (omega arith) refl (p .head)
     ∙ ap (withBody k (Line.clause k w)) (body-read ls (p .body)) ∙ fit-body k (Line.clause k w) ls (p .fits)
 
 -- what a constraint that passes isLine is made of
@@ -115,19 +120,24 @@ unfolding lineTokens
 constraint-read k ls h =
     let p = constraint-parts h in
     let e : 3 + k - 3 ≡ k = omega arith in
-    literals-read (3 + k) (bodyTokens ls) ls (omega arith) (omega arith) (λ z. omega arith) (body-read ls (p .body))
-    (p .fits)
+    literals-read (3 + k) (bodyTokens ls) ls (omega arith) (omega arith) (body-read ls (p .body)) (p .fits)
     ∙ constraint-kind (3 + k) ls (omega arith) ∙ ap (λ (i : ℕ). Line.constraint i ls) e
 
 seen-read : (x : Literal) → isLine (Line.seen x) ≡ true → lineOf (lineTokens (Line.seen x)) ≡ Line.seen x
 unfolding isLine lineTokens literalsOf
 seen-read x h =
     let e = ap literalsAmong (sentence-read (ofLiteral x) h) ∙ among-literal x (Option.some (Item.closing ∷ [])) in
-    literals-read 5 (tokensOf (ofLiteral x)) (x ∷ []) (omega arith) (omega arith) (λ z. omega arith) e refl
+    literals-read 5 (tokensOf (ofLiteral x)) (x ∷ []) (omega arith) (omega arith) e refl
 
 query-read : (f : Sentence) → isLine (Line.query f) ≡ true → lineOf (lineTokens (Line.query f)) ≡ Line.query f
 unfolding isLine lineTokens
 query-read f h = word-read 6 (tokensOf f) (omega arith) ∙ ap (withItems 6) (sentence-read f h)
+
+cost-read : (w p s : List ℕ) → isLine (Line.cost w p s) ≡ true
+    → lineOf (lineTokens (Line.cost w p s)) ≡ Line.cost w p s
+unfolding isLine lineTokens
+cost-read w p s h =
+    word-read 7 (Token.word w ∷ (Token.word p ∷ (Token.word s ∷ []))) (omega arith) ∙ cost-words w p s h
 
 pub line-read : (x : Line) → isLine x ≡ true → lineOf (lineTokens x) ≡ x
 unfolding isLine lineTokens lineOf
@@ -137,6 +147,7 @@ line-read (Line.clause k w ls) h = clause-read k w ls h
 line-read (Line.constraint k ls) h = constraint-read k ls h
 line-read (Line.seen x) h = seen-read x h
 line-read (Line.query f) h = query-read f h
+line-read (Line.cost w p s) h = cost-read w p s h
 
 -- What is read is spelled
 
@@ -242,6 +253,17 @@ module _ (w : List ℕ) (ts : List Token) where
   items-right k Option.none e h = inl refl
   items-right k (Option.some m) e h = kind-right k m e h
 
+  -- flat lines
+  words-right : (x : Option (List (List ℕ))) → w ≡ getD lineWords 7 [] → FlatSpells ts x → Right opened (withWords x)
+  words-right Option.none e h = inl refl
+  words-right (Option.some ws) e h = rw (e, h) (cost-spells ws)
+
+  behind-right : (k : ℕ) → (k < length lineWords → w ≡ getD lineWords k []) → Right opened (behindWord k ts)
+  behind-right k e =
+      picked-right (eqb k 7) (withWords (flatWords ts)) _
+      (λ q. let z = eqb-true k 7 q in words-right (flatWords ts) (rw z at (e (omega arith))) (flat-spells ts))
+      (λ _. items-right k (itemsOf ts) e (items-spell ts))
+
 pub line-right : (ts : List Token) → Right ts (lineOf ts)
 unfolding lineOf isLine lineTokens
 line-right [] = inr (refl, refl)
@@ -250,8 +272,7 @@ line-right (Token.word w ∷ ts) = inl refl
 line-right (Token.opening ∷ []) = inl refl
 line-right (Token.opening ∷ (Token.opening ∷ ts)) = inl refl
 line-right (Token.opening ∷ (Token.closing ∷ ts)) = inl refl
-line-right (Token.opening ∷ (Token.word w ∷ ts)) =
-    items-right w ts (kindOf w) (itemsOf ts) (kind-word w) (items-spell ts)
+line-right (Token.opening ∷ (Token.word w ∷ ts)) = behind-right w ts (kindOf w) (kind-word w)
 
 -- What follows for a line that is no form, and for one that is
 
@@ -263,6 +284,7 @@ form-true (Line.clause k w ls) h = refl
 form-true (Line.constraint k ls) h = refl
 form-true (Line.seen x) h = refl
 form-true (Line.query f) h = refl
+form-true (Line.cost w p s) h = refl
 
 module _ (ts : List Token) (x : Line) where
   right-spells : Right ts x → isLine x ≡ true → lineTokens x ≡ ts

@@ -1,14 +1,15 @@
 -- The forms of a line, and how they are spelled.
 -- From: document 01, "The file" ("Every other line is one form of nested brackets: `(true N)`, `(false N)`,
 -- `(if N L..)`, `(never L..)`, `(seen L)`, `(query F)`, with at least one L"; "L is N or `(not N)`"); document 02, [5]
--- (`(avoid L..)`).
+-- (`(avoid L..)`), [7] (`(cost N P S)`).
 --
 --   Literal         a name or its negation: L
---   Line            what a line is: skipped, one of the seven forms, or no form
+--   Line            what a line is: skipped, one of the eight forms, or no form
 --   lineTokens x    the tokens of the line x; a skipped one has none
 --   isLine x        x is a skipped line or one of the forms, with names where names stand and literals where they must
 --   lineNames x     the names of the line x in order
---   brings x        how many clauses, constraints and queries the line x brings, and the depth of its formula
+--   brings x        how many clauses, constraints and queries the line x brings, the depth of its formula, and what its
+--                   price and its supplement are
 use mathlib.Core.Bool.{Bool, true, false, _&&_}
 use mathlib.Core.List.{List, [], _∷_, _++_}
 use Prim.Native.Nat.{ℕ, _+_}
@@ -18,6 +19,7 @@ use Rattle.words.specs.Choice.{pick}
 use Rattle.text.specs.Bytes.{bytes}
 use Rattle.text.specs.Tokens.{Token}
 use Rattle.text.specs.Words.{beginsWithLetter}
+use Rattle.text.specs.Numbers.{numberOf, isNumber}
 use Rattle.formulas.specs.Sentence.{Sentence, formTokens, tokensOf, depthOf, isSentence, sentenceNames}
 use Rattle.grammar.specs.declared.brings.Brings.{Brings}
 
@@ -26,7 +28,7 @@ pub data Literal : Type 0 where
   literal : Bool → List ℕ → Literal
 
 -- a clause by its kind (0 fact, 1 assumption, 2 rule), its head and its literals; a constraint by its kind (0 never,
--- 1 avoid) and its literals
+-- 1 avoid) and its literals; a cost by the words of its name, its price and its supplement
 pub data Line : Type 0 where
   skipped : Line
   noForm : Line
@@ -34,13 +36,14 @@ pub data Line : Type 0 where
   constraint : ℕ → List Literal → Line
   seen : Literal → Line
   query : Sentence → Line
+  cost : List ℕ → List ℕ → List ℕ → Line
 
--- the words of the kinds of clauses, of the kinds of constraints, of readings and of queries
+-- the words of the kinds of clauses, of the kinds of constraints, of readings, of queries and of costs
 abbrev pub lineWords : List (List ℕ)
 lineWords =
     bytes "true" ∷ bytes "false" ∷ bytes "if"
     ∷ bytes "never" ∷ bytes "avoid"
-    ∷ bytes "seen" ∷ bytes "query" ∷ []
+    ∷ bytes "seen" ∷ bytes "query" ∷ bytes "cost" ∷ []
 
 -- the formula that a literal is
 abbrev pub ofLiteral : Literal → Sentence
@@ -58,6 +61,8 @@ lineTokens (Line.clause k w l) = formTokens (getD lineWords k []) (Token.word w 
 lineTokens (Line.constraint k l) = formTokens (getD lineWords (3 + k) []) (bodyTokens l)
 lineTokens (Line.seen x) = formTokens (getD lineWords 5 []) (tokensOf (ofLiteral x))
 lineTokens (Line.query f) = formTokens (getD lineWords 6 []) (tokensOf f)
+lineTokens (Line.cost w p s) =
+    formTokens (getD lineWords 7 []) (Token.word w ∷ (Token.word p ∷ (Token.word s ∷ [])))
 
 -- each literal is one of a name
 unfoldable pub areNamed : List Literal → Bool
@@ -68,6 +73,10 @@ areNamed (x ∷ l) = isSentence (ofLiteral x) && areNamed l
 abbrev pub takes : ℕ → ℕ → Bool
 takes k n = pick (ltb k 2) (eqb n 0) (pick (eqb k 5) (eqb n 1) (ltb 0 n))
 
+-- a name and two numbers
+abbrev pub isCost : List ℕ → List ℕ → List ℕ → Bool
+isCost w p s = beginsWithLetter w && isNumber p && isNumber s
+
 unfoldable pub isLine : Line → Bool
 isLine Line.skipped = true
 isLine Line.noForm = false
@@ -75,6 +84,7 @@ isLine (Line.clause k w l) = ltb k 3 && beginsWithLetter w && areNamed l && take
 isLine (Line.constraint k l) = ltb k 2 && areNamed l && takes (3 + k) (length l)
 isLine (Line.seen x) = isSentence (ofLiteral x)
 isLine (Line.query f) = isSentence f
+isLine (Line.cost w p s) = isCost w p s
 
 abbrev pub bodyNames : List Literal → List (List ℕ)
 bodyNames [] = []
@@ -87,10 +97,15 @@ lineNames (Line.clause k w l) = w ∷ bodyNames l
 lineNames (Line.constraint k l) = bodyNames l
 lineNames (Line.seen x) = bodyNames (x ∷ [])
 lineNames (Line.query f) = sentenceNames f
+lineNames (Line.cost w p s) = w ∷ []
 
 -- a formula has depth 1 or more, and 0 stands for none
 abbrev pub bringing : ℕ → ℕ → ℕ → ℕ → Brings
-bringing n m q d = record { clauses = n; constraints = m; queries = q; depth = d }
+bringing n m q d = record { clauses = n; constraints = m; queries = q; depth = d; price = 0; supplement = 0 }
+
+-- a price and a supplement alone
+abbrev pub pricing : ℕ → ℕ → Brings
+pricing p s = record { clauses = 0; constraints = 0; queries = 0; depth = 0; price = p; supplement = s }
 
 abbrev pub brings : Line → Brings
 brings Line.skipped = bringing 0 0 0 0
@@ -99,3 +114,4 @@ brings (Line.clause k w l) = bringing 1 0 0 0
 brings (Line.constraint k l) = bringing 0 1 0 0
 brings (Line.seen x) = bringing 0 0 0 0
 brings (Line.query f) = bringing 0 0 1 (depthOf f)
+brings (Line.cost w p s) = pricing (numberOf p) (numberOf s)

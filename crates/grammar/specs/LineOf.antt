@@ -1,8 +1,10 @@
 -- The form of a line, read from its tokens. That this reads exactly the lines that forms spell is a claim (LineExact).
 --
 --   literalsOf l    the literals that the items l are, up to the line's closing bracket, or that they are none
---   kindOf w        the kind of the line with the word w: 0 true, 1 false, 2 if, 3 never, 4 avoid, 5 seen, 6 query;
---                   otherwise 7
+--   flatWords ts    the words that the tokens ts are, up to the line's closing bracket, or that they are none
+--   kindOf w        the kind of the line with the word w: 0 true, 1 false, 2 if, 3 never, 4 avoid, 5 seen, 6 query,
+--                   7 cost; otherwise 8
+--   behindWord k ts the line of kind k with the tokens ts behind its word
 --   lineOf ts       the line with the tokens ts
 --   isNoForm x      the line x is no form
 use mathlib.Core.Bool.{Bool, true, false}
@@ -16,7 +18,7 @@ use Rattle.text.specs.Tokens.{Token}
 use Rattle.text.specs.Words.{placeOf}
 use Rattle.formulas.specs.Sentence.{Sentence}
 use Rattle.formulas.specs.Items.{prepend, Item, withFirst, itemsOf}
-use Rattle.grammar.specs.Line.{Literal, Line, lineWords, takes}
+use Rattle.grammar.specs.Line.{Literal, Line, lineWords, takes, isCost}
 
 -- a formula that is a literal, in front of literals
 abbrev pub withSentence : Sentence → Option (List Literal) → Option (List Literal)
@@ -76,6 +78,29 @@ abbrev pub withItems : ℕ → Option (List Item) → Line
 withItems k Option.none = Line.noForm
 withItems k (Option.some l) = ofKind k l
 
+-- the tokens of a line without brackets of its own: words, and the line's closing bracket
+unfoldable pub flatWords : List Token → Option (List (List ℕ))
+flatWords [] = Option.none
+flatWords (Token.opening ∷ ts) = Option.none
+flatWords (Token.closing ∷ []) = Option.some []
+flatWords (Token.closing ∷ (t ∷ ts)) = Option.none
+flatWords (Token.word w ∷ ts) = prepend w (flatWords ts)
+
+-- the cost of these words: a name, a price and a supplement
+abbrev pub costLine : List (List ℕ) → Line
+costLine [] = Line.noForm
+costLine (w ∷ []) = Line.noForm
+costLine (w ∷ (p ∷ [])) = Line.noForm
+costLine (w ∷ (p ∷ (s ∷ []))) = pick (isCost w p s) (Line.cost w p s) Line.noForm
+costLine (w ∷ (p ∷ (s ∷ (v ∷ ws)))) = Line.noForm
+
+abbrev pub withWords : Option (List (List ℕ)) → Line
+withWords Option.none = Line.noForm
+withWords (Option.some ws) = costLine ws
+
+abbrev pub behindWord : ℕ → List Token → Line
+behindWord k ts = pick (eqb k 7) (withWords (flatWords ts)) (withItems k (itemsOf ts))
+
 abbrev pub kindOf : List ℕ → ℕ
 kindOf w = placeOf lineWords w
 
@@ -86,7 +111,7 @@ lineOf (Token.word w ∷ ts) = Line.noForm
 lineOf (Token.opening ∷ []) = Line.noForm
 lineOf (Token.opening ∷ (Token.opening ∷ ts)) = Line.noForm
 lineOf (Token.opening ∷ (Token.closing ∷ ts)) = Line.noForm
-lineOf (Token.opening ∷ (Token.word w ∷ ts)) = withItems (kindOf w) (itemsOf ts)
+lineOf (Token.opening ∷ (Token.word w ∷ ts)) = behindWord (kindOf w) ts
 
 abbrev pub isNoForm : Line → Bool
 isNoForm Line.skipped = false
@@ -95,3 +120,4 @@ isNoForm (Line.clause k w l) = false
 isNoForm (Line.constraint k l) = false
 isNoForm (Line.seen x) = false
 isNoForm (Line.query f) = false
+isNoForm (Line.cost w p s) = false

@@ -3,26 +3,30 @@
 --   bodyIn ts            the literals that the tokens ts are, up to the line's closing bracket, or that they are none
 --   LiteralFound l at r  r is the literal at place at of the line l, or the body's end, or neither
 --   hasBody l at k       from place at to the line's end there are literals, as many as a line of kind k takes
+--   NumeralFound l at r  r is the number at place at of the flat line l, with the place behind it, or none
 --   FormFound l r        r is the form of the line l, with the places of its parts
 use mathlib.Core.Path.{_≡_}
-use mathlib.Core.Bool.{Bool, false}
+use mathlib.Core.Bool.{Bool, true, false}
 use mathlib.Core.List.{List, [], _∷_}
 use mathlib.Core.Option.{Option}
 use Prim.Native.Nat.{ℕ, _≤_, _<_}
 use lib.ListN.{length, drop}
 use lib.Seq.{slice}
 use Rattle.text.specs.Tokens.{Token, tokens}
+use Rattle.text.specs.Numbers.{numberOf, isNumber}
 use Rattle.formulas.specs.Parsing.{Items}
 use Rattle.formulas.specs.Sentence.{depthOf}
 use Rattle.formulas.specs.Sentence.{Sentence}
 use Rattle.formulas.specs.Items.{prepend, Item, itemsOf}
 use Rattle.grammar.specs.declared.literal.Lit.{Lit}
 use Rattle.grammar.specs.declared.literal.Lit.the-variants as lit
+use Rattle.grammar.specs.declared.numeral.Numeral.{Numeral}
+use Rattle.grammar.specs.declared.numeral.Numeral.the-variants as numeral
 use Rattle.grammar.specs.declared.line.Form.{Form}
-use Rattle.grammar.specs.declared.line.Form.the-variants.{Skipped, NoForm, Clause, Constraint, Seen, Query}
+use Rattle.grammar.specs.declared.line.Form.the-variants.{Skipped, NoForm, Clause, Constraint, Seen, Query, Cost}
 use Rattle.grammar.specs.declared.brings.Brings.{Brings}
 use Rattle.grammar.specs.Line.{Line, Literal, takes, brings}
-use Rattle.grammar.specs.LineOf.{literalsOf, isEnd, withItems, lineOf}
+use Rattle.grammar.specs.LineOf.{literalsOf, isEnd, flatWords, behindWord, lineOf}
 
 abbrev pub endsItems : Items → Bool
 endsItems Option.none = false
@@ -67,6 +71,26 @@ fitsBody k (Option.some ls) = takes k (length ls)
 unfoldable pub hasBody : List ℕ → ℕ → ℕ → Bool
 hasBody l at k = fitsBody k (bodyIn (tokens (drop at l)))
 
+-- what flat words begin with is no number
+abbrev pub Unnumbered : Option (List (List ℕ)) → Type 0
+Unnumbered Option.none = Unit {0}
+Unnumbered (Option.some []) = Unit {0}
+Unnumbered (Option.some (w ∷ ws)) = isNumber w ≡ false
+
+-- the number n with the rest behind place next
+pub record NumeralAt (l : List ℕ) (at n next : ℕ) : Type 0 where
+  pub digits : List ℕ
+  pub words-are : flatWords (tokens (drop at l)) ≡ prepend digits (flatWords (tokens (drop next l)))
+  pub is-number : isNumber digits ≡ true
+  pub value-is : n ≡ numberOf digits
+
+abbrev pub NumeralIs : List ℕ → ℕ → Numeral → Type 0
+NumeralIs l at numeral.NoNumeral = Unnumbered (flatWords (tokens (drop at l)))
+NumeralIs l at (numeral.Numeral n next) = NumeralAt l at n next
+
+pub record NumeralFound (l : List ℕ) (at : ℕ) (r : Numeral) : Type 0 where
+  pub numeral-is : NumeralIs l at r
+
 -- the literals from place at on make the line x
 pub record BodyMakes (l : List ℕ) (at : ℕ) (make : List Literal → Line) (x : Line) : Type 0 where
   pub literals : List Literal
@@ -86,6 +110,14 @@ pub record QueryMakes (l : List ℕ) (at d : ℕ) (x : Line) : Type 0 where
   pub depth-is : d ≡ depthOf sentence
   pub line-is : x ≡ Line.query sentence
 
+-- the name w with the price p and the supplement s makes the line x
+pub record CostMakes (w : List ℕ) (p s : ℕ) (x : Line) : Type 0 where
+  pub price : List ℕ
+  pub supplement : List ℕ
+  pub price-is : p ≡ numberOf price
+  pub supplement-is : s ≡ numberOf supplement
+  pub line-is : x ≡ Line.cost w price supplement
+
 -- a and e are the ends of a part of the line
 abbrev pub Part : List ℕ → ℕ → ℕ → Type 0
 Part l a e = (a < e) × (e ≤ length l)
@@ -97,10 +129,11 @@ FormIs l (Clause k a e at) x = (k ≤ 2) × Part l a e × BodyMakes l at (Line.c
 FormIs l (Constraint k at) x = (k ≤ 1) × BodyMakes l at (Line.constraint k) x
 FormIs l (Seen at) x = SeenMakes l at x
 FormIs l (Query at d) x = QueryMakes l at d x
+FormIs l (Cost a e p s) x = Part l a e × CostMakes (slice a e l) p s x
 
 -- the line of a kind whose tokens behind its word begin at place at
 pub record FormAfter (l : List ℕ) (at kind : ℕ) (r : Form) : Type 0 where
-  pub form-is : FormIs l r (withItems kind (itemsOf (tokens (drop at l))))
+  pub form-is : FormIs l r (behindWord kind (tokens (drop at l)))
 
 -- a closing bracket is all that is left of the line from place at on
 unfoldable pub endsLine : List ℕ → ℕ → Bool

@@ -1,9 +1,12 @@
 // What a line brings.
 
-// How many clauses, constraints and queries a line brings, and the depth of its formula, 0 without one.
+// How many clauses, constraints and queries a line brings, the depth of its formula, 0 without one, and its price and
+// supplement, 0 without them.
 pub struct Brings {
     pub clauses: usize,
     pub constraints: usize,
     pub queries: usize,
     pub depth: usize,
+    pub price: usize,
+    pub supplement: usize,
 }

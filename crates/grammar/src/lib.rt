@@ -2,3 +2,4 @@
 pub mod brings;
 pub mod line;
 pub mod literal;
+pub mod numeral;

@@ -7,6 +7,8 @@ ghost use Rattle.grammar.specs.LineOf.{kindOf};
 ghost use Rattle.grammar.specs.Parsing.{FormFound, FormAfter, Brought, endsLine};
 use crate::brings::Brings;
 use crate::literal::has_body;
+use crate::numeral::Numeral;
+use crate::numeral::numeral_at;
 use formulas::formula::Parse;
 use formulas::formula::formula_at;
 use formulas::keyword::place_of;
@@ -15,7 +17,7 @@ use text::tokens::Next;
 use text::tokens::token;
 
 // The form of a line with the places of its parts: a clause's kind and the ends of its head, a constraint's kind, the
-// place where literals or a formula begin, and a formula's depth.
+// place where literals or a formula begin, a formula's depth; and the ends of a cost's name, its price and supplement.
 pub enum Form {
     Skipped,
     NoForm,
@@ -23,17 +25,18 @@ pub enum Form {
     Constraint(usize, usize),
     Seen(usize),
     Query(usize, usize),
+    Cost(usize, usize, usize, usize),
 }
 
 // The words of lines, in the order of their kinds, each behind its length.
-const LINE_WORDS: [u8; 37] = *b"\x04true\x05false\x02if\x05never\x05avoid\x04seen\x05query";
+const LINE_WORDS: [u8; 42] = *b"\x04true\x05false\x02if\x05never\x05avoid\x04seen\x05query\x04cost";
 
-// The kind of the line whose word is the part of l from a to e, or 7.
+// The kind of the line whose word is the part of l from a to e, or 8.
 fn kind_of(l: &[u8], a: usize, e: usize) -> usize
     requires { ⌜ (a ≤ e) × (e ≤ length (now l)) ⌝ }
     ensures { λ r. ⌜ r ≡ kindOf (slice a e (now (l .entry))) ⌝ }
 {
-    place_of(l, a, e, &LINE_WORDS, 7)
+    place_of(l, a, e, &LINE_WORDS, 8)
 }
 
 // Whether a closing bracket is all that is left of a line from a place on.
@@ -79,6 +82,28 @@ fn query_form(l: &[u8], at: usize) -> Form
     Form::Query(at, depth)
 }
 
+// A cost from behind its word on: a name, a price and a supplement.
+fn cost_form(l: &[u8], at: usize) -> Form
+    ensures { λ r. ⌜ FormAfter (now (l .entry)) at 7 r ⌝ }
+{
+    let Next::Word(a, e) = token(l, at) else {
+        return Form::NoForm;
+    };
+    if !is_name(l, a, e) {
+        return Form::NoForm;
+    }
+    let Numeral::Numeral(price, f) = numeral_at(l, e) else {
+        return Form::NoForm;
+    };
+    let Numeral::Numeral(supplement, g) = numeral_at(l, f) else {
+        return Form::NoForm;
+    };
+    if !ends_line(l, g) {
+        return Form::NoForm;
+    }
+    Form::Cost(a, e, price, supplement)
+}
+
 // The form of a kind from behind its word on.
 fn form_of_kind(l: &[u8], at: usize, kind: usize) -> Form
     requires { ⌜ at ≤ length (now l) ⌝ }
@@ -89,6 +114,9 @@ fn form_of_kind(l: &[u8], at: usize, kind: usize) -> Form
     }
     if kind == 6 {
         return query_form(l, at);
+    }
+    if kind == 7 {
+        return cost_form(l, at);
     }
     if !has_body(l, at, kind) {
         return Form::NoForm;
@@ -129,24 +157,40 @@ pub fn brings(x: Form) -> Brings
             constraints: 0,
             queries: 0,
             depth: 0,
+            price: 0,
+            supplement: 0,
         },
         Form::Constraint(_, _) => Brings {
             clauses: 0,
             constraints: 1,
             queries: 0,
             depth: 0,
+            price: 0,
+            supplement: 0,
         },
         Form::Query(_, depth) => Brings {
             clauses: 0,
             constraints: 0,
             queries: 1,
             depth: depth,
+            price: 0,
+            supplement: 0,
+        },
+        Form::Cost(_, _, price, supplement) => Brings {
+            clauses: 0,
+            constraints: 0,
+            queries: 0,
+            depth: 0,
+            price: price,
+            supplement: supplement,
         },
         _ => Brings {
             clauses: 0,
             constraints: 0,
             queries: 0,
             depth: 0,
+            price: 0,
+            supplement: 0,
         },
     }
 }

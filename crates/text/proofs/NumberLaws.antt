@@ -2,11 +2,11 @@
 --
 --   Counting l a e i n    the digits of the word before place i stand for n, which has at most four bits a digit
 -- Assumes nothing.
-use mathlib.Core.Path.{_≡_, refl, sym, ap, _∙_}
-use mathlib.Core.Bool.{Bool, true, false, and-false}
+use mathlib.Core.Path.{_≡_, refl, sym, _∙_}
+use mathlib.Core.Bool.{true, false, _&&_, and-false}
 use mathlib.Core.List.{List, [], _∷_, _++_}
 use Prim.Native.Nat.{ℕ, suc, _+_, _-_, _*_, _^_, _≤_, _<_}
-use native.Mathlib.Nat.{lt-of-lt-of-le, pow-suc}
+use native.Mathlib.Nat.{lt-of-lt-of-le}
 use native.Mathlib.Numerals.{add-one}
 use native.Mathlib.Omega.{arith}
 use lib.Dec.{leb}
@@ -16,6 +16,7 @@ use lib.Seq.{slice, slice-cons, slice-empty, length-slice}
 use borrow.Author.Tests.{leb-true, le-leb, lt-leb}
 use Rattle.text.specs.Bytes.{isDigit, allOf}
 use Rattle.text.specs.Numbers.{numberFrom, numberOf, isNumber}
+use Rattle.text.specs.Words.{beginsWithLetter}
 use Rattle.text.specs.Scanning.{NumberRead}
 use Rattle.text.specs.declared.number.Number.the-variants.{NoNumber, Value}
 use Rattle.text.proofs.ByteLaws.{and-true-both}
@@ -35,6 +36,16 @@ pub digit-between : (b : ℕ) → isDigit b ≡ true → (48 ≤ b) × (b ≤ 57
 digit-between b d =
     let p = and-true-both (leb 48 b) (leb b 57) d in
     (leb-true 48 b (p .0), leb-true b 57 (p .1))
+
+-- a number is no name
+pub number-unlettered : (w : List ℕ) → isNumber w ≡ true → beginsWithLetter w ≡ false
+unfolding isNumber allOf beginsWithLetter
+number-unlettered [] h = refl
+number-unlettered (b ∷ w) h =
+    let t = leb 1 (length (b ∷ w)) && leb (length (b ∷ w)) 7 in
+    let a = and-true-both t (allOf isDigit (b ∷ w)) h in
+    let d = digit-between b (and-true-both (isDigit b) (allOf isDigit w) (a .1) .0) in
+    rw (lt-leb 97 b (omega arith))
 
 -- words that are no number by their length
 

@@ -139,6 +139,9 @@ module _ {l : List ℕ} {i a e : ℕ} {r : Next} (f : Found l i r) (q : r ≡ Wo
   pub word-filled : a < e
   word-filled = found-inside f q .1
 
+  pub word-le : a ≤ e
+  word-le = let k = found-inside f q in omega arith
+
   pub word-within : e ≤ length l
   word-within = found-inside f q .2
 

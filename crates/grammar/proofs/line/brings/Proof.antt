@@ -13,6 +13,9 @@ enum-told-2 c = search needs
 enum-known-x : tie.Need-enum-known-x
 enum-known-x c = search needs
 
+enum-known-x-2 : tie.Need-enum-known-x-2
+enum-known-x-2 c = search needs
+
 returns : tie.Need-returns
 returns c = brought-as _ (c .enum-told .given .1)
 
@@ -23,8 +26,11 @@ returns-3 : tie.Need-returns-3
 returns-3 c = brought-as _ (c .before .x .given .1)
 
 returns-4 : tie.Need-returns-4
-returns-4 c = brought-nothing (c .before .args .x) (c .match .keys4)
+returns-4 c = brought-as _ (c .before .x2 .given .1)
+
+returns-5 : tie.Need-returns-5
+returns-5 c = brought-nothing (c .before .args .x) (c .match .keys5)
 
 pub brings-spec : {M : Type 1} → statement M
 brings-spec =
-    tie.close (tie.spec enum-told enum-told-2 enum-known-x returns returns-2 returns-3 returns-4)
+    tie.close (tie.spec enum-told enum-told-2 enum-known-x enum-known-x-2 returns returns-2 returns-3 returns-4 returns-5)

@@ -1,7 +1,7 @@
 -- `line::clause_form` meets its contract: each return is one law of the tokens behind the line's word. Assumes nothing.
 use borrow.Author.Needs.{needs}
 use Rattle.words.proofs.Tests.{failed, passed}
-use Rattle.grammar.proofs.FoundWords.{word-filled, word-within}
+use Rattle.text.proofs.TokenLaws.{word-filled, word-within}
 use Rattle.grammar.proofs.Forms.{clause-wordless, clause-word, clause-unfit, clause-found}
 use Rattle.grammar.proofs.line.clause_form.Statement.{statement}
 use Rattle.grammar.proofs.line.clause_form.Tie as tie

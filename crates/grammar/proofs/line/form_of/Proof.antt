@@ -1,6 +1,6 @@
 -- `line::form_of` meets its contract: each return is one law of a line by its first tokens. Assumes nothing.
 use borrow.Author.Needs.{needs}
-use Rattle.grammar.proofs.FoundWords.{word-le, word-within}
+use Rattle.text.proofs.TokenLaws.{word-le, word-within}
 use Rattle.grammar.proofs.Forms.{line-skipped, line-closing, line-word, line-wordless, line-found}
 use Rattle.grammar.proofs.line.form_of.Statement.{statement}
 use Rattle.grammar.proofs.line.form_of.Tie as tie

@@ -17,20 +17,26 @@ query-form-requires c κs = search needs
 returns-2 : tie.Need-returns-2
 returns-2 c = search (needs, form-as)
 
+cost-form-requires : tie.Need-cost-form-requires
+cost-form-requires c κs = search needs
+
+returns-3 : tie.Need-returns-3
+returns-3 c = search (needs, form-as)
+
 has-body-requires : tie.Need-has-body-requires
 has-body-requires c κs = search needs
 
-returns-3 : tie.Need-returns-3
-returns-3 c = search (needs, form-unfit, failed)
-
 returns-4 : tie.Need-returns-4
-returns-4 c = search (needs, form-constraint, passed)
+returns-4 c = search (needs, form-unfit, failed)
 
 returns-5 : tie.Need-returns-5
-returns-5 c = search (needs, form-seen, passed)
+returns-5 c = search (needs, form-constraint, passed)
 
 returns-6 : tie.Need-returns-6
-returns-6 c = search (needs, form-other, passed)
+returns-6 c = search (needs, form-seen, passed)
+
+returns-7 : tie.Need-returns-7
+returns-7 c = search (needs, form-other, passed)
 
 pub form-of-kind-spec : {M : Type 1} → statement M
 form-of-kind-spec =
@@ -40,9 +46,11 @@ form-of-kind-spec =
     returns
     query-form-requires
     returns-2
-    has-body-requires
+    cost-form-requires
     returns-3
-    (λ c. search needs)
+    has-body-requires
     returns-4
+    (λ c. search needs)
     returns-5
-    returns-6)
+    returns-6
+    returns-7)

@@ -1,7 +1,7 @@
 -- `literal::literal` meets its contract: each return is one law of the tokens of a body. Assumes nothing.
 use borrow.Author.Needs.{needs}
 use Rattle.words.proofs.Tests.{failed, passed}
-use Rattle.grammar.proofs.FoundWords.{word-filled, word-within}
+use Rattle.text.proofs.TokenLaws.{word-filled, word-within}
 use Rattle.grammar.proofs.Literals.{literal-end, literal-word, literal-name, literal-opened, literal-more}
 use Rattle.grammar.proofs.Literals.{literal-last}
 use Rattle.grammar.proofs.literal.literal.Statement.{statement}

@@ -1,7 +1,7 @@
 -- `literal::negated_name` meets its contract: each return is one law of the tokens behind the bracket. Assumes nothing.
 use borrow.Author.Needs.{needs}
 use Rattle.words.proofs.Tests.{failed, passed}
-use Rattle.grammar.proofs.FoundWords.{word-filled, word-le, word-within}
+use Rattle.text.proofs.TokenLaws.{word-filled, word-le, word-within}
 use Rattle.grammar.proofs.Literals.{opened-wordless, opened-other, negation-wordless, negation-word}
 use Rattle.grammar.proofs.Literals.{negation-unclosed, negation-found}
 use Rattle.grammar.proofs.literal.negated_name.Statement.{statement}
