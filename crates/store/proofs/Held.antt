@@ -1,14 +1,17 @@
--- Tables that hold what was read hold it with one clause, constraint, reading or query more, and with a line's names.
+-- Tables that hold what was read hold it with one clause, constraint, reading, query or cost more, and with a
+-- line's names.
 -- Assumes nothing.
 use mathlib.Core.Path.{_≡_, refl, ap, subst, _∙_}
 use mathlib.Core.List.{List, [], _∷_, map-append}
+use mathlib.Core.Bool.{false}
 use Prim.Native.Nat.{ℕ, _≤_, _<_}
 use native.Mathlib.Omega.{arith}
 use lib.ListN.{length, length-append, length-map}
 use Rattle.logic.specs.Formula.{Formula}
 use Rattle.logic.specs.Nodes.{nodes}
 use Rattle.program.specs.declared.case.Case.{Case}
-use Rattle.program.specs.Case.{clauseSize, constraintSize, formulaSize, partSize, nameSize}
+use Rattle.program.specs.Case.{clauseSize, constraintSize, formulaSize, partSize, nameSize, priceSize}
+use Rattle.text.specs.Numbers.{numberOf}
 use Rattle.text.proofs.Each.{Each, each-gives}
 use Rattle.text.proofs.Places.{place-name}
 use Rattle.table.specs.Filled.{filled, padded}
@@ -25,17 +28,19 @@ use Rattle.names.proofs.Held.{row-atom, all-named-at}
 use Rattle.names.proofs.Interning.{LineInterned}
 use Rattle.store.specs.declared.masks.Masks.{Masks}
 use Rattle.store.specs.Lent.{Lent, lent}
+use Rattle.store.specs.Prices.{CostRow, priceOf, hasCost, pricesOf}
 use Rattle.store.specs.Saying.{Said, said, ClauseRow, ConstraintRow, encodedBy, encoded, clauseRow, constraintRow}
-use Rattle.store.specs.Saying.{renamed, withClause, withConstraint, withObserved, withQuery}
+use Rattle.store.specs.Saying.{costRow, renamed, withClause, withConstraint, withObserved, withQuery, withCost}
 use Rattle.store.specs.Tables.{caseWith, clauseWords, constraintWords, formulaParts, nodeCounts}
 use Rattle.store.specs.Held.{Long, Limits, InLimits, Held}
 use Rattle.store.specs.Masks.{masksBy}
-use Rattle.store.specs.Stored.{ClauseStored, ConstraintStored, ObservedStored}
+use Rattle.store.specs.Stored.{ClauseStored, ConstraintStored, ObservedStored, withPrice}
 use Rattle.store.proofs.Lent.{lent-same}
 use Rattle.store.proofs.Formulas.{over-some}
 use Rattle.store.proofs.Encoded.{Known, encoded-over, encoded-length}
 use Rattle.store.proofs.Lookups.{Agree, masks-same, encoded-same}
 use Rattle.store.proofs.NodeLaws.{FormulaPut}
+use Rattle.store.proofs.Prices.{price-stored}
 use Rattle.store.proofs.Rows.{clauseRowWords, constraintRowWords, clause-rows, constraint-rows, formula-rows}
 
 -- c with a number of atoms
@@ -45,8 +50,9 @@ withAtomCount c n = caseWith n (c .clauses) (c .constraints) (c .formulas) (c .p
 -- The limits
 
 module _ (st : Said) (h : Limits st) where
-  limits-as : {ns : List (List ℕ)} {cs : List ClauseRow} {ds : List ConstraintRow} {p q : ℕ} → length cs ≤ 256
-      → length ds ≤ 32 → length (st .names) ≤ length ns → Limits (said ns cs ds p q (st .queries))
+  limits-as : {ns : List (List ℕ)} {cs : List ClauseRow} {ds : List ConstraintRow} {p q : ℕ}
+      {ks : List CostRow} → length cs ≤ 256
+      → length ds ≤ 32 → length (st .names) ≤ length ns → Limits (said ns cs ds p q (st .queries) ks)
   limits-as i j k = record {
     clauses-few = i;
     constraints-few = j;
@@ -85,13 +91,16 @@ module _ (st : Said) (c : Case) (t : Lent) (h : Held st c t) where
   rows-held : t .names ≡ filled nameSize (rowsOf (st .names)) (t .names)
   rows-held = ap (λ (x : Lent). x .names) (h .tables-are)
 
+  prices-held : t .prices ≡ filled priceSize (pricesOf (st .costs)) (t .prices)
+  prices-held = ap (λ (x : Lent). x .prices) (h .tables-are)
+
   pub names-held : Holds (st .names) (t .names)
   names-held = record { all-named = h .all-named; few = h .few-names; table-is = rows-held }
 
   -- with the names ws of a line, n names in all in the table u
   pub named-held : (ws : List (List ℕ)) (n : ℕ) (u : List ℕ) → LineInterned (st .names) ws n u → n ≤ 64
       → Held (renamed (withNames (st .names) ws) st) (withAtomCount c n)
-      (lent (t .clauses) (t .constraints) (t .formula) u)
+      (lent (t .clauses) (t .constraints) (t .formula) u (t .prices))
   named-held ws n u i k =
       let l = h .limits in
       let m = i .held k in
@@ -100,7 +109,7 @@ module _ (st : Said) (c : Case) (t : Lent) (h : Held st c t) where
         case-is = rw (h .case-is, i .fits k);
         all-named = m .all-named;
         few-names = m .few;
-        tables-are = lent-same clauses-held constraints-held formula-held (m .table-is);
+        tables-are = lent-same clauses-held constraints-held formula-held (m .table-is) prices-held;
       }
 
   module _ (long : Long t) where
@@ -126,7 +135,8 @@ module _ (st : Said) (c : Case) (t : Lent) (h : Held st c t) where
       pub clause-held : (kind : ℕ) (w : List ℕ) {r : Case} {u : List ℕ}
           → withNames (st .names) (w ∷ bodyNames ls) ≡ st .names → c .clauses < 256
           → ClauseStored w kind m c (t .names) (t .clauses) r u
-          → Held (withClause st (clauseRow (st .names) kind w ls)) r (lent u (t .constraints) (t .formula) (t .names))
+          → Held (withClause st (clauseRow (st .names) kind w ls)) r
+          (lent u (t .constraints) (t .formula) (t .names) (t .prices))
       unfolding padded
       clause-held kind w known room s =
           let row = clauseRow (st .names) kind w ls in
@@ -143,14 +153,14 @@ module _ (st : Said) (c : Case) (t : Lent) (h : Held st c t) where
             few-names = h .few-names;
             tables-are =
                 lent-same (rw (s .table-is, a .0, masks-are (a .1), h .case-is) words) constraints-held formula-held
-                rows-held;
+                rows-held prices-held;
           }
 
       module _ (known : withNames (st .names) (bodyNames ls) ≡ st .names) where
         pub constraint-held : (kind : ℕ) {r : Case} {u : List ℕ} → c .constraints < 32
             → ConstraintStored m kind c (t .constraints) r u
             → Held (withConstraint st (constraintRow (st .names) kind ls)) r
-            (lent (t .clauses) u (t .formula) (t .names))
+            (lent (t .clauses) u (t .formula) (t .names) (t .prices))
         unfolding padded
         constraint-held kind room s =
             let row = constraintRow (st .names) kind ls in
@@ -165,7 +175,8 @@ module _ (st : Said) (c : Case) (t : Lent) (h : Held st c t) where
               case-is = s .counted ∙ rw (h .case-is, n);
               all-named = h .all-named;
               few-names = h .few-names;
-              tables-are = lent-same clauses-held (rw (s .table-is, a, h .case-is) words) formula-held rows-held;
+              tables-are =
+                  lent-same clauses-held (rw (s .table-is, a, h .case-is) words) formula-held rows-held prices-held;
             }
 
         pub observed-held : {r : Case} → ObservedStored m c r → Held (withObserved st ls) r t
@@ -184,7 +195,7 @@ module _ (st : Said) (c : Case) (t : Lent) (h : Held st c t) where
 
       pub query-held : {r : Case} {u : List ℕ} → c .formulas < 16 → sizeOf f ≤ partSize
           → FormulaPut (encodedBy (rowOf (t .names) (c .atoms)) f) c (t .formula) r u
-          → Held (withQuery st g) r (lent (t .clauses) (t .constraints) u (t .names))
+          → Held (withQuery st g) r (lent (t .clauses) (t .constraints) u (t .names) (t .prices))
       query-held {r} {u} room small p =
           let s : FormulaPut g c (t .formula) r u =
           rw (encoded-same _ (atomOf (st .names)) f (each-agree (sentenceNames f) known)) at p in
@@ -202,5 +213,28 @@ module _ (st : Said) (c : Case) (t : Lent) (h : Held st c t) where
             all-named = h .all-named;
             few-names = h .few-names;
             tables-are =
-                lent-same clauses-held constraints-held (rw (s .table-is, h .case-is) words) rows-held;
+                lent-same clauses-held constraints-held (rw (s .table-is, h .case-is) words) rows-held prices-held;
           }
+
+    -- with the price of the atom named w
+    pub cost-held : (w p s : List ℕ) {u : List ℕ} → withNames (st .names) (w ∷ []) ≡ st .names
+        → hasCost (st .costs) (atomOf (st .names) w) ≡ false
+        → u ≡ withPrice (t .prices) (rowOf (t .names) (c .atoms) w) (priceOf (numberOf p) (numberOf s))
+        → Held (withCost st (costRow (st .names) w p s)) c
+        (lent (t .clauses) (t .constraints) (t .formula) (t .names) u)
+    cost-held w p s known fresh e =
+        let k = each-known (w ∷ []) known .0 in
+        let few = h .few-names in
+        let stored =
+        price-stored (st .costs) (t .prices) (long .prices-long) prices-held (atomOf (st .names) w)
+        (priceOf (numberOf p) (numberOf s)) (omega arith) fresh in
+        record {
+          limits =
+              limits-as st (h .limits) (h .limits .clauses-few) (h .limits .constraints-few) (omega arith);
+          case-is = h .case-is;
+          all-named = h .all-named;
+          few-names = h .few-names;
+          tables-are =
+              lent-same clauses-held constraints-held formula-held rows-held
+              (rw (e, each-agree (w ∷ []) known .0) stored);
+        }

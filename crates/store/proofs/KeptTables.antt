@@ -14,13 +14,15 @@ use Rattle.store.specs.Lent.{Lent, lent, filledWith}
 use Rattle.store.specs.Saying.{nothingSaid}
 use Rattle.store.specs.Tables.{clauseWords, constraintWords, formulaParts, wordsOf, caseWith, noCase}
 use Rattle.store.specs.Held.{Long, Limits, Held, Kept}
-use Rattle.store.proofs.Lent.{filled-with-again}
+use Rattle.store.proofs.Lent.{lent-same, filled-with-again}
+use Rattle.store.proofs.Prices.{no-prices}
 
 pub record SameLengths (t u : Lent) : Type 0 where
   pub clauses-same : length (u .clauses) ≡ length (t .clauses)
   pub constraints-same : length (u .constraints) ≡ length (t .constraints)
   pub formula-same : length (u .formula) ≡ length (t .formula)
   pub names-same : length (u .names) ≡ length (t .names)
+  pub prices-same : length (u .prices) ≡ length (t .prices)
 
 pub kept-lengths : (t u : Lent) → Kept t u → SameLengths t u
 kept-lengths t u k = record {
@@ -28,6 +30,7 @@ kept-lengths t u k = record {
   constraints-same = kept-length _ (t .constraints) (ap (λ (x : Lent). x .constraints) k);
   formula-same = kept-length _ (t .formula) (ap (λ (x : Lent). x .formula) k);
   names-same = kept-length _ (t .names) (ap (λ (x : Lent). x .names) k);
+  prices-same = kept-length _ (t .prices) (ap (λ (x : Lent). x .prices) k);
 }
 
 pub kept-long : (t u : Lent) → Kept t u → Long t → Long u
@@ -38,13 +41,15 @@ kept-long t u k l =
       constraints-long = omega arith;
       formula-long = omega arith;
       names-long = omega arith;
+      prices-long = omega arith;
     }
 
 -- Nothing
 
-pub nothing-words : wordsOf nothingSaid ≡ lent [] [] [] []
+-- tables zeroed in their sizes are filled with nothing
+pub nothing-filled : (t : Lent) → filledWith (lent [] [] [] [] []) t ≡ filledWith (wordsOf nothingSaid) t
 unfolding clauseWords constraintWords formulaParts rowsOf
-nothing-words = refl
+nothing-filled t = lent-same refl refl refl refl (no-prices (t .prices))
 
 nothing-limits : Limits nothingSaid
 nothing-limits = record {

@@ -1,5 +1,6 @@
 -- The laws of this crate, a file for each notion.
--- Lent: the four tables filled in their sizes.
+-- Lent: the five tables filled in their sizes.
+-- Prices: prices, and their table.
 -- Saying: what a line says.
 -- KeptTables: their lengths, and tables that hold nothing.
 -- Formulas: the atoms of a formula, and the nodes of a form.
@@ -10,9 +11,10 @@
 -- NodeLaws: the nodes of formulas, in a line and in a table.
 -- Rows: the rows of clauses, constraints and queries in the words of a table.
 -- FilledRows: the rows of filled tables.
--- Held: tables that hold what was read with one row, reading, query or name more.
+-- Held: tables that hold what was read with one row, reading, query, cost or name more.
 -- Stored: what storing a form of a line leaves, for each kind of line.
 pub mod Lent
+pub mod Prices
 pub mod Saying
 pub mod KeptTables
 pub mod Formulas

@@ -9,7 +9,7 @@ use mathlib.Core.Path.{_≡_}
 use Prim.Native.Nat.{_≤_}
 use lib.ListN.{length}
 use Rattle.program.specs.declared.case.Case.{Case}
-use Rattle.program.specs.Case.{clauseSize, constraintSize, formulaSize, nameSize}
+use Rattle.program.specs.Case.{clauseSize, constraintSize, formulaSize, nameSize, priceSize}
 use Rattle.names.specs.Held.{AllNamed}
 use Rattle.store.specs.Lent.{Lent, filledWith}
 use Rattle.store.specs.Saying.{Said}
@@ -21,6 +21,7 @@ pub record Long (t : Lent) : Type 0 where
   pub constraints-long : constraintSize ≤ length (t .constraints)
   pub formula-long : formulaSize ≤ length (t .formula)
   pub names-long : nameSize ≤ length (t .names)
+  pub prices-long : priceSize ≤ length (t .prices)
 
 -- what was read is within the limits; a query names an atom
 pub record Limits (st : Said) : Type 0 where

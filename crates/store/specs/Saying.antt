@@ -1,5 +1,6 @@
--- What a file says: names, clauses, constraints, observed literals and the query, by atom numbers.
--- From: document 01, "The file" and "Case tables and sound cases"; document 02, [5] (the kind of a constraint).
+-- What a file says: names, clauses, constraints, observed literals, queries and costs, by atom numbers.
+-- From: document 01, "The file" and "Case tables and sound cases"; document 02, [5] (the kind of a constraint), [7]
+-- (costs).
 --
 --   Said               what was read so far; plain and negated are the observed atoms, bit i for atom i
 --   nothingSaid        what was read before the first line; renamed and with.. are st with a part exchanged
@@ -8,6 +9,7 @@
 --   plainAtoms ns ls   the atoms of the plain literals of ls, by the names ns; negatedAtoms those of the negated ones
 --   encodedBy at f     the formula f with the names' atoms by the lookup at; encoded ns f by the names ns
 --   saidBy st x        st, which has the names of the line x already, with what x says
+--   isSecondCost st x  x is a cost of a name that has one in st, which has the names of x already
 use mathlib.Core.Bool.{Bool, true, false, not, _&&_, _||_}
 use mathlib.Core.List.{List, [], _∷_, _++_}
 use Prim.Native.Nat.{ℕ, _-_}
@@ -16,9 +18,11 @@ use Rattle.words.specs.Choice.{pick}
 use Rattle.words.specs.Bits.{has, word}
 use Rattle.logic.specs.Formula.{Formula}
 use Rattle.logic.specs.Nodes.{joined}
+use Rattle.text.specs.Numbers.{numberOf}
 use Rattle.formulas.specs.Sentence.{Sentence}
 use Rattle.grammar.specs.Line.{Line, Literal}
 use Rattle.names.specs.Names.{atomOf}
+use Rattle.store.specs.Prices.{CostRow, priceOf, hasCost}
 
 -- a clause by its head, its kind (0 fact, 1 assumption, 2 rule) and the atoms of its literals
 pub record ClauseRow : Type 0 where
@@ -40,13 +44,22 @@ pub record Said : Type 0 where
   pub plain : ℕ
   pub negated : ℕ
   pub queries : List Formula
+  pub costs : List CostRow
 
 -- what was read, by its parts
-abbrev pub said : List (List ℕ) → List ClauseRow → List ConstraintRow → ℕ → ℕ → List Formula → Said
-said ns cs ds p q fs = record { names = ns; clauses = cs; constraints = ds; plain = p; negated = q; queries = fs }
+abbrev pub said : List (List ℕ) → List ClauseRow → List ConstraintRow → ℕ → ℕ → List Formula → List CostRow → Said
+said ns cs ds p q fs ks = record {
+  names = ns;
+  clauses = cs;
+  constraints = ds;
+  plain = p;
+  negated = q;
+  queries = fs;
+  costs = ks;
+}
 
 abbrev pub nothingSaid : Said
-nothingSaid = said [] [] [] 0 0 []
+nothingSaid = said [] [] [] 0 0 [] []
 
 -- some literal of l is on atom a, negated where b holds and plain otherwise
 unfoldable pub someOn : (List ℕ → ℕ) → Bool → List Literal → ℕ → Bool
@@ -76,29 +89,39 @@ clauseRow ns k w l = record { head = atomOf ns w; kind = k; plain = plainAtoms n
 abbrev pub constraintRow : List (List ℕ) → ℕ → List Literal → ConstraintRow
 constraintRow ns k l = record { plain = plainAtoms ns l; negated = negatedAtoms ns l; kind = k }
 
+-- p and s are the words of the price and the supplement
+abbrev pub costRow : List (List ℕ) → List ℕ → List ℕ → List ℕ → CostRow
+costRow ns w p s = record { atom = atomOf ns w; price = priceOf (numberOf p) (numberOf s) }
+
 -- the atoms of two words
 abbrev pub orAtoms : ℕ → ℕ → ℕ
 orAtoms v w = word 64 (λ a. has v a || has w a)
 
 -- st with the names ns
 abbrev pub renamed : List (List ℕ) → Said → Said
-renamed ns st = said ns (st .clauses) (st .constraints) (st .plain) (st .negated) (st .queries)
+renamed ns st = said ns (st .clauses) (st .constraints) (st .plain) (st .negated) (st .queries) (st .costs)
 
--- st with a clause, a constraint, observed literals or a query more
+-- st with a clause, a constraint, observed literals, a query or a cost more
 abbrev pub withClause : Said → ClauseRow → Said
-withClause st c = said (st .names) (st .clauses ++ (c ∷ [])) (st .constraints) (st .plain) (st .negated) (st .queries)
+withClause st c =
+    said (st .names) (st .clauses ++ (c ∷ [])) (st .constraints) (st .plain) (st .negated) (st .queries) (st .costs)
 
 abbrev pub withConstraint : Said → ConstraintRow → Said
 withConstraint st c =
-    said (st .names) (st .clauses) (st .constraints ++ (c ∷ [])) (st .plain) (st .negated) (st .queries)
+    said (st .names) (st .clauses) (st .constraints ++ (c ∷ [])) (st .plain) (st .negated) (st .queries) (st .costs)
 
 abbrev pub withObserved : Said → List Literal → Said
 withObserved st l =
     said (st .names) (st .clauses) (st .constraints) (orAtoms (st .plain) (plainAtoms (st .names) l))
-    (orAtoms (st .negated) (negatedAtoms (st .names) l)) (st .queries)
+    (orAtoms (st .negated) (negatedAtoms (st .names) l)) (st .queries) (st .costs)
 
 abbrev pub withQuery : Said → Formula → Said
-withQuery st f = said (st .names) (st .clauses) (st .constraints) (st .plain) (st .negated) (st .queries ++ (f ∷ []))
+withQuery st f =
+    said (st .names) (st .clauses) (st .constraints) (st .plain) (st .negated) (st .queries ++ (f ∷ [])) (st .costs)
+
+abbrev pub withCost : Said → CostRow → Said
+withCost st r =
+    said (st .names) (st .clauses) (st .constraints) (st .plain) (st .negated) (st .queries) (st .costs ++ (r ∷ []))
 
 unfoldable pub saidBy : Said → Line → Said
 saidBy st Line.skipped = st
@@ -107,3 +130,13 @@ saidBy st (Line.clause k w l) = withClause st (clauseRow (st .names) k w l)
 saidBy st (Line.constraint k l) = withConstraint st (constraintRow (st .names) k l)
 saidBy st (Line.seen x) = withObserved st (x ∷ [])
 saidBy st (Line.query f) = withQuery st (encoded (st .names) f)
+saidBy st (Line.cost w p s) = withCost st (costRow (st .names) w p s)
+
+unfoldable pub isSecondCost : Said → Line → Bool
+isSecondCost st Line.skipped = false
+isSecondCost st Line.noForm = false
+isSecondCost st (Line.clause k w l) = false
+isSecondCost st (Line.constraint k l) = false
+isSecondCost st (Line.seen x) = false
+isSecondCost st (Line.query f) = false
+isSecondCost st (Line.cost w p s) = hasCost (st .costs) (atomOf (st .names) w)

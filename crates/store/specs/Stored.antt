@@ -2,15 +2,18 @@
 --
 --   withRows c n m      the record c with n clauses and m constraints; withFormula, withObservedAtoms are alike
 --   ClauseStored ..     one clause more; ConstraintStored, ObservedStored, QueryStored are alike
---   Room c b            behind c there is room for what a line brings
+--   withPrice t a p     the table t with the price p of atom a, where a is below 64
+--   Room c b            behind c there is room for what a line brings, and its price and supplement are in their limits
 --   Storable l x c y    x is the form of the line l, which says y, and behind c there is room for it
 --   StoredAs y c t r u  the record r and the tables u are c and t with what the line y says
 use mathlib.Core.Path.{_≡_}
 use mathlib.Core.Bool.{false}
 use mathlib.Core.List.{List, [], _∷_}
 use Prim.Native.Nat.{ℕ, _+_, _*_, _≤_}
+use lib.Dec.{ltb}
 use lib.ListN.{length, set, take, drop}
 use lib.Seq.{sets}
+use Rattle.words.specs.Choice.{pick}
 use Rattle.program.specs.declared.case.Case.{Case}
 use Rattle.program.specs.Case.{partSize}
 use Rattle.text.specs.Tokens.{tokens}
@@ -22,7 +25,7 @@ use Rattle.names.specs.Names.{withNames}
 use Rattle.names.specs.Row.{rowOf}
 use Rattle.store.specs.declared.masks.Masks.{Masks}
 use Rattle.store.specs.Lent.{Lent}
-use Rattle.store.specs.Saying.{Said, orAtoms, saidBy}
+use Rattle.store.specs.Saying.{Said, orAtoms, saidBy, isSecondCost}
 use Rattle.store.specs.Tables.{caseWith}
 use Rattle.store.specs.Nodes.{nodesFrom, nodeTable, withNodes}
 use Rattle.store.specs.Held.{Held, Kept}
@@ -61,10 +64,15 @@ pub record QueryStored (l : List ℕ) (at : ℕ) (c : Case) (na fo : List ℕ) (
       ≡ withNodes (nodeTable 0 (drop (partSize * c .formulas) fo))
       (nodesFrom (rowOf na (c .atoms)) false (tokens (drop at l)))
 
+abbrev pub withPrice : List ℕ → ℕ → ℕ → List ℕ
+withPrice t a p = pick (ltb a 64) (set t a p) t
+
 pub record Room (c : Case) (b : Brings) : Type 0 where
   pub clauses-fit : c .clauses + b .clauses ≤ 256
   pub constraints-fit : c .constraints + b .constraints ≤ 32
   pub queries-fit : c .formulas + b .queries ≤ 16
+  pub price-fits : b .price ≤ 1000000
+  pub supplement-fits : b .supplement ≤ 100
 
 pub record Storable (l : List ℕ) (x : Form) (c : Case) (y : Line) : Type 0 where
   pub short : length l ≤ 200
@@ -72,7 +80,8 @@ pub record Storable (l : List ℕ) (x : Form) (c : Case) (y : Line) : Type 0 whe
   pub atoms-few : c .atoms ≤ 64
   pub room : Room c (brings y)
 
--- where the names of the line are among those read so far
+-- where the names of the line are among those read so far, and the line is no second cost
 pub record StoredAs (y : Line) (c : Case) (t : Lent) (r : Case) (u : Lent) : Type 0 where
   pub kept : Kept t u
-  pub held : (st : Said) → Held st c t → withNames (st .names) (lineNames y) ≡ st .names → Held (saidBy st y) r u
+  pub held : (st : Said) → Held st c t → withNames (st .names) (lineNames y) ≡ st .names
+      → isSecondCost st y ≡ false → Held (saidBy st y) r u

@@ -1,11 +1,12 @@
 -- The record and the words of the tables that hold what was read.
--- From: document 01, "Case tables and sound cases"; document 02, [5] (a third word for each constraint).
+-- From: document 01, "Case tables and sound cases"; document 02, [5] (a third word for each constraint), [7]
+-- (the table of prices).
 --
 --   clauseWords cs       the words of clauses: three each
 --   constraintWords cs   the words of constraints: three each
 --   formulaParts fs      the parts of formulas: 128 bytes each, its nodes and zeros behind them
 --   nodeCounts fs        how many nodes each formula has
---   wordsOf st           the four tables' words for what was read
+--   wordsOf st           the five tables' words for what was read
 --   caseWith ..          a record by its parts; caseSaid st the record of what was read, noCase that of zeros
 use mathlib.Core.List.{List, [], _∷_, _++_, map}
 use Prim.Native.Nat.{ℕ, _+_, _*_}
@@ -17,6 +18,7 @@ use Rattle.program.specs.Case.{partSize}
 use Rattle.table.specs.Filled.{padded}
 use Rattle.names.specs.Names.{rowsOf}
 use Rattle.store.specs.Lent.{Lent, lent}
+use Rattle.store.specs.Prices.{pricesOf}
 use Rattle.store.specs.Saying.{Said, ClauseRow, ConstraintRow}
 
 -- three words a clause
@@ -40,7 +42,7 @@ nodeCounts fs = map (λ f. length (nodes f)) fs
 abbrev pub wordsOf : Said → Lent
 wordsOf st =
     lent (clauseWords (st .clauses)) (constraintWords (st .constraints)) (formulaParts (st .queries))
-    (rowsOf (st .names))
+    (rowsOf (st .names)) (pricesOf (st .costs))
 
 -- a record by its parts
 abbrev pub caseWith : ℕ → ℕ → ℕ → ℕ → ℕ → ℕ → List ℕ → Case

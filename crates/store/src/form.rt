@@ -12,6 +12,8 @@ ghost use Rattle.store.specs.Stored.{Storable, StoredAs};
 use crate::masks::Masks;
 use crate::masks::masks_of;
 use crate::nodes::store_nodes;
+use crate::price::price_of;
+use crate::price::put_price;
 use grammar::line::Form;
 use program::case::Case;
 
@@ -92,12 +94,15 @@ pub fn store_form(
     clauses: &mut [u64],
     constraints: &mut [u64],
     formula: &mut [u8],
+    prices: &mut [u32],
 ) -> Case
-    requires { ⌜ Long (lent (now clauses) (now constraints) (now formula) (now names))
+    requires { ⌜ Long (lent (now clauses) (now constraints) (now formula) (now names) (now prices))
         × Storable (now l) x c (lineOf (tokens (now l))) ⌝ }
     ensures { λ r. ⌜ StoredAs (lineOf (tokens (now (l .entry)))) c
-        (lent (now (clauses .entry)) (now (constraints .entry)) (now (formula .entry)) (now (names .entry))) r
-        (lent (now (clauses .exit)) (now (constraints .exit)) (now (formula .exit)) (now (names .entry))) ⌝ }
+        (lent (now (clauses .entry)) (now (constraints .entry)) (now (formula .entry)) (now (names .entry))
+        (now (prices .entry))) r
+        (lent (now (clauses .exit)) (now (constraints .exit)) (now (formula .exit)) (now (names .entry))
+        (now (prices .exit))) ⌝ }
 {
     match x {
         Form::NoForm => c,
@@ -115,5 +120,10 @@ pub fn store_form(
             store_observed(m, c)
         }
         Form::Query(at, _) => store_query(l, at, c, names, formula),
+        Form::Cost(a, e, price, supplement) => {
+            let atom = names::find(names, c.atoms, l, a, e);
+            put_price(prices, atom, price_of(price, supplement));
+            c
+        }
     }
 }

@@ -2,3 +2,4 @@
 pub mod form;
 pub mod masks;
 pub mod nodes;
+pub mod price;

@@ -1,11 +1,11 @@
 -- Laws of tables of which only the first n entries change: u ≡ filled n u t says that u is t behind them, and
 -- t ≡ filled n l t that t has l and zeros in them. Assumes nothing.
-use mathlib.Core.Path.{_≡_, refl, sym, ap, _∙_}
+use mathlib.Core.Path.{_≡_, refl, sym, ap, ap₂, _∙_}
 use mathlib.Core.List.{List, [], _∷_, _++_}
 use Prim.Native.Nat.{ℕ, zero, suc, _+_, _≤_, _<_}
 use native.Mathlib.Nat.{not-suc-le-zero, le-of-suc-le-suc}
 use native.Mathlib.Omega.{arith}
-use lib.ListN.{length, set}
+use lib.ListN.{length, getD, set}
 use lib.Seq.{sets}
 use Rattle.table.specs.Filled.{filled}
 use Rattle.table.proofs.Filled.{filled-length, filled-again, filled-pushes}
@@ -36,7 +36,7 @@ module _ (n : ℕ) (t : List ℕ) {u : List ℕ} (h : u ≡ filled n u t) where
 
 -- stores among the first n entries
 
-set-kept : (n : ℕ) (t : List ℕ) (i x : ℕ) → i < n → set t i x ≡ filled n (set t i x) t
+pub set-kept : (n : ℕ) (t : List ℕ) (i x : ℕ) → i < n → set t i x ≡ filled n (set t i x) t
 unfolding filled
 set-kept zero t i x h = absurd (not-suc-le-zero h)
 set-kept (suc n) [] i x h = refl
@@ -57,3 +57,20 @@ pub sets-filled : (n : ℕ) (l vs t : List ℕ) → length l + length vs ≤ n �
     → sets t (length l) vs ≡ filled n (l ++ vs) (sets t (length l) vs)
 sets-filled n l vs t h k e =
     filled-has n (l ++ vs) t (ap (λ m. sets m (length l) vs) e ∙ filled-pushes n l vs t h k)
+
+-- fillings that agree up to the size are one
+pub filled-ext : (n : ℕ) (l m old : List ℕ) → ((i : ℕ) → i < n → getD l i 0 ≡ getD m i 0) → filled n l old ≡ filled n m old
+unfolding filled
+filled-ext zero l m old h = refl
+filled-ext (suc n) l m [] h = refl
+filled-ext (suc n) [] [] (o ∷ old) h = refl
+filled-ext (suc n) [] (y ∷ m) (o ∷ old) h =
+    ap₂ _∷_ (h 0 (omega arith)) (filled-ext n [] m old (λ i k. h (suc i) (omega arith)))
+filled-ext (suc n) (x ∷ l) [] (o ∷ old) h =
+    ap₂ _∷_ (h 0 (omega arith)) (filled-ext n l [] old (λ i k. h (suc i) (omega arith)))
+filled-ext (suc n) (x ∷ l) (y ∷ m) (o ∷ old) h =
+    ap₂ _∷_ (h 0 (omega arith)) (filled-ext n l m old (λ i k. h (suc i) (omega arith)))
+
+-- a table that has the entries of l up to the size is filled with it
+pub filled-as : (n : ℕ) (l t : List ℕ) → ((i : ℕ) → i < n → getD t i 0 ≡ getD l i 0) → t ≡ filled n l t
+filled-as n l t h = kept-refl n t ∙ filled-ext n t l t h

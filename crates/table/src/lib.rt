@@ -26,6 +26,16 @@ pub fn zero_bytes(t: &mut [u8], n: usize)
     }
 }
 
+// Zeroes the first n entries of a table of prices.
+pub fn zero_prices(t: &mut [u32], n: usize)
+    requires { ⌜ n ≤ length (now t) ⌝ }
+    ensures { λ _. ⌜ now (t .exit) ≡ filled n [] (now (t .entry)) ⌝ }
+{
+    for i in 0..n {
+        t[i] = 0;
+    }
+}
+
 // Stores three words from a place on.
 pub fn put_three(t: &mut [u64], at: usize, a: u64, b: u64, c: u64)
     requires { ⌜ at + 3 ≤ length (now t) ⌝ }

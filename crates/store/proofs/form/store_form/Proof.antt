@@ -3,6 +3,7 @@ use borrow.Author.Needs.{needs}
 use Rattle.store.proofs.Stored.{clause-kind, head-onward, head-within, clause-room, constraint-room}
 use Rattle.store.proofs.Stored.{skipped-stored, no-form-stored, clause-stored, constraint-stored}
 use Rattle.store.proofs.Stored.{seen-stored, query-room, query-stored}
+use Rattle.store.proofs.Stored.{name-onward, name-within, price-few, supplement-few, cost-stored}
 use Rattle.store.proofs.form.store_form.Statement.{statement}
 use Rattle.store.proofs.form.store_form.Tie as tie
 
@@ -14,6 +15,15 @@ store-constraint-requires c κs = search (needs, constraint-room)
 
 store-query-requires : tie.Need-store-query-requires
 store-query-requires c κs = search (needs, query-room)
+
+find-requires : tie.Need-find-requires
+find-requires c κs = search (needs, name-onward, name-within)
+
+price-of-requires : tie.Need-price-of-requires
+price-of-requires c κs = search (needs, price-few, supplement-few)
+
+put-price-requires : tie.Need-put-price-requires
+put-price-requires c κs = search needs
 
 returns : tie.Need-returns
 returns c = search (needs, no-form-stored)
@@ -33,6 +43,9 @@ returns-5 c = search (needs, seen-stored)
 returns-6 : tie.Need-returns-6
 returns-6 c = search (needs, query-stored)
 
+returns-7 : tie.Need-returns-7
+returns-7 c = search (needs, cost-stored)
+
 pub store-form-spec : {M : Type 1} → statement M
 store-form-spec =
     tie.close
@@ -50,6 +63,10 @@ store-form-spec =
     (λ c κs. search needs)
     (λ c. search needs)
     store-query-requires
+    (λ c. search needs)
+    find-requires
+    price-of-requires
+    put-price-requires
     returns
     returns-2
     (λ c. search needs)
@@ -58,4 +75,6 @@ store-form-spec =
     returns-4
     returns-5
     (λ c. search needs)
-    returns-6)
+    returns-6
+    (λ c. search needs)
+    returns-7)

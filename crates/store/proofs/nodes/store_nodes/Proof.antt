@@ -7,7 +7,7 @@ use borrow.Author.Needs.{needs}
 use lib.ListN.{length, drop}
 use Rattle.text.specs.Tokens.{tokens}
 use Rattle.text.proofs.TokenLaws.{opening-less, closing-less, word-less}
-use Rattle.grammar.proofs.FoundWords.{word-le, word-within}
+use Rattle.text.proofs.TokenLaws.{word-le, word-within}
 use Rattle.names.specs.Row.{rowOf}
 use Rattle.store.specs.Nodes.{nodesFrom, nodeTable, withNodes}
 use Rattle.store.proofs.NodeLaws.{Storing, storing-none, storing-end, storing-open, storing-close}
