@@ -1,8 +1,8 @@
 -- What a line that passes its checks is known to be. Assumes nothing.
 use mathlib.Core.Path.{_≡_, refl, sym, _∙_}
-use mathlib.Core.Bool.{true, false}
+use mathlib.Core.Bool.{Bool, true, false}
 use mathlib.Core.List.{List, [], _∷_}
-use Prim.Native.Nat.{ℕ, _+_, _≤_}
+use Prim.Native.Nat.{ℕ, _+_, _≤_, _<_}
 use lib.Dec.{leb}
 use lib.ListN.{length}
 use borrow.Author.Tests.{leb-true, not-true}
@@ -17,40 +17,49 @@ use Rattle.grammar.specs.declared.brings.Brings.{Brings}
 use Rattle.grammar.specs.Line.{isLine, brings}
 use Rattle.grammar.specs.LineOf.{lineOf}
 use Rattle.names.specs.Names.{someLong, withNames}
-use Rattle.store.specs.Saying.{Said}
-use Rattle.checks.specs.Checks.{lookRefusal, textChecks, roomChecks, formRefusal, lineRefusal}
+use Rattle.store.specs.Saying.{Said, isSecondCost}
+use Rattle.checks.proofs.Refusing.{names-refused}
+use Rattle.checks.specs.Checks.{lookRefusal, namedWith, textChecks, roomChecks, formRefusal, lineRefusal}
 
--- checks 8 to 10, by their numbers
-pub record RoomPasses (names clauses constraints queries : ℕ) (b : Brings) : Type 0 where
+-- the checks from 8 on
+pub record RoomPasses (names clauses constraints queries : ℕ) (second : Bool) (b : Brings) : Type 0 where
   pub names-few : names ≤ 64
   pub clauses-few : clauses + b .clauses ≤ 256
   pub constraints-few : constraints + b .constraints ≤ 32
+  pub price-few : b .price ≤ 1000000
+  pub supplement-few : b .supplement ≤ 100
+  pub not-second : second ≡ false
   pub queries-few : queries + b .queries ≤ 16
 
--- checks 5 to 10
+-- the checks from 5 on
 pub record FormPasses (st : Said) (ts : List Token) : Type 0 where
   pub is-line : isLine (lineOf ts) ≡ true
   pub names-short : someLong (namesIn ts) ≡ false
   pub not-deep : brings (lineOf ts) .depth ≤ 16
   pub room : RoomPasses (length (withNames (st .names) (namesIn ts))) (length (st .clauses)) (length (st .constraints))
-      (length (st .queries)) (brings (lineOf ts))
+      (length (st .queries)) (isSecondCost (namedWith st ts) (lineOf ts)) (brings (lineOf ts))
 
 -- and 3
 abbrev pub LinePasses : Said → List ℕ → Type 0
 LinePasses st l = isComment l ≡ false → (length l ≤ 200) × FormPasses st (tokens l)
 
-room-has : (n cl co q : ℕ) (b : Brings) → Passes (roomChecks n cl co q b) → RoomPasses n cl co q b
-room-has n cl co q b (eight, (nine, (ten, _))) =
+room-has : (n cl co q : ℕ) (s : Bool) (b : Brings) → Passes (roomChecks n cl co q s b) → RoomPasses n cl co q s b
+room-has n cl co q s b (eight, (nine, (sixteen, (seventeen, (ten, _))))) =
     let rows = leb (cl + b .clauses) 256 in
+    let price = leb (b .price) 1000000 in
     record {
       names-few = leb-true n 64 eight;
       clauses-few = leb-true _ 256 (and-true-l rows (leb (co + b .constraints) 32) nine);
       constraints-few = leb-true _ 32 (and-true-r rows (leb (co + b .constraints) 32) nine);
+      price-few = leb-true _ 1000000 (and-true-l price (leb (b .supplement) 100) sixteen);
+      supplement-few = leb-true _ 100 (and-true-r price (leb (b .supplement) 100) sixteen);
+      not-second = not-true s seventeen;
       queries-few = leb-true _ 16 ten;
     }
 
-pub room-passes : {n cl co q : ℕ} {b : Brings} → firstFailed (roomChecks n cl co q b) ≡ 0 → RoomPasses n cl co q b
-room-passes {n} {cl} {co} {q} {b} e = room-has n cl co q b (none-failed (roomChecks n cl co q b) refl e)
+pub room-passes : {n cl co q : ℕ} {s : Bool} {b : Brings} → firstFailed (roomChecks n cl co q s b) ≡ 0
+    → RoomPasses n cl co q s b
+room-passes {n} {cl} {co} {q} {s} {b} e = room-has n cl co q s b (none-failed (roomChecks n cl co q s b) refl e)
 
 pub text-passes : (ws : List (List ℕ)) (b : Brings) → firstFailed (textChecks ws b) ≡ 0
     → (someLong ws ≡ false) × (b .depth ≤ 16)
@@ -67,17 +76,22 @@ look-passes l a e =
     let p = none-failed (check 3 (leb (length l) 200) ∷ others) refl d in
     (leb-true _ 200 (p .0), p .1 .1 .0)
 
--- the refusal of a form by 6 and 7, and by 8 to 10
+-- the refusal of a form by 6 and 7, and from 8 on
 abbrev pub textNumber : List Token → ℕ
 textNumber ts = firstFailed (textChecks (namesIn ts) (brings (lineOf ts)))
 
 abbrev roomOf : Said → List Token → List Check
 roomOf st ts =
     roomChecks (length (withNames (st .names) (namesIn ts))) (length (st .clauses)) (length (st .constraints))
-    (length (st .queries)) (brings (lineOf ts))
+    (length (st .queries)) (isSecondCost (namedWith st ts) (lineOf ts)) (brings (lineOf ts))
 
 abbrev pub roomNumber : Said → List Token → ℕ
 roomNumber st ts = firstFailed (roomOf st ts)
+
+pub many-refused : (st : Said) (ts : List Token) → 64 < length (withNames (st .names) (namesIn ts)) → 8 ≡ roomNumber st ts
+many-refused st ts h =
+    names-refused (length (withNames (st .names) (namesIn ts))) (length (st .clauses)) (length (st .constraints))
+    (length (st .queries)) (isSecondCost (namedWith st ts) (lineOf ts)) (brings (lineOf ts)) h
 
 pub form-refusal-is : (st : Said) (ts : List Token) → formRefusal st ts ≡ firstOf (textNumber ts) (roomNumber st ts)
 unfolding formRefusal

@@ -1,14 +1,16 @@
--- The checks 6 to 10 of a line, and what taking it leaves: one law for each way out of `take_form` and `take_line`.
+-- The checks of a line from 6 on, and what taking it leaves: one law for each way out of `take_form` and `take_line`.
 -- Assumes nothing.
 use mathlib.Core.Path.{_≡_, refl, sym, ap, subst, _∙_}
+use mathlib.Core.Bool.{Bool, _&&_}
 use mathlib.Core.List.{List}
 use mathlib.Core.Logic.{⊎-elim}
-use Prim.Native.Nat.{ℕ, zero, suc}
+use Prim.Native.Nat.{ℕ, zero, suc, _≤_}
 use native.Mathlib.Omega.{arith}
-use lib.Dec.{leb}
+use lib.Dec.{leb, ltb}
 use lib.ListN.{length}
 use borrow.Author.Tests.{lt-leb}
 use Rattle.words.specs.Choice.{firstOf, firstFailed}
+use Rattle.words.specs.Bits.{has}
 use Rattle.words.proofs.Tests.{lt-or-le}
 use Rattle.program.specs.declared.case.Case.{Case}
 use Rattle.text.specs.Tokens.{tokens}
@@ -16,7 +18,7 @@ use Rattle.text.specs.Words.{namesIn}
 use Rattle.table.proofs.Kept.{kept-refl}
 use Rattle.grammar.specs.declared.brings.Brings.{Brings}
 use Rattle.grammar.specs.declared.line.Form.{Form}
-use Rattle.grammar.specs.Line.{Line, brings}
+use Rattle.grammar.specs.Line.{lineNames, brings}
 use Rattle.grammar.specs.LineOf.{lineOf}
 use Rattle.grammar.specs.Parsing.{Brought}
 use Rattle.grammar.proofs.LineLaws.{line-names}
@@ -26,30 +28,39 @@ use Rattle.names.proofs.Adding.{with-names-again}
 use Rattle.names.proofs.Interning.{LineInterned, rows-kept, line-interned}
 use Rattle.names.proofs.Short.{line-named}
 use Rattle.store.specs.Lent.{Lent, lent}
-use Rattle.store.specs.Saying.{Said, renamed}
+use Rattle.store.specs.Masks.{withAtom}
+use Rattle.store.specs.Saying.{Said, isSecondCost}
 use Rattle.store.specs.Held.{Long, Held, Kept}
 use Rattle.store.specs.Stored.{Storable, StoredAs}
 use Rattle.store.proofs.Lent.{lent-same, kept-refl-all, kept-trans-all}
+use Rattle.store.proofs.KeptTables.{kept-long}
 use Rattle.store.proofs.Held.{withAtomCount, names-held, named-held}
 use Rattle.checks.specs.declared.look.Looked.{Looked}
 use Rattle.checks.specs.declared.look.Looked.the-variants as looked
+use Rattle.checks.specs.declared.progress.Progress.{Progress}
 use Rattle.checks.specs.declared.take.Taken.{Taken}
-use Rattle.checks.specs.Checks.{textChecks, roomChecks, formRefusal, lineRefusal, saidAfter}
+use Rattle.checks.specs.Checks.{namedWith, textChecks, roomChecks, formRefusal, lineRefusal, saidAfter}
 use Rattle.checks.specs.Looked.{Formed, Told, LookedAs}
+use Rattle.checks.specs.Progress.{CostAtomIs, Reached}
 use Rattle.checks.specs.Took.{Took, FormTaken, LineTaken}
+use Rattle.checks.proofs.Refusing.{names-refused}
+use Rattle.checks.proofs.Costed.{second-same, costed-same}
 use Rattle.checks.proofs.Passing.{RoomPasses, textNumber, roomNumber, form-refusal-is, room-passes}
-use Rattle.checks.proofs.Passing.{text-passes}
+use Rattle.checks.proofs.Passing.{text-passes, many-refused}
 
-abbrev pub taken : ℕ → Case → Taken
-taken n c = record { refusal = n; found = c }
+abbrev pub taken : ℕ → Progress → Taken
+taken n p = record { refusal = n; reached = p }
+
+abbrev pub progress : Case → ℕ → Progress
+progress c w = record { found = c; costed = w }
 
 first-of-some : (n m : ℕ) → (n ≡ 0 → ⊥) → firstOf n m ≡ n
 first-of-some zero m h = absurd (h refl)
 first-of-some (suc n) m h = refl
 
 -- a line refused by n
-refused-took : {n k : ℕ} {after : Said} {c : Case} {u : Lent} → n ≡ k → (k ≡ 0 → ⊥) → Took n after (taken k c) u
-refused-took e h = record { refusal-is = sym e; held = λ z. absurd (h (sym e ∙ z)) }
+refused-took : {n k : ℕ} {after : Said} {p : Progress} {u : Lent} → n ≡ k → (k ≡ 0 → ⊥) → Took n after (taken k p) u
+refused-took e h = record { refusal-is = sym e; reached = λ z. absurd (h (sym e ∙ z)) }
 
 -- By the form of the line
 
@@ -62,9 +73,8 @@ module _ {l : List ℕ} {x : Form} (f : Formed l x) {b : Brings} (g : Brought x 
     text-number : k ≡ textNumber (tokens l)
     text-number = rw brought at e
 
-    pub text-refused : {c : Case} {t : Lent} → (k ≡ 0 → ⊥)
-        → FormTaken l c t (taken k c) t
-    text-refused {c} {t} z = record {
+    pub text-refused : {p : Progress} {t : Lent} → (k ≡ 0 → ⊥) → FormTaken l p t (taken k p) t
+    text-refused {p} {t} z = record {
       kept = kept-refl-all t;
       took = λ st h.
           refused-took
@@ -72,67 +82,106 @@ module _ {l : List ℕ} {x : Form} (f : Formed l x) {b : Brings} (g : Brought x 
     }
 
     -- the line passes 6 and 7, and n names are in the table u with its names
-    module _ (z : k ≡ 0) (c : Case) {cl co fo na : List ℕ} (long : Long (lent cl co fo na)) {n : ℕ} {u : List ℕ}
-        (i : rows n u ≡ rowsThrough (rows (c .atoms) na) (namesIn (tokens l))) where
-      names-kept : Kept (lent cl co fo na) (lent cl co fo u)
-      names-kept =
-          lent-same (kept-refl _ cl) (kept-refl _ co) (kept-refl _ fo) (rows-kept (c .atoms) na _ n u i)
+    module _ (z : k ≡ 0) (p : Progress) {cl co fo na pr : List ℕ} (long : Long (lent cl co fo na pr)) {n : ℕ}
+        {u : List ℕ} (i : rows n u ≡ rowsThrough (rows (p .found .atoms) na) (namesIn (tokens l))) where
+      abbrev c : Case
+      c = p .found
 
-      module _ (st : Said) (h : Held st c (lent cl co fo na)) where
+      names-kept : Kept (lent cl co fo na pr) (lent cl co fo u pr)
+      names-kept =
+          lent-same (kept-refl _ cl) (kept-refl _ co) (kept-refl _ fo) (rows-kept (c .atoms) na _ n u i) (kept-refl _ pr)
+
+      names-long-kept : Long (lent cl co fo u pr)
+      names-long-kept = kept-long _ _ names-kept long
+
+      module _ (st : Said) (h : Held st c (lent cl co fo na pr)) where
+        abbrev named : Said
+        named = namedWith st (tokens l)
+
         interned : LineInterned (st .names) (namesIn (tokens l)) n u
         interned =
             line-interned (st .names) _ na n u (names-held st c _ h) (long .names-long)
             (line-named l (text-passes _ b (sym e ∙ z) .0)) (rw (h .case-is) at i)
 
-        few-same : leb n 64 ≡ leb (length (withNames (st .names) (namesIn (tokens l)))) 64
+        few-same : leb n 64 ≡ leb (length (named .names)) 64
         few-same =
-            ⊎-elim (λ p. lt-leb n 64 p ∙ sym (lt-leb _ 64 (interned .full p))) (λ p. rw (interned .fits p))
+            ⊎-elim (λ q. lt-leb n 64 q ∙ sym (lt-leb _ 64 (interned .full q))) (λ q. rw (interned .fits q))
             (lt-or-le 64 n)
 
-        room-same : firstFailed (roomChecks n (c .clauses) (c .constraints) (c .formulas) b) ≡ roomNumber st (tokens l)
-        room-same = rw (brought, few-same, h .case-is)
+        -- the names of the line are known with it
+        known : withNames (named .names) (lineNames (lineOf (tokens l))) ≡ named .names
+        known =
+            ap (withNames (named .names)) (sym (line-names (tokens l) (f .is-line)))
+            ∙ with-names-again (st .names) (namesIn (tokens l))
 
-        form-number : formRefusal st (tokens l)
-            ≡ firstFailed (roomChecks n (c .clauses) (c .constraints) (c .formulas) b)
-        form-number = form-refusal-is st (tokens l) ∙ rw (← text-number, z, room-same)
+        named-is : n ≤ 64 → Held named (withAtomCount c n) (lent cl co fo u pr)
+        named-is few = named-held st c _ h (namesIn (tokens l)) n u interned few
 
-      module _ {j : ℕ} (d : j ≡ firstFailed (roomChecks n (c .clauses) (c .constraints) (c .formulas) b)) where
-        pub room-refused : (j ≡ 0 → ⊥)
-            → FormTaken l c (lent cl co fo na) (taken j c) (lent cl co fo u)
-        room-refused y = record { kept = names-kept; took = λ st h. refused-took (form-number st h ∙ sym d) y }
+      -- a is the atom of a cost, and s tells whether it has one
+      module _ {a : ℕ} (atom : CostAtomIs l u n a) {s : Bool} (m : s ≡ (ltb a 64 && has (p .costed) a)) where
+        abbrev number : ℕ
+        number = firstFailed (roomChecks n (c .clauses) (c .constraints) (c .formulas) s b)
 
-        module _ (y : j ≡ 0) where
-          fits : RoomPasses n (c .clauses) (c .constraints) (c .formulas) b
-          fits = room-passes (sym d ∙ y)
+        module _ (st : Said) (reached : Reached st p (lent cl co fo na pr)) where
+          second-told : n ≤ 64 → s ≡ isSecondCost (named st (reached .held)) (lineOf (tokens l))
+          second-told few =
+              m ∙ second-same _ (withAtomCount c n) _ (named-is st (reached .held) few) names-long-kept
+              (lineOf (tokens l)) (known st (reached .held)) (atom .atom-is few) (reached .costed-are)
 
-          pub form-storable : Storable l x (withAtomCount c n) (lineOf (tokens l))
-          form-storable = record {
-            short = f .short;
-            form-is = f .form-is;
-            atoms-few = fits .names-few;
-            room = rw (← brought) (record {
-              clauses-fit = fits .clauses-few;
-              constraints-fit = fits .constraints-few;
-              queries-fit = fits .queries-few;
-            });
-          }
+          room-same : number ≡ roomNumber st (tokens l)
+          room-same =
+              let h = reached .held in
+              ⊎-elim
+              (λ q.
+              sym (names-refused n (c .clauses) (c .constraints) (c .formulas) s b q)
+              ∙ many-refused st (tokens l) (interned st h .full q))
+              (λ q. rw (brought, few-same st h, second-told q, h .case-is)) (lt-or-le 64 n)
 
-          pub form-taken : {r : Case} {v : Lent}
-              → StoredAs (lineOf (tokens l)) (withAtomCount c n) (lent cl co fo u) r v
-              → FormTaken l c (lent cl co fo na) (taken 0 r) v
-          form-taken {r} {v} s = record {
-            kept = kept-trans-all _ _ names-kept v (s .kept);
-            took = λ st h.
-                let ws = namesIn (tokens l) in
-                let held = named-held st c _ h ws n u (interned st h) (fits .names-few) in
-                let ns = withNames (st .names) ws in
-                let known = ap (withNames ns) (sym (line-names (tokens l) (f .is-line)))
-                ∙ with-names-again (st .names) ws in
-                record {
-                  refusal-is = sym (form-number st h ∙ sym d ∙ y);
-                  held = λ _. s .held (renamed ns st) held known;
-                };
-          }
+          form-number : formRefusal st (tokens l) ≡ number
+          form-number = form-refusal-is st (tokens l) ∙ rw (← text-number, z, room-same)
+
+        module _ {j : ℕ} (d : j ≡ number) where
+          pub room-refused : (j ≡ 0 → ⊥) → FormTaken l p (lent cl co fo na pr) (taken j p) (lent cl co fo u pr)
+          room-refused y = record { kept = names-kept; took = λ st g. refused-took (form-number st g ∙ sym d) y }
+
+          module _ (y : j ≡ 0) where
+            fits : RoomPasses n (c .clauses) (c .constraints) (c .formulas) s b
+            fits = room-passes (sym d ∙ y)
+
+            pub form-storable : Storable l x (withAtomCount c n) (lineOf (tokens l))
+            form-storable = record {
+              short = f .short;
+              form-is = f .form-is;
+              atoms-few = fits .names-few;
+              room = rw (← brought) (record {
+                clauses-fit = fits .clauses-few;
+                constraints-fit = fits .constraints-few;
+                queries-fit = fits .queries-few;
+                price-fits = fits .price-few;
+                supplement-fits = fits .supplement-few;
+              });
+            }
+
+            pub form-taken : {r : Case} {v : Lent} {w : ℕ}
+                → StoredAs (lineOf (tokens l)) (withAtomCount c n) (lent cl co fo u pr) r v
+                → w ≡ withAtom (p .costed) a → FormTaken l p (lent cl co fo na pr) (taken 0 (progress r w)) v
+            form-taken {r} {v} {w} stored q = record {
+              kept = kept-trans-all _ _ names-kept v (stored .kept);
+              took = λ st g.
+                  let few = fits .names-few in
+                  let held = named-is st (g .held) few in
+                  let all = known st (g .held) in
+                  let once = sym (second-told st g few) ∙ fits .not-second in
+                  record {
+                    refusal-is = sym (form-number st g ∙ sym d ∙ y);
+                    reached = λ _. record {
+                      held = stored .held (named st (g .held)) held all once;
+                      costed-are =
+                          q ∙ costed-same _ (withAtomCount c n) _ held names-long-kept (lineOf (tokens l)) all
+                          (atom .atom-is few) (g .costed-are);
+                    };
+                  };
+            }
 
 -- By what a look at the line finds
 
@@ -140,29 +189,29 @@ module _ {l : List ℕ} {r : Looked} (a : LookedAs l r) where
   looked-as : {q : Looked} → r ≡ q → Told l q
   looked-as e = subst (Told l) e (a .told)
 
-  pub line-refused : {n : ℕ} {c : Case} {t : Lent} → r ≡ looked.Refused n
-      → LineTaken l c t (taken n c) t
+  pub line-refused : {n : ℕ} {p : Progress} {t : Lent} → r ≡ looked.Refused n
+      → LineTaken l p t (taken n p) t
   unfolding lineRefusal
-  line-refused {n} {c} {t} e =
+  line-refused {n} {p} {t} e =
       let b = looked-as e in
       let some : n ≡ 0 → ⊥ = λ z. omega arith in
       record { kept = kept-refl-all t; took = λ st h. refused-took (rw (b .0) (first-of-some n _ some)) some }
 
-  pub comment-taken : {c : Case} {t : Lent} → r ≡ looked.Comment
-      → LineTaken l c t (taken 0 c) t
+  pub comment-taken : {p : Progress} {t : Lent} → r ≡ looked.Comment
+      → LineTaken l p t (taken 0 p) t
   unfolding lineRefusal saidAfter
-  comment-taken {c} {t} e =
+  comment-taken {p} {t} e =
       let b = looked-as e in
       record {
         kept = kept-refl-all t;
-        took = λ st h. record { refusal-is = rw (b .0, b .1); held = λ _. rw (b .1) h };
+        took = λ st h. record { refusal-is = rw (b .0, b .1); reached = λ _. rw (b .1) h };
       }
 
   pub line-formed : {x : Form} → r ≡ looked.Line x → Formed l x
   line-formed e = looked-as e .1
 
-  pub line-taken : {x : Form} {c : Case} {t : Lent} {k : Taken} {u : Lent} → r ≡ looked.Line x
-      → FormTaken l c t k u → LineTaken l c t k u
+  pub line-taken : {x : Form} {p : Progress} {t : Lent} {k : Taken} {u : Lent} → r ≡ looked.Line x
+      → FormTaken l p t k u → LineTaken l p t k u
   unfolding lineRefusal saidAfter
   line-taken e h =
       let b = looked-as e in

@@ -1,15 +1,17 @@
 -- The checks of a line, each over the whole line and what was read before it; the first that fails decides.
--- From: document 01, "What each operation refuses", 3 to 10; document 02, [1], [2].
+-- From: document 01, "What each operation refuses", 3 to 10; document 02, [1], [2], [7] (16 and 17 "both checked after 9
+-- and before 10").
 --
 --   lookChecks l       the checks 3 to 5 of the line l, which need nothing of what was read
 --   lookRefusal l      the number of the first of them that fails, 0 where all pass
 --   saidWith st ts     st with the names of the tokens ts, in order of first appearance, and with what their line says
 --   textChecks ws b    the checks 6 and 7 of a line with the names ws that brings b
---   roomChecks ..      the checks 8 to 10, by how many names there are with the line, and by what there is before it
---   formChecks st ts   the checks 6 to 10 of the tokens ts behind st; formRefusal st ts as lookRefusal l
+--   roomChecks ..      the checks from 8 on, by how many names there are with the line, by what there is before it, and
+--                      by whether it is a second cost
+--   formChecks st ts   the checks from 6 on of the tokens ts behind st; formRefusal st ts as lookRefusal l
 --   lineRefusal st l   the number of the first check that the line l fails behind st, 0 where it passes all
 --   saidAfter st l     what was read with the line l, which passes its checks; a comment says nothing
-use mathlib.Core.Bool.{not, _&&_}
+use mathlib.Core.Bool.{Bool, not, _&&_}
 use mathlib.Core.List.{List, [], _∷_, _++_}
 use Prim.Native.Nat.{ℕ, _+_}
 use lib.Dec.{leb}
@@ -23,7 +25,7 @@ use Rattle.grammar.specs.Line.{isLine, brings}
 use Rattle.grammar.specs.LineOf.{lineOf}
 use Rattle.text.specs.Words.{namesIn}
 use Rattle.names.specs.Names.{someLong, withNames}
-use Rattle.store.specs.Saying.{Said, renamed, saidBy}
+use Rattle.store.specs.Saying.{Said, renamed, saidBy, isSecondCost}
 
 -- none on a comment; on other lines 3 over 200 bytes, 4 a byte that may not stand in a line, 5 no form
 abbrev pub lookChecks : List ℕ → List Check
@@ -34,27 +36,35 @@ lookChecks l =
 unfoldable pub lookRefusal : List ℕ → ℕ
 lookRefusal l = firstFailed (lookChecks l)
 
+-- st with the names of the tokens ts
+abbrev pub namedWith : Said → List Token → Said
+namedWith st ts = renamed (withNames (st .names) (namesIn ts)) st
+
 abbrev pub saidWith : Said → List Token → Said
-saidWith st ts = saidBy (renamed (withNames (st .names) (namesIn ts)) st) (lineOf ts)
+saidWith st ts = saidBy (namedWith st ts) (lineOf ts)
 
 -- 6 a name over 16 bytes among ws; 7 a formula deeper than 16
 abbrev pub textChecks : List (List ℕ) → Brings → List Check
 textChecks ws b = check 6 (not (someLong ws)) ∷ check 7 (leb (b .depth) 16) ∷ []
 
--- with the line, 8 a 65th name, 9 a 257th clause or 33rd constraint, 10 a 17th query
-abbrev pub roomChecks : ℕ → ℕ → ℕ → ℕ → Brings → List Check
-roomChecks names clauses constraints queries b =
+-- with the line, 8 a 65th name, 9 a 257th clause or 33rd constraint, 16 a price over 1,000,000 or a supplement over
+-- 100, 17 a second cost of a name, 10 a 17th query
+abbrev pub roomChecks : ℕ → ℕ → ℕ → ℕ → Bool → Brings → List Check
+roomChecks names clauses constraints queries second b =
     check 8 (leb names 64)
     ∷ check 9 (leb (clauses + b .clauses) 256 && leb (constraints + b .constraints) 32)
+    ∷ check 16 (leb (b .price) 1000000 && leb (b .supplement) 100)
+    ∷ check 17 (not second)
     ∷ check 10 (leb (queries + b .queries) 16)
     ∷ []
 
 abbrev pub formChecks : Said → List Token → List Check
 formChecks st ts =
     let b = brings (lineOf ts) in
-    let names = length (withNames (st .names) (namesIn ts)) in
+    let named = namedWith st ts in
     textChecks (namesIn ts) b
-    ++ roomChecks names (length (st .clauses)) (length (st .constraints)) (length (st .queries)) b
+    ++ roomChecks (length (named .names)) (length (st .clauses)) (length (st .constraints)) (length (st .queries))
+    (isSecondCost named (lineOf ts)) b
 
 unfoldable pub formRefusal : Said → List Token → ℕ
 formRefusal st ts = firstFailed (formChecks st ts)

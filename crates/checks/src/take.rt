@@ -10,16 +10,20 @@ ghost use Rattle.checks.specs.Looked.{Formed};
 ghost use Rattle.checks.specs.Took.{FormTaken, LineTaken};
 use crate::look::Looked;
 use crate::look::look;
+use crate::progress::Progress;
+use crate::progress::cost_atom;
+use crate::progress::is_costed;
 use grammar::brings::Brings;
 use grammar::line::Form;
 use grammar::line::brings;
 use program::case::Case;
 use store::form::store_form;
+use store::masks::with_atom;
 
-// What taking a line answers: 0 and the record after it, or the number of its refusal.
+// What taking a line answers: 0 and what is known after it, or the number of its refusal.
 pub struct Taken {
     pub refusal: u32,
-    pub found: Case,
+    pub reached: Progress,
 }
 
 // The number of the first of the checks 6 and 7 that a line fails, or 0.
@@ -35,10 +39,11 @@ fn text_refusal(l: &[u8], b: Brings) -> u32
     0
 }
 
-// The number of the first of the checks 8 to 10 that a line fails, with a number of names, or 0.
-fn room_refusal(b: Brings, c: Case, atoms: usize) -> u32
+// The number of the first of the checks from 8 on that a line fails, with a number of names, or 0; second tells whether
+// it is a second cost.
+fn room_refusal(b: Brings, c: Case, atoms: usize, second: bool) -> u32
     requires { ⌜ InLimits c ⌝ }
-    ensures { λ r. ⌜ r ≡ firstFailed (roomChecks atoms (c .clauses) (c .constraints) (c .formulas) b) ⌝ }
+    ensures { λ r. ⌜ r ≡ firstFailed (roomChecks atoms (c .clauses) (c .constraints) (c .formulas) second b) ⌝ }
 {
     if Case::ATOMS < atoms {
         return 8;
@@ -49,75 +54,104 @@ fn room_refusal(b: Brings, c: Case, atoms: usize) -> u32
     if Case::CONSTRAINTS - c.constraints < b.constraints {
         return 9;
     }
+    if 1000000 < b.price {
+        return 16;
+    }
+    if 100 < b.supplement {
+        return 16;
+    }
+    if second {
+        return 17;
+    }
     if Case::FORMULAS - c.formulas < b.queries {
         return 10;
     }
     0
 }
 
-// Takes a line by its form: checks 6 to 10, then stores it.
+// Takes a line by its form: the checks from 6 on, then stores it.
 fn take_form(
     l: &[u8],
     x: Form,
-    c: Case,
+    p: Progress,
     clauses: &mut [u64],
     constraints: &mut [u64],
     formula: &mut [u8],
     names: &mut [u8],
+    prices: &mut [u32],
 ) -> Taken
-    requires { ⌜ Long (lent (now clauses) (now constraints) (now formula) (now names)) × InLimits c
-        × Formed (now l) x ⌝ }
-    ensures { λ r. ⌜ FormTaken (now (l .entry)) c
-        (lent (now (clauses .entry)) (now (constraints .entry)) (now (formula .entry)) (now (names .entry))) r
-        (lent (now (clauses .exit)) (now (constraints .exit)) (now (formula .exit)) (now (names .exit))) ⌝ }
+    requires { ⌜ Long (lent (now clauses) (now constraints) (now formula) (now names) (now prices))
+        × InLimits (p .found) × Formed (now l) x ⌝ }
+    ensures { λ r. ⌜ FormTaken (now (l .entry)) p
+        (lent (now (clauses .entry)) (now (constraints .entry)) (now (formula .entry)) (now (names .entry))
+        (now (prices .entry))) r
+        (lent (now (clauses .exit)) (now (constraints .exit)) (now (formula .exit)) (now (names .exit))
+        (now (prices .exit))) ⌝ }
 {
     let b = brings(x);
     let early = text_refusal(l, b);
     if early != 0 {
         return Taken {
             refusal: early,
-            found: c,
+            reached: p,
         };
     }
+    let c = p.found;
     let atoms = names::intern_line(l, names, c.atoms);
-    let late = room_refusal(b, c, atoms);
+    let atom = cost_atom(l, x, names, atoms);
+    let late = room_refusal(b, c, atoms, is_costed(p.costed, atom));
     if late != 0 {
         return Taken {
             refusal: late,
-            found: c,
+            reached: p,
         };
     }
     let mut named = c;
     named.atoms = atoms;
+    let found = store_form(l, x, named, names, clauses, constraints, formula, prices);
+    let costed = with_atom(p.costed, atom);
     Taken {
         refusal: 0,
-        found: store_form(l, x, named, names, clauses, constraints, formula),
+        reached: Progress { found, costed },
     }
 }
 
 // Takes a line: looks at it, then takes it by its form.
 pub fn take_line(
     l: &[u8],
-    c: Case,
+    p: Progress,
     clauses: &mut [u64],
     constraints: &mut [u64],
     formula: &mut [u8],
     names: &mut [u8],
+    prices: &mut [u32],
 ) -> Taken
-    requires { ⌜ Long (lent (now clauses) (now constraints) (now formula) (now names)) × InLimits c ⌝ }
-    ensures { λ r. ⌜ LineTaken (now (l .entry)) c
-        (lent (now (clauses .entry)) (now (constraints .entry)) (now (formula .entry)) (now (names .entry))) r
-        (lent (now (clauses .exit)) (now (constraints .exit)) (now (formula .exit)) (now (names .exit))) ⌝ }
+    requires { ⌜ Long (lent (now clauses) (now constraints) (now formula) (now names) (now prices))
+        × InLimits (p .found) ⌝ }
+    ensures { λ r. ⌜ LineTaken (now (l .entry)) p
+        (lent (now (clauses .entry)) (now (constraints .entry)) (now (formula .entry)) (now (names .entry))
+        (now (prices .entry))) r
+        (lent (now (clauses .exit)) (now (constraints .exit)) (now (formula .exit)) (now (names .exit))
+        (now (prices .exit))) ⌝ }
 {
     match look(l) {
         Looked::Refused(number) => Taken {
             refusal: number,
-            found: c,
+            reached: p,
         },
         Looked::Comment => Taken {
             refusal: 0,
-            found: c,
+            reached: p,
         },
-        Looked::Line(x) => take_form(l, x, c, clauses, constraints, formula, names),
+        Looked::Line(x) => take_form(
+            l,
+            x,
+            p,
+            clauses,
+            constraints,
+            formula,
+            names,
+            prices,
+        ),
     }
 }

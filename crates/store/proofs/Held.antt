@@ -120,10 +120,10 @@ module _ (st : Said) (c : Case) (t : Lent) (h : Held st c t) where
         rw (h .case-is) (row-atom names-held (long .names-long) named)
 
     module _ (ws : List (List ℕ)) (known : withNames (st .names) ws ≡ st .names) where
-      each-known : Each (Known (st .names)) ws
+      pub each-known : Each (Known (st .names)) ws
       each-known = rw known at (each-found (st .names) ws)
 
-      each-agree : Each (Agree (rowOf (t .names) (c .atoms)) (atomOf (st .names))) ws
+      pub each-agree : Each (Agree (rowOf (t .names) (c .atoms)) (atomOf (st .names))) ws
       each-agree = each-gives (Known (st .names)) _ known-agree ws each-known
 
     -- the masks m are those of the literals ls

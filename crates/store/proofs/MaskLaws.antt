@@ -29,7 +29,7 @@ use Rattle.store.specs.Masks.{masks, withAtom, withLiteral, masksBy}
 
 -- one atom
 
-with-atom-lt : (w a : ℕ) → w < 2 ^ 64 → withAtom w a < 2 ^ 64
+pub with-atom-lt : (w a : ℕ) → w < 2 ^ 64 → withAtom w a < 2 ^ 64
 with-atom-lt w a h = by-test (ltb a 64) (λ t. rw t (or-one-lt 64 w a h (ltb-true a 64 t))) (λ t. rw t h)
 
 or-none : (x : Bool) → (x || false) ≡ x
@@ -40,7 +40,7 @@ or-grouped : (x y z : Bool) → ((x || y) || z) ≡ (x || (y || z))
 or-grouped true y z = refl
 or-grouped false y z = refl
 
-with-atom-has : (w a i : ℕ) → i < 64 → has (withAtom w a) i ≡ (has w i || eqb a i)
+pub with-atom-has : (w a i : ℕ) → i < 64 → has (withAtom w a) i ≡ (has w i || eqb a i)
 with-atom-has w a i h =
     by-test (ltb a 64)
     (λ t. rw (t, eqb-comm a i) (has-or-one w a i))

@@ -20,7 +20,7 @@ pub struct Masks {
 }
 
 // A word with an atom below 64 added.
-fn with_atom(w: u64, atom: usize) -> u64
+pub fn with_atom(w: u64, atom: usize) -> u64
     ensures { λ r. ⌜ r ≡ withAtom w atom ⌝ }
 {
     if atom < 64 {

@@ -5,21 +5,22 @@ use Rattle.checks.proofs.Taking.{text-refused, room-refused, form-stora
 use Rattle.checks.proofs.take.take_form.Statement.{statement}
 use Rattle.checks.proofs.take.take_form.Tie as tie
 
--- the places before: of the entry, of the names, of the checks 6 to 10 passed, and of the line stored
+-- the places before: of the entry, of the names, of the checks 6 and 7 passed, of the line stored, and of all checks
+-- passed
 abbrev entry : tie.After-text-refusal → tie.Start
-entry c = c .before .before .before .before .before .before .before
+entry c = c .before .before .before .before .before .before .before .before
 
 abbrev named : tie.After-room-refusal → tie.After-intern-line
-named c = c .before .before .before
+named c = c .before .before .before .before .before .before
 
 abbrev passed : tie.After-intern-line → tie.Else1
-passed c = c .before .before
+passed c = c .before .before .before
 
-abbrev stored : tie.After-slice-known8 → tie.After-store-form
-stored c = c .before .before .before .before .before .before
+abbrev stored : tie.After-with-atom → tie.After-store-form
+stored c = c .before .before .before .before .before .before .before .before .before
 
-abbrev allowed : tie.After-store-form-arg4 → tie.Else2
-allowed c = c .before .before .before .before
+abbrev allowed : tie.After-store-form-arg5 → tie.Else2
+allowed c = c .before .before .before .before .before
 
 returns : tie.Need-returns
 returns c =
@@ -28,15 +29,18 @@ returns c =
 
 returns-2 : tie.Need-returns-2
 returns-2 c =
-    let n = named (c .before) in
+    let m = c .before in
+    let n = named m in
     let t = passed n .before in
     room-refused (entry t .pre .2) (t .before .brings .ensures) (t .text-refusal .ensures) (passed n .if1 .left) _
-    (entry t .pre .0) (n .intern-line .ensures) (c .before .room-refusal .ensures) (c .if2 .taken)
+    (entry t .pre .0) (n .intern-line .ensures) (m .before .before .cost-atom .ensures) (m .before .is-costed .ensures)
+    (m .room-refusal .ensures) (c .if2 .taken)
 
 store-form-requires : tie.Need-store-form-requires
 store-form-requires c κs =
     let d = allowed c in
-    let n = named (d .before) in
+    let m = d .before in
+    let n = named m in
     let t = passed n .before in
     let long = entry t .pre .0 in (
       record {
@@ -44,20 +48,23 @@ store-form-requires c κs =
         constraints-long = long .constraints-long;
         formula-long = long .formula-long;
         names-long = search needs;
+        prices-long = long .prices-long;
       },
       form-storable (entry t .pre .2) (t .before .brings .ensures) (t .text-refusal .ensures) (passed n .if1 .left) _
-          long (n .intern-line .ensures) (d .before .room-refusal .ensures) (d .if2 .left),
+          long (n .intern-line .ensures) (m .before .before .cost-atom .ensures) (m .before .is-costed .ensures)
+          (m .room-refusal .ensures) (d .if2 .left),
     )
 
 returns-3 : tie.Need-returns-3
 returns-3 c =
     let s = stored c in
     let d = allowed (s .before) in
-    let n = named (d .before) in
+    let m = d .before in
+    let n = named m in
     let t = passed n .before in
     form-taken (entry t .pre .2) (t .before .brings .ensures) (t .text-refusal .ensures) (passed n .if1 .left) _
-    (entry t .pre .0) (n .intern-line .ensures) (d .before .room-refusal .ensures) (d .if2 .left)
-    (s .store-form .ensures)
+    (entry t .pre .0) (n .intern-line .ensures) (m .before .before .cost-atom .ensures) (m .before .is-costed .ensures)
+    (m .room-refusal .ensures) (d .if2 .left) (s .store-form .ensures) (c .with-atom .ensures)
 
 pub take-form-spec : {M : Type 1} → statement M
 take-form-spec =
@@ -68,9 +75,13 @@ take-form-spec =
     returns
     (λ c κs. search needs)
     (λ c κs. search needs)
+    (λ c κs. search needs)
+    (λ c κs. search needs)
     (λ c. search needs)
     returns-2
     store-form-requires
+    (λ c κs. search needs)
+    (λ c. search needs)
     (λ c. search needs)
     (λ c. search needs)
     (λ c. search needs)

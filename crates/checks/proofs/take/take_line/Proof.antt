@@ -5,14 +5,14 @@ use Rattle.checks.proofs.take.take_line.Statement.{statement}
 use Rattle.checks.proofs.take.take_line.Tie as tie
 
 -- the places before: of the line taken by its form, and of that form
-abbrev half : tie.After-slice-known8 → tie.After-constraints
-half c = c .before .before .before .before .before
+abbrev half : tie.After-slice-known10 → tie.After-constraints
+half c = c .before .before .before .before .before .before .before
 
-abbrev formed : tie.After-slice-known8 → tie.After-take-form
+abbrev formed : tie.After-slice-known10 → tie.After-take-form
 formed c = half c .before .before .before
 
 abbrev found : tie.After-take-form → tie.After-x
-found c = c .before .before .before .before .before .before
+found c = c .before .before .before .before .before .before .before
 
 take-form-requires : tie.Need-take-form-requires
 take-form-requires c κs = search (needs, line-formed)
@@ -41,6 +41,7 @@ take-line-spec =
     take-form-requires
     returns
     returns-2
+    (λ c. search needs)
     (λ c. search needs)
     (λ c. search needs)
     (λ c. search needs)
