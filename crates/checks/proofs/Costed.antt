@@ -10,7 +10,7 @@ use lib.Dec.{ltb}
 use lib.ListN.{length}
 use lib.Seq.{slice}
 use borrow.Author.Tests.{lt-ltb}
-use Rattle.words.specs.Bits.{has}
+use Rattle.words.specs.Bits.{has, word}
 use Rattle.words.proofs.Words.{has-word, is-word, word-lt}
 use Rattle.text.specs.Tokens.{tokens}
 use Rattle.text.proofs.Each.{Each}
@@ -35,6 +35,10 @@ use Rattle.store.proofs.MaskLaws.{with-atom-lt, with-atom-has}
 use Rattle.store.proofs.Prices.{cost-push}
 use Rattle.checks.specs.Looked.{Formed}
 use Rattle.checks.specs.Progress.{costedIn, costAtom, CostAtomIs}
+
+pub none-costed : 0 ≡ costedIn []
+unfolding hasCost word
+none-costed = refl
 
 -- the atoms with a cost after a line
 

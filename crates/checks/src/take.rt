@@ -143,15 +143,6 @@ pub fn take_line(
             refusal: 0,
             reached: p,
         },
-        Looked::Line(x) => take_form(
-            l,
-            x,
-            p,
-            clauses,
-            constraints,
-            formula,
-            names,
-            prices,
-        ),
+        Looked::Line(x) => take_form(l, x, p, clauses, constraints, formula, names, prices),
     }
 }

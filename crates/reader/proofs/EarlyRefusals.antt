@@ -1,6 +1,6 @@
 -- Laws of the early refusals 1 and 2, which touch nothing, and of reading where there is none. Assumes nothing.
 use mathlib.Core.Path.{_≡_, refl, sym, ap, _∙_}
-use mathlib.Core.Bool.{Bool, true, false, not}
+use mathlib.Core.Bool.{Bool, true, false, not, _&&_}
 use mathlib.Core.List.{List, [], _∷_}
 use Prim.Native.Nat.{ℕ, zero, suc, _≤_, _<_}
 use lib.Dec.{leb}
@@ -9,7 +9,7 @@ use borrow.Author.Tests.{leb-true, le-leb, lt-leb, not-true, not-false}
 use Rattle.words.specs.Choice.{unlessRefused, check}
 use Rattle.words.proofs.Tests.{and-true-l, and-true-r}
 use Rattle.words.proofs.Checks.{none-failed}
-use Rattle.program.specs.Case.{nameSize, tablesFull}
+use Rattle.program.specs.Case.{nameSize, priceSize, tablesFull}
 use Rattle.program.proofs.Soundness.{full-clauses, full-constraints, full-formula}
 use Rattle.store.specs.Lent.{Lent}
 use Rattle.store.specs.Tables.{noCase}
@@ -22,18 +22,21 @@ unless-refused : {A : Type 0} (n : ℕ) (x y : A) → (n ≡ 0 → ⊥) → y �
 unless-refused zero x y h = absurd (h refl)
 unless-refused (suc n) x y h = refl
 
--- the four tables fit where they have their full sizes
+-- the five tables fit where they have their full sizes
 pub fit-long : (t : Lent) → tablesFit t ≡ true → Long t
 unfolding tablesFit
 fit-long t h =
     let a = tablesFull (t .clauses) (t .constraints) (t .formula) in
     let b = leb nameSize (length (t .names)) in
-    let full = and-true-l a b h in
+    let d = leb priceSize (length (t .prices)) in
+    let front = and-true-l (a && b) d h in
+    let full = and-true-l a b front in
     record {
       clauses-long = full-clauses _ _ _ full;
       constraints-long = full-constraints _ _ _ full;
       formula-long = full-formula _ _ _ full;
-      names-long = leb-true nameSize (length (t .names)) (and-true-r a b h);
+      names-long = leb-true nameSize (length (t .names)) (and-true-r a b front);
+      prices-long = leb-true priceSize (length (t .prices)) (and-true-r (a && b) d h);
     }
 
 -- the tests one after the other
@@ -48,13 +51,21 @@ module _ (f : List ℕ) (t : Lent) {b : Bool} (full : b ≡ tablesFull (t .claus
     early-names-short k = rw (← full, not-false b h, lt-leb nameSize (length (t .names)) k)
 
     module _ (k : nameSize ≤ length (t .names)) where
-      pub early-file-long : 32768 < length f → 2 ≡ earlyRefusal f t
+      pub early-prices-short : length (t .prices) < priceSize → 1 ≡ earlyRefusal f t
       unfolding earlyRefusal tablesFit
-      early-file-long l = rw (← full, not-false b h, le-leb nameSize _ k, lt-leb (length f) 32768 l)
+      early-prices-short m =
+          rw (← full, not-false b h, le-leb nameSize _ k, lt-leb priceSize (length (t .prices)) m)
 
-      pub early-none : length f ≤ 32768 → 0 ≡ earlyRefusal f t
-      unfolding earlyRefusal tablesFit
-      early-none l = rw (← full, not-false b h, le-leb nameSize _ k, le-leb (length f) 32768 l)
+      module _ (m : priceSize ≤ length (t .prices)) where
+        pub early-file-long : 32768 < length f → 2 ≡ earlyRefusal f t
+        unfolding earlyRefusal tablesFit
+        early-file-long l =
+            rw (← full, not-false b h, le-leb nameSize _ k, le-leb priceSize _ m, lt-leb (length f) 32768 l)
+
+        pub early-none : length f ≤ 32768 → 0 ≡ earlyRefusal f t
+        unfolding earlyRefusal tablesFit
+        early-none l =
+            rw (← full, not-false b h, le-leb nameSize _ k, le-leb priceSize _ m, le-leb (length f) 32768 l)
 
 -- the number n is that of the early refusal
 module _ (f : List ℕ) (t : Lent) {n : ℕ} (e : n ≡ earlyRefusal f t) where
@@ -78,6 +89,7 @@ module _ (f : List ℕ) (t : Lent) {n : ℕ} (e : n ≡ earlyRefusal f t) where
     constraints-are = chosen _ (t .constraints) h;
     formula-is = chosen _ (t .formula) h;
     names-are = chosen _ (t .names) h;
+    prices-are = chosen _ (t .prices) h;
   }
 
   passed : {A : Type 0} (x y z : A) → n ≡ 0 → z ≡ x → z ≡ unlessRefused (earlyRefusal f t) x y
@@ -92,4 +104,5 @@ module _ (f : List ℕ) (t : Lent) {n : ℕ} (e : n ≡ earlyRefusal f t) where
     constraints-are = passed _ _ _ k (ap (λ (x : Lent). x .constraints) (h .tables-are));
     formula-is = passed _ _ _ k (ap (λ (x : Lent). x .formula) (h .tables-are));
     names-are = passed _ _ _ k (ap (λ (x : Lent). x .names) (h .tables-are));
+    prices-are = passed _ _ _ k (ap (λ (x : Lent). x .prices) (h .tables-are));
   }

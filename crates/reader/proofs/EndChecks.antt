@@ -13,6 +13,7 @@ use Rattle.text.proofs.LineLaws.{lines-none}
 use Rattle.store.specs.Lent.{Lent}
 use Rattle.store.specs.Tables.{clauseWords}
 use Rattle.store.proofs.Held.{held-in-limits}
+use Rattle.checks.specs.declared.progress.Progress.{Progress}
 use Rattle.reader.specs.Reading.{Outcome, orElse, endRefusal, ending, readLines, readFile}
 use Rattle.reader.specs.Steps.{endRefusalIn, Countable, refusedAt, FileTaken}
 use Rattle.reader.proofs.FilledTables.{few-causes-filled}
@@ -37,18 +38,21 @@ module _ (c : Case) (cl : List ℕ) where
       end-none e = rw (le-leb 1 (c .formulas) (omega arith), ← f, not-false b e)
 
 -- all lines are taken
-module _ {f : List ℕ} {t₀ t : Lent} {c : Case} {at line : ℕ} (i : LinesTaken f t₀ t c at line) where
+module _ {f : List ℕ} {t₀ t : Lent} {p : Progress} {at line : ℕ} (i : LinesTaken f t₀ t p at line) where
+  abbrev c : Case
+  c = p .found
+
   -- the tests of the record and of the table are those of what was read
   query-is : leb 1 (c .formulas) ≡ leb 1 (length (i .said .queries))
-  query-is = rw (i .held .case-is)
+  query-is = rw (i .reached .held .case-is)
 
   few-is : fewCauses (c .atoms) (t .clauses) (c .clauses)
       ≡ fewCauses (length (i .said .names)) (clauseWords (i .said .clauses)) (length (i .said .clauses))
   few-is =
-      let e = ap (λ (x : Lent). x .clauses) (i .held .tables-are) in
-      rw (i .held .case-is, e)
+      let e = ap (λ (x : Lent). x .clauses) (i .reached .held .tables-are) in
+      rw (i .reached .held .case-is, e)
       (few-causes-filled (i .said .clauses) (t .clauses) (i .long .clauses-long)
-      (i .held .limits .clauses-few) (length (i .said .names)))
+      (i .reached .held .limits .clauses-few) (length (i .said .names)))
 
   end-is : endRefusalIn c (t .clauses) ≡ endRefusal (i .said)
   end-is = rw (query-is, few-is)
@@ -56,10 +60,10 @@ module _ {f : List ℕ} {t₀ t : Lent} {c : Case} {at line : ℕ} (i : LinesTak
   -- what counting the causes requires
   pub causes-countable : Countable c (t .clauses)
   causes-countable = record {
-    limits = held-in-limits (i .said) c t (i .held);
+    limits = held-in-limits (i .said) c t (i .reached .held);
     atoms-some = λ h.
         let q : 1 ≤ length (i .said .queries) = leb-true 1 _ (sym query-is ∙ le-leb 1 (c .formulas) (omega arith)) in
-        rw (i .held .case-is) (i .held .limits .query-atoms q);
+        rw (i .reached .held .case-is) (i .reached .held .limits .query-atoms q);
     clauses-long = i .long .clauses-long;
   }
 
@@ -78,7 +82,7 @@ module _ {f : List ℕ} {t₀ t : Lent} {c : Case} {at line : ℕ} (i : LinesTak
     end-accepted p =
         let o = rw p at end-by in
         record {
-          answer-is = rw (o, i .held .case-is);
+          answer-is = rw (o, i .reached .held .case-is);
           kept = i .kept;
-          tables-are = λ z. rw o (i .held .tables-are);
+          tables-are = λ z. rw o (i .reached .held .tables-are);
         }

@@ -14,7 +14,7 @@ use Rattle.logic.specs.Formula.{Formula}
 use Rattle.logic.specs.Nodes.{formulaOf}
 use Rattle.logic.proofs.Spelled.{one-formula-unique}
 use Rattle.program.specs.declared.case.Case.{Case}
-use Rattle.program.specs.Case.{clauseSize, constraintSize, formulaSize, nameSize, nodesOf}
+use Rattle.program.specs.Case.{clauseSize, constraintSize, formulaSize, nameSize, priceSize, nodesOf}
 use Rattle.program.specs.Program.{clausesOf}
 use Rattle.text.specs.Lines.{lines}
 use Rattle.table.specs.Filled.{filled}
@@ -22,11 +22,13 @@ use Rattle.names.specs.Names.{rowsOf}
 use Rattle.text.proofs.Each.{Each, each-at, each-gives}
 use Rattle.names.proofs.Rows.{filled-row}
 use Rattle.store.specs.Lent.{Lent}
+use Rattle.store.specs.Prices.{CostRow, priceIn, pricesOf}
 use Rattle.store.specs.Saying.{ClauseRow, Said, nothingSaid, plainAtoms, negatedAtoms}
 use Rattle.store.specs.Tables.{clauseWords, constraintWords, formulaParts, caseSaid}
 use Rattle.store.specs.Held.{Long}
 use Rattle.store.proofs.Saying.{is-atoms}
 use Rattle.store.proofs.FilledRows.{formula-is}
+use Rattle.store.proofs.Prices.{price-at}
 use Rattle.reader.specs.declared.read.Answer.{Answer}
 use Rattle.reader.specs.Reading.{Outcome, refusalOf, readFile}
 use Rattle.reader.specs.Operation.{earlyRefusal, ReadAs}
@@ -77,7 +79,8 @@ module _ (f : List ℕ) (st : Said) (e : readFile f ≡ Outcome.case st) where
       (cl : u .clauses ≡ filled clauseSize (clauseWords (st .clauses)) (t .clauses))
       (co : u .constraints ≡ filled constraintSize (constraintWords (st .constraints)) (t .constraints))
       (fo : u .formula ≡ filled formulaSize (formulaParts (st .queries)) (t .formula))
-      (na : u .names ≡ filled nameSize (rowsOf (st .names)) (t .names)) where
+      (na : u .names ≡ filled nameSize (rowsOf (st .names)) (t .names))
+      (pr : u .prices ≡ filled priceSize (pricesOf (st .costs)) (t .prices)) where
     clauses-said : clausesOf (u .clauses) (c .clauses) ≡ fileContent f .clauses
     clauses-said =
         rw (cl, found)
@@ -112,6 +115,9 @@ module _ (f : List ℕ) (st : Said) (e : readFile f ≡ Outcome.case st) where
       plain-are = rw found plain-read;
       negated-are = rw found negated-read;
       queries-are = queries-said;
+      prices-are = λ a h.
+          rw pr (price-at (st .costs) (t .prices) (long .prices-long) a h)
+          ∙ ap (λ (cs : List CostRow). priceIn cs a) (content-read .costs-are);
     }
 
 -- The answer of reading
@@ -129,4 +135,4 @@ answer-says f t u r h z =
     let said = a .1 in
     says f (a .0) said (r .found) t u (early-passed f t (sym early) refl .0)
     (rw (z, said) at (h .case-is)) (rw (early, said) at (h .clauses-are)) (rw (early, said) at (h .constraints-are))
-    (rw (early, said) at (h .formula-is)) (rw (early, said) at (h .names-are))
+    (rw (early, said) at (h .formula-is)) (rw (early, said) at (h .names-are)) (rw (early, said) at (h .prices-are))

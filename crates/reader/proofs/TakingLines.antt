@@ -7,20 +7,22 @@ use native.Mathlib.Numerals.{add-one}
 use native.Mathlib.Omega.{arith}
 use lib.ListN.{length, take, drop}
 use lib.Seq.{slice}
-use Rattle.program.specs.declared.case.Case.{Case}
 use Rattle.text.specs.Lines.{lines}
 use Rattle.text.specs.Scanning.{LineEnds}
 use Rattle.text.proofs.Slices.{slice-take}
 use Rattle.store.specs.Lent.{Lent}
 use Rattle.store.specs.Saying.{Said, nothingSaid}
 use Rattle.store.specs.Tables.{noCase}
-use Rattle.store.specs.Held.{Long, InLimits, Held, Kept}
+use Rattle.store.specs.Held.{Long, InLimits, Kept}
 use Rattle.store.proofs.Held.{held-in-limits}
 use Rattle.store.proofs.Lent.{kept-refl-all, kept-trans-all}
 use Rattle.store.proofs.KeptTables.{SameLengths, kept-lengths, kept-long}
+use Rattle.checks.specs.declared.progress.Progress.{Progress}
 use Rattle.checks.specs.declared.take.Taken.{Taken}
 use Rattle.checks.specs.Checks.{lineRefusal, saidAfter}
+use Rattle.checks.specs.Progress.{Reached}
 use Rattle.checks.specs.Took.{Took, TakenAs}
+use Rattle.checks.proofs.Costed.{none-costed}
 use Rattle.reader.specs.declared.read.Answer.{Answer}
 use Rattle.reader.specs.Reading.{Outcome, orElse, readLines, readFile}
 use Rattle.reader.specs.Steps.{Ready, refusedAt, answerOf, FileTaken}
@@ -67,34 +69,39 @@ pub record Places (f : List ℕ) (at line : ℕ) : Type 0 where
   pub near : at ≤ length f + 1
   pub counted : line ≤ at + 1
 
--- the record c and the tables t when the lines of the file f before place at are taken, line the next line's number,
--- behind the tables t₀
-pub record LinesTaken (f : List ℕ) (t₀ t : Lent) (c : Case) (at line : ℕ) : Type 0 where
+-- what is known, p and the tables t, when the lines of the file f before place at are taken, line the next line's
+-- number, behind the tables t₀
+pub record LinesTaken (f : List ℕ) (t₀ t : Lent) (p : Progress) (at line : ℕ) : Type 0 where
   pub places : Places f at line
   pub long : Long t
   pub said : Said
-  pub held : Held said c t
+  pub reached : Reached said p t
   pub kept : Kept t₀ t
   pub rest-is : readFile f ≡ readLines (lines (drop at f)) said line
 
-pub no-lines-taken : {f : List ℕ} {t : Lent} → Ready f t → LinesTaken f t t noCase 0 1
+-- before the first line
+abbrev pub noProgress : Progress
+noProgress = record { found = noCase; costed = 0 }
+
+pub no-lines-taken : {f : List ℕ} {t : Lent} → Ready f t → LinesTaken f t t noProgress 0 1
 unfolding readFile
 no-lines-taken {f} {t} h = record {
   places = record { short = h .short; near = omega arith; counted = omega arith };
   long = h .long;
   said = nothingSaid;
-  held = h .held;
+  reached = record { held = h .held; costed-are = none-costed };
   kept = kept-refl-all t;
   rest-is = refl;
 }
 
-pub taken-in-limits : {f : List ℕ} {t₀ t : Lent} {c : Case} {at line : ℕ} → LinesTaken f t₀ t c at line → InLimits c
-taken-in-limits {f} {t₀} {t} {c} i = held-in-limits (i .said) c t (i .held)
+pub taken-in-limits : {f : List ℕ} {t₀ t : Lent} {p : Progress} {at line : ℕ} → LinesTaken f t₀ t p at line
+    → InLimits (p .found)
+taken-in-limits {f} {t₀} {t} {p} i = held-in-limits (i .said) (p .found) t (i .reached .held)
 
 -- the line w of f from place at to place e is taken
-module _ {f : List ℕ} {t₀ t u : Lent} {c : Case} {at e line : ℕ} {r : Taken} (i : LinesTaken f t₀ t c at line)
+module _ {f : List ℕ} {t₀ t u : Lent} {p : Progress} {at e line : ℕ} {r : Taken} (i : LinesTaken f t₀ t p at line)
     (l : LineEnds f at e)
-    (k : TakenAs (λ st. lineRefusal st (take (e - at) (drop at f))) (λ st. saidAfter st (take (e - at) (drop at f))) c
+    (k : TakenAs (λ st. lineRefusal st (take (e - at) (drop at f))) (λ st. saidAfter st (take (e - at) (drop at f))) p
     t r u) where
   abbrev w : List ℕ
   w = take (e - at) (drop at f)
@@ -104,7 +111,7 @@ module _ {f : List ℕ} {t₀ t u : Lent} {c : Case} {at e line : ℕ} {r : Take
       (l .lines-are ∙ ap (λ (x : List ℕ). x ∷ lines (drop (e + 1) f)) (sym (part-slice f at e (l .onward))))
 
   took : Took (lineRefusal (i .said) w) (saidAfter (i .said) w) r u
-  took = k .took (i .said) (i .held)
+  took = k .took (i .said) (i .reached)
 
   next-places : Places f (e + 1) (line + 1)
   next-places = record {
@@ -113,14 +120,14 @@ module _ {f : List ℕ} {t₀ t u : Lent} {c : Case} {at e line : ℕ} {r : Take
     counted = omega (arith, l .onward, i .places .counted);
   }
 
-  pub line-taken : r .refusal ≡ 0 → LinesTaken f t₀ u (r .found) (e + 1) (line + 1)
+  pub line-taken : r .refusal ≡ 0 → LinesTaken f t₀ u (r .reached) (e + 1) (line + 1)
   line-taken z =
       let n : lineRefusal (i .said) w ≡ 0 = sym (took .refusal-is) ∙ z in
       record {
         places = next-places;
         long = kept-long t u (k .kept) (i .long);
         said = saidAfter (i .said) w;
-        held = took .held n;
+        reached = took .reached n;
         kept = kept-trans-all t₀ t (i .kept) u (k .kept);
         rest-is = here ∙ lines-go w (lines (drop (e + 1) f)) (i .said) line n;
       }

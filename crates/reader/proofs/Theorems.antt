@@ -12,9 +12,10 @@ use Rattle.text.proofs.Each.{each-at}
 use Rattle.names.specs.Names.{atomOf}
 use Rattle.names.proofs.Adding.{distinct-atom}
 use Rattle.store.proofs.Encoded.{encoded-length}
+use Rattle.store.proofs.Prices.{supplement-near}
 use Rattle.checks.specs.Naming.{IsName}
 use Rattle.reader.specs.Claims.{AcceptedSound, TablesSay, AcceptedNames, FirstBad, ReadExact}
-use Rattle.reader.specs.Claims.{FirstBadLine, NoBadLine, NodesFit}
+use Rattle.reader.specs.Claims.{FirstBadLine, NoBadLine, NodesFit, SupplementNearest}
 use Rattle.reader.proofs.EarlyRefusals.{fit-long}
 use Rattle.reader.proofs.WellFormedLines.{accepted-formed}
 use Rattle.reader.proofs.Sound.{ended-sound}
@@ -54,3 +55,6 @@ pub nodes-fit : NodesFit
 nodes-fit l f ns h e =
     let s : 2 * sizeOf f ≤ length (tokens l) = subst (Shaped (length (tokens l))) e (line-shaped (tokens l)) in
     omega (arith, encoded-length (atomOf ns) f, tokens-le-bytes l)
+
+pub supplement-nearest : SupplementNearest
+supplement-nearest = supplement-near

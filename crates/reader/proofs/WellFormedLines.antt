@@ -1,7 +1,7 @@
 -- What was read stays well formed with a line that passes its checks, and so is at the end of an accepted file.
 -- Assumes nothing.
 use mathlib.Core.Path.{_≡_, refl, ap, subst}
-use mathlib.Core.Bool.{true, false, not}
+use mathlib.Core.Bool.{Bool, true, false, not}
 use mathlib.Core.List.{List, [], _∷_}
 use Prim.Native.Nat.{ℕ, zero, suc, _*_, _≤_, _<_}
 use native.Mathlib.Omega.{arith}
@@ -73,8 +73,8 @@ module _ (ns : List (List ℕ)) (h : length ns ≤ 64) where
 
   -- with one entry more
   module _ (st : Said) (r : WellFormed (renamed ns st)) (n : ℕ) (s : n ≤ 200) where
-    said-formed : (y : Line) → Each (Known ns) (lineNames y) → Shaped n y → brings y .depth ≤ 16
-        → RoomPasses (length ns) (length (st .clauses)) (length (st .constraints)) (length (st .queries)) (brings y)
+    said-formed : (y : Line) {q : Bool} → Each (Known ns) (lineNames y) → Shaped n y → brings y .depth ≤ 16
+        → RoomPasses (length ns) (length (st .clauses)) (length (st .constraints)) (length (st .queries)) q (brings y)
         → WellFormed (saidBy (renamed ns st) y)
     unfolding saidBy
     said-formed Line.skipped p b d m = r
@@ -98,6 +98,8 @@ module _ (ns : List (List ℕ)) (h : length ns ≤ 64) where
     said-formed (Line.query f) p b d m =
         well-formed _ (r .names) (r .clauses) (r .constraints) (r .observed)
         (rows-push _ 16 _ _ (r .queries) (omega (arith, m .queries-few)) (sentence-formed f p (omega arith) d))
+    said-formed (Line.cost w x y) p b d m =
+        well-formed _ (r .names) (r .clauses) (r .constraints) (r .observed) (r .queries)
 
 -- A line
 

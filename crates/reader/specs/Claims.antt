@@ -1,13 +1,15 @@
 -- What is claimed of reading beyond the contract of *read*. Proved in proofs/Theorems.antt.
--- From: document 01, "What each operation refuses" (Reading), "Case tables and sound cases".
+-- From: document 01, "What each operation refuses" (Reading), "Case tables and sound cases"; document 02, [7] ("the
+-- supplement rounded to the nearest cent, half a cent upwards").
 --
 --   AcceptedSound, TablesSay, AcceptedNames     an accepted file's record and tables
 --   ReadExact, FirstBadLine, NoBadLine          which line decides
 --   NodesFit                                    why there is no refusal for too many nodes
+--   SupplementNearest                           how a supplement is rounded
 use mathlib.Core.Path.{_≡_}
 use mathlib.Core.Bool.{Bool, true, _&&_}
 use mathlib.Core.List.{List, [], _∷_}
-use Prim.Native.Nat.{ℕ, suc, _≤_, _<_}
+use Prim.Native.Nat.{ℕ, suc, _+_, _*_, _≤_, _<_}
 use lib.Dec.{eqb}
 use lib.ListN.{length, getD, take}
 use Rattle.logic.specs.Nodes.{nodes}
@@ -21,6 +23,7 @@ use Rattle.grammar.specs.Line.{Line}
 use Rattle.grammar.specs.LineOf.{lineOf}
 use Rattle.names.specs.Names.{atomOf}
 use Rattle.store.specs.Lent.{Lent}
+use Rattle.store.specs.Prices.{supplement}
 use Rattle.store.specs.Saying.{Said, nothingSaid, encoded}
 use Rattle.store.specs.Tables.{clauseWords, caseSaid, constraintWords, formulaParts}
 use Rattle.checks.specs.Checks.{lineRefusal, saidAfter}
@@ -88,3 +91,9 @@ NoBadLine = (f : List ℕ) (n : ℕ) → readFile f ≡ Outcome.refused n 0 → 
 abbrev pub NodesFit : Type 0
 NodesFit = (l : List ℕ) (f : Sentence) (ns : List (List ℕ)) → length l ≤ 200 → lineOf (tokens l) ≡ Line.query f
     → length (nodes (encoded ns f)) ≤ 128
+
+-- a supplement is the nearest number of cents to s hundredths of p, half a cent upwards: it is at most half a cent over
+-- them, and less than half a cent under them
+abbrev pub SupplementNearest : Type 0
+SupplementNearest = (p s : ℕ)
+    → (100 * supplement p s ≤ p * s + 50) × (p * s < 100 * supplement p s + 50)

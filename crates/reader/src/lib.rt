@@ -1,2 +1,2 @@
-// Reading a case file into a record and four lent tables.
+// Reading a case file into a record and five lent tables.
 pub mod read;

@@ -6,6 +6,7 @@ ghost use Rattle.store.specs.Lent.{lent};
 ghost use Rattle.store.specs.Held.{Long};
 ghost use Rattle.reader.specs.Operation.{earlyRefusal, ReadAs};
 ghost use Rattle.reader.specs.Steps.{endRefusalIn, Countable, Zeroed, Ready, FileTaken, LinesRead};
+use checks::progress::Progress;
 use checks::take::take_line;
 use program::case::Case;
 
@@ -27,17 +28,26 @@ const NO_CASE: Case = Case {
     nodes: [0; 16],
 };
 
-// Zeroes the four tables in their sizes.
-fn zero(clauses: &mut [u64], constraints: &mut [u64], formula: &mut [u8], names: &mut [u8])
-    requires { ⌜ Long (lent (now clauses) (now constraints) (now formula) (now names)) ⌝ }
+// Zeroes the five tables in their sizes.
+fn zero(
+    clauses: &mut [u64],
+    constraints: &mut [u64],
+    formula: &mut [u8],
+    names: &mut [u8],
+    prices: &mut [u32],
+)
+    requires { ⌜ Long (lent (now clauses) (now constraints) (now formula) (now names) (now prices)) ⌝ }
     ensures { λ _. ⌜ Zeroed
-        (lent (now (clauses .entry)) (now (constraints .entry)) (now (formula .entry)) (now (names .entry)))
-        (lent (now (clauses .exit)) (now (constraints .exit)) (now (formula .exit)) (now (names .exit))) ⌝ }
+        (lent (now (clauses .entry)) (now (constraints .entry)) (now (formula .entry)) (now (names .entry))
+        (now (prices .entry)))
+        (lent (now (clauses .exit)) (now (constraints .exit)) (now (formula .exit)) (now (names .exit))
+        (now (prices .exit))) ⌝ }
 {
     table::zero_words(clauses, Case::CLAUSE_WORDS);
     table::zero_words(constraints, Case::CONSTRAINT_WORDS);
     table::zero_bytes(formula, Case::FORMULA_BYTES);
     table::zero_bytes(names, Case::NAME_BYTES);
+    table::zero_prices(prices, Case::PRICES);
 }
 
 // The number of the refusal after the last line: 11 no query, 12 more than ten causes, 0 for neither.
@@ -61,18 +71,33 @@ fn take_lines(
     constraints: &mut [u64],
     formula: &mut [u8],
     names: &mut [u8],
+    prices: &mut [u32],
 ) -> Answer
-    requires { ⌜ Ready (now file) (lent (now clauses) (now constraints) (now formula) (now names)) ⌝ }
+    requires { ⌜ Ready (now file) (lent (now clauses) (now constraints) (now formula) (now names)
+        (now prices)) ⌝ }
     ensures { λ r. ⌜ FileTaken (now (file .entry))
-        (lent (now (clauses .entry)) (now (constraints .entry)) (now (formula .entry)) (now (names .entry)))
-        (lent (now (clauses .exit)) (now (constraints .exit)) (now (formula .exit)) (now (names .exit))) r ⌝ }
+        (lent (now (clauses .entry)) (now (constraints .entry)) (now (formula .entry)) (now (names .entry))
+        (now (prices .entry)))
+        (lent (now (clauses .exit)) (now (constraints .exit)) (now (formula .exit)) (now (names .exit))
+        (now (prices .exit))) r ⌝ }
 {
-    let mut c = NO_CASE;
+    let mut p = Progress {
+        found: NO_CASE,
+        costed: 0,
+    };
     let mut at = 0;
     let mut line: u32 = 1;
     while at < file.len() {
         let e = text::lines::line_end(file, at);
-        let taken = take_line(&file[at..e], c, clauses, constraints, formula, names);
+        let taken = take_line(
+            &file[at..e],
+            p,
+            clauses,
+            constraints,
+            formula,
+            names,
+            prices,
+        );
         if taken.refusal != 0 {
             return Answer {
                 refusal: taken.refusal,
@@ -80,10 +105,11 @@ fn take_lines(
                 found: NO_CASE,
             };
         }
-        c = taken.found;
+        p = taken.reached;
         at = e + 1;
         line += 1;
     }
+    let c = p.found;
     let number = end_refusal(c, clauses);
     if number != 0 {
         return Answer {
@@ -106,16 +132,20 @@ fn read_lines(
     constraints: &mut [u64],
     formula: &mut [u8],
     names: &mut [u8],
+    prices: &mut [u32],
 ) -> Answer
-    requires { ⌜ Long (lent (now clauses) (now constraints) (now formula) (now names)) × (length (now file) ≤ 32768) ⌝ }
+    requires { ⌜ Long (lent (now clauses) (now constraints) (now formula) (now names) (now prices))
+        × (length (now file) ≤ 32768) ⌝ }
     ensures { λ r. ⌜ LinesRead (now (file .entry))
-        (lent (now (clauses .entry)) (now (constraints .entry)) (now (formula .entry)) (now (names .entry)))
-        (lent (now (clauses .exit)) (now (constraints .exit)) (now (formula .exit)) (now (names .exit))) r ⌝ }
+        (lent (now (clauses .entry)) (now (constraints .entry)) (now (formula .entry)) (now (names .entry))
+        (now (prices .entry)))
+        (lent (now (clauses .exit)) (now (constraints .exit)) (now (formula .exit)) (now (names .exit))
+        (now (prices .exit))) r ⌝ }
 {
-    zero(clauses, constraints, formula, names);
-    let answer = take_lines(file, clauses, constraints, formula, names);
+    zero(clauses, constraints, formula, names, prices);
+    let answer = take_lines(file, clauses, constraints, formula, names, prices);
     if answer.refusal != 0 {
-        zero(clauses, constraints, formula, names);
+        zero(clauses, constraints, formula, names, prices);
     }
     answer
 }
@@ -128,14 +158,19 @@ fn early_refusal(
     constraints: &[u64],
     formula: &[u8],
     names: &[u8],
+    prices: &[u32],
 ) -> u32
     ensures { λ r. ⌜ r ≡ earlyRefusal (now (file .entry))
-        (lent (now (clauses .entry)) (now (constraints .entry)) (now (formula .entry)) (now (names .entry))) ⌝ }
+        (lent (now (clauses .entry)) (now (constraints .entry)) (now (formula .entry)) (now (names .entry))
+        (now (prices .entry))) ⌝ }
 {
     if !program::case::tables_full(clauses, constraints, formula) {
         return 1;
     }
     if names.len() < Case::NAME_BYTES {
+        return 1;
+    }
+    if prices.len() < Case::PRICES {
         return 1;
     }
     if 32768 < file.len() {
@@ -144,21 +179,24 @@ fn early_refusal(
     0
 }
 
-// Reads a case file into four lent tables. Refuses with 1 a table shorter than its size, with 2 a file over 32,768
-// bytes, both of which touch nothing; with 3 to 10 the first bad line, with 11 a file without query, with 12 one with
-// more than ten causes, each of which leaves the tables zero in their sizes.
+// Reads a case file into five lent tables. Refuses with 1 a table shorter than its size, with 2 a file over 32,768
+// bytes, both of which touch nothing; with 3 to 10, 16 and 17 the first bad line, with 11 a file without query, with 12
+// one with more than ten causes, each of which leaves the tables zero in their sizes.
 pub fn read(
     file: &[u8],
     clauses: &mut [u64],
     constraints: &mut [u64],
     formula: &mut [u8],
     names: &mut [u8],
+    prices: &mut [u32],
 ) -> Answer
     ensures { λ r. ⌜ ReadAs (now (file .entry))
-        (lent (now (clauses .entry)) (now (constraints .entry)) (now (formula .entry)) (now (names .entry)))
-        (lent (now (clauses .exit)) (now (constraints .exit)) (now (formula .exit)) (now (names .exit))) r ⌝ }
+        (lent (now (clauses .entry)) (now (constraints .entry)) (now (formula .entry)) (now (names .entry))
+        (now (prices .entry)))
+        (lent (now (clauses .exit)) (now (constraints .exit)) (now (formula .exit)) (now (names .exit))
+        (now (prices .exit))) r ⌝ }
 {
-    let number = early_refusal(file, clauses, constraints, formula, names);
+    let number = early_refusal(file, clauses, constraints, formula, names, prices);
     if number != 0 {
         return Answer {
             refusal: number,
@@ -166,5 +204,5 @@ pub fn read(
             found: NO_CASE,
         };
     }
-    read_lines(file, clauses, constraints, formula, names)
+    read_lines(file, clauses, constraints, formula, names, prices)
 }

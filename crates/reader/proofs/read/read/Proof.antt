@@ -7,15 +7,15 @@ use Rattle.reader.proofs.read.read.Statement.{statement}
 use Rattle.reader.proofs.read.read.Tie as tie
 
 -- the lines are read
-abbrev lines : tie.After-names → tie.After-read-lines
-lines c = c .before .before .before .before .before .before .before
+abbrev lines : tie.After-prices → tie.After-read-lines
+lines c = c .before .before .before .before .before .before .before .before .before
 
 returns : tie.Need-returns
 returns c = search (needs, read-refused)
 
 read-lines-requires : tie.Need-read-lines-requires
 read-lines-requires c κs =
-    let d = c .before .before .before .before in
+    let d = c .before .before .before .before .before in
     early-passed _ _ (d .before .early-refusal .ensures) (d .if1 .left)
 
 returns-2 : tie.Need-returns-2
@@ -25,8 +25,9 @@ pub read-spec : {M : Type 1} → statement M
 read-spec =
     tie.close
     (tie.spec (λ c κs. search needs) (λ c. search needs) (λ c. search needs) (λ c. search needs)
-    (λ c. search needs) returns read-lines-requires
+    (λ c. search needs) (λ c. search needs) returns read-lines-requires
     (λ c. read-lengths (lines (c .before) .read-lines .ensures) .clauses-same)
     (λ c. read-lengths (lines (c .before) .read-lines .ensures) .constraints-same)
     (λ c. read-lengths (lines (c .before) .read-lines .ensures) .formula-same)
-    (λ c. read-lengths (lines (c .before) .read-lines .ensures) .names-same) returns-2)
+    (λ c. read-lengths (lines (c .before) .read-lines .ensures) .names-same)
+    (λ c. read-lengths (lines (c .before) .read-lines .ensures) .prices-same) returns-2)

@@ -11,11 +11,12 @@ use Rattle.reader.proofs.read.take_lines.Statement.{statement}
 use Rattle.reader.proofs.read.take_lines.Tie as tie
 
 abbrev Inv-loop : tie.InvT-loop
-Inv-loop file clauses₀ constraints₀ formula₀ names₀ c₀ at₀ line₀ clauses constraints formula names c at line =
-    LinesTaken file (lent clauses₀ constraints₀ formula₀ names₀) (lent clauses constraints formula names) c at line
+Inv-loop file clauses₀ constraints₀ formula₀ names₀ prices₀ p₀ at₀ line₀ clauses constraints formula names prices p at line =
+    LinesTaken file (lent clauses₀ constraints₀ formula₀ names₀ prices₀)
+    (lent clauses constraints formula names prices) p at line
 
 abbrev μ-loop : tie.MeasureT-loop
-μ-loop file clauses₀ constraints₀ formula₀ names₀ c₀ at₀ line₀ clauses constraints formula names c at line =
+μ-loop file clauses₀ constraints₀ formula₀ names₀ prices₀ p₀ at₀ line₀ clauses constraints formula names prices p at line =
     length file + 1 - at
 
 loop-holds : tie.Need-loop-holds Inv-loop μ-loop
@@ -45,9 +46,12 @@ take-lines-spec =
     (tie.spec Inv-loop μ-loop loop-holds (λ c κs. search needs) (λ c. search needs) (λ c. search needs)
     (λ c. search needs) take-line-requires
     (λ c. file-lengths (returns c) .clauses-same) (λ c. file-lengths (returns c) .constraints-same)
-    (λ c. file-lengths (returns c) .formula-same) (λ c. file-lengths (returns c) .names-same) returns
+    (λ c. file-lengths (returns c) .formula-same) (λ c. file-lengths (returns c) .names-same)
+    (λ c. file-lengths (returns c) .prices-same) returns
     (λ c. search needs) (λ c. search needs) (λ c. search needs) loop-again end-refusal-requires
     (λ c. file-lengths (returns-2 c) .clauses-same) (λ c. file-lengths (returns-2 c) .constraints-same)
-    (λ c. file-lengths (returns-2 c) .formula-same) (λ c. file-lengths (returns-2 c) .names-same) returns-2
+    (λ c. file-lengths (returns-2 c) .formula-same) (λ c. file-lengths (returns-2 c) .names-same)
+    (λ c. file-lengths (returns-2 c) .prices-same) returns-2
     (λ c. file-lengths (returns-3 c) .clauses-same) (λ c. file-lengths (returns-3 c) .constraints-same)
-    (λ c. file-lengths (returns-3 c) .formula-same) (λ c. file-lengths (returns-3 c) .names-same) returns-3)
+    (λ c. file-lengths (returns-3 c) .formula-same) (λ c. file-lengths (returns-3 c) .names-same)
+    (λ c. file-lengths (returns-3 c) .prices-same) returns-3)

@@ -11,5 +11,7 @@ pub zero-spec : {M : Type 1} → statement M
 zero-spec =
     tie.close
     (tie.spec (λ c κs. search needs) (λ c κs. search needs) (λ c κs. search needs) (λ c κs. search needs)
+    (λ c κs. search needs)
     (λ c. zeroed-lengths (returns c) .clauses-same) (λ c. zeroed-lengths (returns c) .constraints-same)
-    (λ c. zeroed-lengths (returns c) .formula-same) (λ c. zeroed-lengths (returns c) .names-same) returns)
+    (λ c. zeroed-lengths (returns c) .formula-same) (λ c. zeroed-lengths (returns c) .names-same)
+    (λ c. zeroed-lengths (returns c) .prices-same) returns)
