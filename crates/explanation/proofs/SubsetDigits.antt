@@ -7,7 +7,7 @@ use mathlib.Core.Logic.{_⊎_, inl, inr, ⊎-elim}
 use Prim.Native.Nat.{ℕ, _/_, _%_, _<_}
 use lib.Dec.{eqb}
 use Rattle.words.specs.Choice.{pick}
-use Rattle.words.specs.Bits.{has}
+use Rattle.words.specs.Bits.{has, word}
 use Rattle.words.proofs.Tests.{Gives}
 use Rattle.words.proofs.Words.{has-word}
 use Rattle.program.specs.Cause.{atomsIn}
@@ -37,6 +37,10 @@ subset-digit-of (a ∷ l) t s b h =
     own false p q = q
 
 module _ (w t s : ℕ) (h : subsetOf (choicesFor (atomsIn w)) t s ≡ true) (a : ℕ) (l : a < 64) where
+  -- the atoms that have digit d in setting r
+  abbrev digitWord : ℕ → ℕ → ℕ
+  digitWord d r = word 64 (λ b. eqb (digitIn (atomsIn w) r b) d)
+
   -- a digit d other than 0
   same-digit : (d : ℕ) → eqb 0 d ≡ false
       → Gives (eqb (digitIn (atomsIn w) t a) d) (eqb (digitIn (atomsIn w) s a) d)
@@ -46,14 +50,15 @@ module _ (w t s : ℕ) (h : subsetOf (choicesFor (atomsIn w)) t s ≡ true) (a :
       (λ (q : digitIn (atomsIn w) t a ≡ digitIn (atomsIn w) s a). ap (λ (n : ℕ). eqb n d) (sym q) ∙ e)
       (subset-digit-of (atomsIn w) t s a h)
 
+  same-word : (d : ℕ) → eqb 0 d ≡ false → Gives (has (digitWord d t) a) (has (digitWord d s) a)
+  same-word d z e =
+      has-word 64 (λ b. eqb (digitIn (atomsIn w) s b) d) a l
+      ∙ same-digit d z (sym (has-word 64 (λ b. eqb (digitIn (atomsIn w) t b) d) a l) ∙ e)
+
   pub subset-facts : Gives (has (additionsOf w t .facts) a) (has (additionsOf w s .facts) a)
   unfolding additionsOf
-  subset-facts e =
-      has-word 64 (λ b. eqb (digitIn (atomsIn w) s b) 1) a l
-      ∙ same-digit 1 refl (sym (has-word 64 (λ b. eqb (digitIn (atomsIn w) t b) 1) a l) ∙ e)
+  subset-facts = same-word 1 refl
 
   pub subset-assumptions : Gives (has (additionsOf w t .assumptions) a) (has (additionsOf w s .assumptions) a)
   unfolding additionsOf
-  subset-assumptions e =
-      has-word 64 (λ b. eqb (digitIn (atomsIn w) s b) 2) a l
-      ∙ same-digit 2 refl (sym (has-word 64 (λ b. eqb (digitIn (atomsIn w) t b) 2) a l) ∙ e)
+  subset-assumptions = same-word 2 refl
