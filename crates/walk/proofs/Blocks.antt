@@ -245,15 +245,16 @@ module _ {c : Case} {cl co fo : List ℕ} {causes end : ℕ} {work₀ : List ℕ
               (choose causes (minimals s) (subst (λ (n : ℕ). Filled causes n x y) (sym (p .first-is)) ex)
               (subst (λ (n : ℕ). Chosen (costUnder pr causes) (minimals n) best) here (w .chosen)))
 
-          pub walking-next : {next : Additions} {f₁ : Found} {list₁ worbest₁ : List ℕ} {ms : Minimals} {best₁ : Cheapest}
+          pub walking-next : {next : Additions} {f₁ : Found} {list₁ work₁ : List ℕ} {ms : Minimals} {best₁ : Cheapest}
               → next ≡ additionsOf causes (s + 64)
               → ((J : Judge) (cs ls ws : List ℕ) → Seen J cs (c .nodes) fo e larger t u m s
-              → Visited J cs ls ws s f list work → Visited J cs ls ws (s + m) f₁ list₁ worbest₁)
+              → Visited J cs ls ws s f list work → Visited J cs ls ws (s + m) f₁ list₁ work₁)
               → MinimalIn e larger m s ms
               → ((i : ℕ) (l : List ℕ) → Filled i (ms .first) x y → Chosen (costUnder pr i) l best
               → Chosen (costUnder pr i) (l ++ laneSettings ms) best₁)
-              → Walking c cl co fo pr causes end list₀ work₀ list₁ worbest₁ row₁ f₁ (both r d) best₁ next (b + 1) (s + 64)
-          walking-next {next} {f₁} {list₁} {worbest₁} {ms} {best₁} n step p choose =
+              → Walking c cl co fo pr causes end list₀ work₀ list₁ work₁ row₁ f₁ (both r d) best₁ next (b + 1)
+              (s + 64)
+          walking-next {next} {f₁} {list₁} {work₁} {ms} {best₁} n step p choose =
               let z : s + m ≡ min (s + 64) end = omega arith in
               record {
                 place-is = omega (arith, w .place-is);
@@ -261,7 +262,7 @@ module _ {c : Case} {cl co fo : List ℕ} {causes end : ℕ} {work₀ : List ℕ
                 size-is = el .size-is;
                 covered = subst (λ (i : ℕ). CoveredRow (J .explains) cs (min (s + 64) i) row₁) (sym end-is)
                     (el .covered (J .explains) s block);
-                visited = subst (λ (i : ℕ). Visited J cs list₀ work₀ i f₁ list₁ worbest₁) z
+                visited = subst (λ (i : ℕ). Visited J cs list₀ work₀ i f₁ list₁ work₁) z
                     (step J cs list₀ work₀ seen standing);
                 summed = record {
                   rounds-are = sum-next (J .rounds) (w .summed .rounds-are) rounds-block;

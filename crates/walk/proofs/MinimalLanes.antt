@@ -46,17 +46,20 @@ module _ (J : Judge) (cs : List ℕ) (w s m : ℕ) (is : (j : ℕ) → j < m →
 -- ---- the lanes that are found to be minimal
 module _ {J : Judge} {cs ns fo : List ℕ} {e larger : ℕ} {t u : List ℕ} {m s : ℕ} {k : Minimals}
     (seen : Seen J cs ns fo e larger t u m s) (h : m ≤ 64) (p : MinimalIn e larger m s k) where
+  -- lane j explains, and no proper subset of its setting does
+  abbrev least : ℕ → Bool
+  least j = has e j && not (has larger j)
+
   lane-minimal : (j : ℕ) → j < m → has (k .lanes) j ≡ minimal J cs (s + j)
   lane-minimal j l =
       p .lanes-are j (omega arith)
-      ∙ ap (λ (x : Bool). (has e j && not (has larger j)) && x) (lt-ltb j m l) ∙ and-true (has e j && not (has larger j))
+      ∙ ap (λ (x : Bool). least j && x) (lt-ltb j m l) ∙ and-true (least j)
       ∙ ap₂ (λ (x y : Bool). x && not y) (seen .tells j l .explains-is) (seen .larger-is j l)
       ∙ sym (minimal-is J cs (s + j))
 
   lane-behind : (j : ℕ) → m ≤ j → j < 64 → has (k .lanes) j ≡ false
   lane-behind j l q =
-      p .lanes-are j q ∙ ap (λ (x : Bool). (has e j && not (has larger j)) && x) (le-ltb j m l)
-      ∙ and-false (has e j && not (has larger j))
+      p .lanes-are j q ∙ ap (λ (x : Bool). least j && x) (le-ltb j m l) ∙ and-false (least j)
 
   pub minimals-block : minimalsBelow J cs (s + m) ≡ minimalsBelow J cs s ++ laneSettings k
   minimals-block =
