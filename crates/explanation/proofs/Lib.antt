@@ -1,5 +1,6 @@
 -- Explaining: which lanes explain, the constraints one by one.
 -- Subsets: subsets of a setting, proper ones, and some proper one that passes a test.
+-- SubsetDigits: the digits of a subset, and what it adds.
 -- Minimal: minimal explanations.
 -- Covering: a proper subset explains exactly where a setting with one digit dropped is covered.
 -- Dropping: the settings with one digit dropped, by the weights of the causes.
@@ -11,6 +12,7 @@
 -- Theorems: the claims.
 pub mod Explaining
 pub mod Subsets
+pub mod SubsetDigits
 pub mod Minimal
 pub mod Covering
 pub mod Dropping

@@ -1,6 +1,6 @@
 -- Laws of minimal explanations, by whether a setting explains and whether a proper subset of it does; and what they do
 -- not depend on. Assumes nothing.
-use mathlib.Core.Path.{_≡_, ap, ap₂}
+use mathlib.Core.Path.{_≡_, refl, ap, ap₂}
 use mathlib.Core.Bool.{Bool, true, false, not, _&&_}
 use mathlib.Core.List.{List}
 use Prim.Native.Nat.{ℕ}
@@ -14,6 +14,10 @@ use Rattle.explanation.specs.Judge.{Judge}
 use Rattle.explanation.specs.Subset.{properOf, someProper, minimal}
 
 module _ (J : Judge) (cs : List ℕ) (s : ℕ) where
+  pub minimal-is : minimal J cs s ≡ (J .explains s && not (someProper (J .explains) cs s))
+  unfolding minimal
+  minimal-is = refl
+
   pub minimal-explains : minimal J cs s ≡ true → J .explains s ≡ true
   unfolding minimal
   minimal-explains e = and-true-l (J .explains s) (not (someProper (J .explains) cs s)) e

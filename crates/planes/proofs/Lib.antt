@@ -4,11 +4,9 @@
 -- Ruling: the rules of a head, in lanes.
 -- Words: the words of one atom.
 -- Filling: the planes of additions, and those that are the same in each lane.
--- Gathering: a word of a lane's interpretation, atom by atom.
 pub mod Choosing
 pub mod Columns
 pub mod Joining
 pub mod Ruling
 pub mod Words
 pub mod Filling
-pub mod Gathering

@@ -1,20 +1,8 @@
 // The interpretation in a lane.
 ghost use mathlib.Core.Path.{_≡_};
 ghost use Prim.Native.Nat.{_<_};
-ghost use Rattle.words.specs.OneBit.{withBit};
 ghost use Rattle.planes.specs.Planes.{column};
 use logic::interpretation::Interpretation;
-
-// The word w, and bit i where the test holds.
-fn with_bit(w: u64, on: bool, i: u32) -> u64
-    requires { ⌜ i < 64 ⌝ }
-    ensures { λ r. ⌜ r ≡ withBit on w i ⌝ }
-{
-    if on {
-        return w | words::single(i);
-    }
-    w
-}
 
 // The interpretation in lane j of the planes t and f.
 pub fn lane(t: &[u64; 64], f: &[u64; 64], j: u32) -> Interpretation
@@ -26,8 +14,8 @@ pub fn lane(t: &[u64; 64], f: &[u64; 64], j: u32) -> Interpretation
     let mut i: u32 = 0;
     while i < 64 {
         let at = i as usize;
-        trues = with_bit(trues, words::test(t[at], j), i);
-        falses = with_bit(falses, words::test(f[at], j), i);
+        trues = words::with_bit(trues, words::test(t[at], j), i);
+        falses = words::with_bit(falses, words::test(f[at], j), i);
         i += 1;
     }
     Interpretation { trues, falses }

@@ -1,8 +1,9 @@
 -- The walk, 64 settings at a time: its start, a block and its end. In a block each lane has what its setting settles
--- to; so the lanes that explain are those of the judge, the row tells which have a proper subset that explains, and the
--- block's rounds and decided atoms are summed. Assumes nothing.
+-- to; so the lanes that explain are those of the judge, the row tells which have a proper subset that explains, the
+-- block's rounds and decided atoms are summed, and its minimal settings are those the cheapest is chosen from.
+-- Assumes nothing.
 use mathlib.Core.Path.{_≡_, refl, sym, ap, ap₂, subst, _∙_}
-use mathlib.Core.List.{List}
+use mathlib.Core.List.{List, _++_}
 use Prim.Native.Nat.{ℕ, _+_, _-_, _*_, _≤_, _<_, min}
 use native.Mathlib.Omega.{arith}
 use lib.ListN.{length, getD}
@@ -33,14 +34,22 @@ use Rattle.explanation.specs.Row.{CoveredRow, Block, Covers}
 use Rattle.explanation.proofs.Dropping.{additions-start}
 use Rattle.explanation.proofs.Explaining.{set-explains}
 use Rattle.explanation.proofs.Weighing.{weights-low}
+use Rattle.cost.specs.declared.cheapest.Cheapest.{Cheapest}
+use Rattle.cost.specs.declared.cheapest.Minimals.{Minimals}
+use Rattle.cost.specs.Cost.{costUnder}
+use Rattle.cost.specs.Cheapest.{noneChosen, Chosen}
+use Rattle.cost.specs.Block.{laneSettings, MinimalIn}
+use Rattle.cost.proofs.Least.{chosen-none}
 use Rattle.verdict.specs.declared.visit.Found.{Found}
 use Rattle.walk.specs.declared.walk.Tally.{Tally}
+use Rattle.verdict.specs.Walk.{minimalsBelow}
 use Rattle.verdict.specs.Counting.{noCounts}
 use Rattle.verdict.specs.Lane.{queryUnder, Room, Seen}
 use Rattle.verdict.specs.Visited.{Visited}
 use Rattle.walk.specs.Walking.{Bounded, Summed, Walked}
 use Rattle.walk.proofs.Bounds.{settings-few, rounds-few, decided-few, formula-fits}
-use Rattle.verdict.proofs.Counting.{minimals-le, counted-none, counted-few}
+use Rattle.walk.proofs.MinimalLanes.{minimals-block}
+use Rattle.verdict.proofs.Counting.{minimals-none, minimals-le, counted-none, counted-few}
 use Rattle.verdict.proofs.Asking.{askable-counted}
 use Rattle.verdict.proofs.Leaving.{left-start, work-kept, written-free}
 
@@ -53,14 +62,16 @@ abbrev pub noneFound : ℕ → Found
 noneFound n = record { counts = noCounts n; written = 0 }
 
 -- the walk before setting s, whose bit is the first of word b of the row
-pub record Walking (c : Case) (cl co fo : List ℕ) (causes end : ℕ) (list₀ work₀ list work row : List ℕ) (f : Found)
-    (r : Sums) (added : Additions) (b s : ℕ) : Type 0 where
+pub record Walking (c : Case) (cl co fo pr : List ℕ) (causes end : ℕ) (list₀ work₀ list work row : List ℕ) (f : Found)
+    (r : Sums) (k : Cheapest) (added : Additions) (b s : ℕ) : Type 0 where
   pub place-is : 59072 + s ≡ 64 * b
   pub added-is : added ≡ additionsOf causes s
   pub size-is : length row ≡ 1848
   pub covered : CoveredRow (judgeOf c cl co fo .explains) (choicesFor (atomsIn causes)) (min s end) row
   pub visited : Visited (judgeOf c cl co fo) (choicesFor (atomsIn causes)) list₀ work₀ (min s end) f list work
   pub summed : Summed (judgeOf c cl co fo) (min s end) r
+  pub chosen : Chosen (costUnder pr causes)
+      (minimalsBelow (judgeOf c cl co fo) (choicesFor (atomsIn causes)) (min s end)) k
 
 module _ {c : Case} {cl co fo : List ℕ} {causes end : ℕ} {work₀ : List ℕ}
     (g : Bounded c cl co fo causes end work₀) where
@@ -83,10 +94,14 @@ module _ {c : Case} {cl co fo : List ℕ} {causes end : ℕ} {work₀ : List ℕ
   start : 0 ≡ min 0 end
   start = omega arith
 
-  pub walking-start : {list₀ : List ℕ} (row : List ℕ) → length row ≡ 1848
-      → Walking c cl co fo causes end list₀ work₀ list₀ work₀ row (noneFound (c .formulas)) (sums 0 0)
+  -- the minimal settings below n
+  abbrev minimals : ℕ → List ℕ
+  minimals n = minimalsBelow J cs n
+
+  pub walking-start : {pr list₀ : List ℕ} (row : List ℕ) → length row ≡ 1848
+      → Walking c cl co fo pr causes end list₀ work₀ list₀ work₀ row (noneFound (c .formulas)) (sums 0 0) noneChosen
       (record { facts = 0; assumptions = 0 }) 923 0
-  walking-start {list₀} row e = record {
+  walking-start {pr} {list₀} row e = record {
     place-is = refl;
     added-is = additions-start causes;
     size-is = e;
@@ -95,19 +110,24 @@ module _ {c : Case} {cl co fo : List ℕ} {causes end : ℕ} {work₀ : List ℕ
         (record { counted = counted-none J cs; left = left-start J cs list₀ work₀ });
     summed = subst (λ (n : ℕ). Summed J n (sums 0 0)) start
         (record { rounds-are = sym (sum-none _); decided-are = sym (sum-none _) });
+    chosen = subst (λ (l : List ℕ). Chosen (costUnder pr causes) l noneChosen)
+        (sym (minimals-none J cs) ∙ ap minimals start) (chosen-none (costUnder pr causes));
   }
 
-  module _ {list₀ list work row : List ℕ} {f : Found} {r : Sums} {added : Additions} {b s : ℕ}
-      (w : Walking c cl co fo causes end list₀ work₀ list work row f r added b s) where
+  module _ {pr list₀ list work row : List ℕ} {f : Found} {r : Sums} {best : Cheapest} {added : Additions}
+      {b s : ℕ} (w : Walking c cl co fo pr causes end list₀ work₀ list work row f r best added b s) where
     -- ---- the end
-    pub walking-end : end ≤ s → Walked J (choicesFor (atomsIn (causesOf c cl))) list₀ work₀ end
-        (record { found = f; sums = r }) list work
+    pub walking-end : end ≤ s
+        → Walked J (costUnder pr (causesOf c cl)) (choicesFor (atomsIn (causesOf c cl))) list₀ work₀ end
+        (record { found = f; sums = r; cheapest = best }) list work
     walking-end l =
         let there : min s end ≡ end = omega arith in
-        let t : Tally = record { found = f; sums = r } in
-        subst (λ (i : ℕ). Walked J (choicesFor (atomsIn i)) list₀ work₀ end t list work) (g .causes-are) (record {
+        let t : Tally = record { found = f; sums = r; cheapest = best } in
+        subst (λ (i : ℕ). Walked J (costUnder pr i) (choicesFor (atomsIn i)) list₀ work₀ end t list work)
+        (g .causes-are) (record {
           visited = subst (λ (n : ℕ). Visited J cs list₀ work₀ n f list work) there (w .visited);
           summed = subst (λ (n : ℕ). Summed J n r) there (w .summed);
+          chosen = subst (λ (n : ℕ). Chosen (costUnder pr causes) (minimals n) best) there (w .chosen);
         })
 
     pub walking-work : length work ≡ length work₀
@@ -215,12 +235,26 @@ module _ {c : Case} {cl co fo : List ℕ} {causes end : ℕ} {work₀ : List ℕ
             larger-is = λ j q. el .larger-is (J .explains) s block j (omega arith) (omega (arith, end-is));
           }
 
-          pub walking-next : {next : Additions} {f₁ : Found} {list₁ work₁ : List ℕ}
+          -- ms are the minimal settings of the block, and best₁ the cheapest with them
+          chosen-next : {ms : Minimals} {best₁ : Cheapest} → MinimalIn e larger m s ms
+              → ((i : ℕ) (l : List ℕ) → Filled i (ms .first) x y → Chosen (costUnder pr i) l best
+              → Chosen (costUnder pr i) (l ++ laneSettings ms) best₁)
+              → Chosen (costUnder pr causes) (minimals (s + m)) best₁
+          chosen-next {ms} {best₁} p choose =
+              subst (λ (l : List ℕ). Chosen (costUnder pr causes) l best₁) (sym (minimals-block seen (omega arith) p))
+              (choose causes (minimals s) (subst (λ (n : ℕ). Filled causes n x y) (sym (p .first-is)) ex)
+              (subst (λ (n : ℕ). Chosen (costUnder pr causes) (minimals n) best) here (w .chosen)))
+
+          pub walking-next : {next : Additions} {f₁ : Found} {list₁ work₁ : List ℕ} {ms : Minimals} {best₁ : Cheapest}
               → next ≡ additionsOf causes (s + 64)
               → ((J : Judge) (cs ls ws : List ℕ) → Seen J cs (c .nodes) fo e larger t u m s
               → Visited J cs ls ws s f list work → Visited J cs ls ws (s + m) f₁ list₁ work₁)
-              → Walking c cl co fo causes end list₀ work₀ list₁ work₁ row₁ f₁ (both r d) next (b + 1) (s + 64)
-          walking-next {next} {f₁} {list₁} {work₁} n step =
+              → MinimalIn e larger m s ms
+              → ((i : ℕ) (l : List ℕ) → Filled i (ms .first) x y → Chosen (costUnder pr i) l best
+              → Chosen (costUnder pr i) (l ++ laneSettings ms) best₁)
+              → Walking c cl co fo pr causes end list₀ work₀ list₁ work₁ row₁ f₁ (both r d) best₁ next (b + 1)
+              (s + 64)
+          walking-next {next} {f₁} {list₁} {work₁} {ms} {best₁} n step p choose =
               let z : s + m ≡ min (s + 64) end = omega arith in
               record {
                 place-is = omega (arith, w .place-is);
@@ -234,4 +268,5 @@ module _ {c : Case} {cl co fo : List ℕ} {causes end : ℕ} {work₀ : List ℕ
                   rounds-are = sum-next (J .rounds) (w .summed .rounds-are) rounds-block;
                   decided-are = sum-next (J .decided) (w .summed .decided-are) decided-block;
                 };
+                chosen = subst (λ (i : ℕ). Chosen (costUnder pr causes) (minimals i) best₁) z (chosen-next p choose);
               }

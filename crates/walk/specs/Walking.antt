@@ -4,7 +4,7 @@
 --   Bounded ..    the case is sound, its causes and the number of its settings are at hand, and the work area is enough
 --   Tabled ..     the tables for settling, the weights of the causes and the opening's planes are at hand
 --   Summed ..     the sums of what settling answers for the settings below s
---   Walked ..     what it has found and left, and those sums
+--   Walked ..     what it has found and left, those sums, and the cheapest minimal setting below s
 use mathlib.Core.Path.{_≡_}
 use mathlib.Core.Bool.{true}
 use mathlib.Core.List.{List}
@@ -21,7 +21,8 @@ use Rattle.planes.specs.Fill.{Even}
 use Rattle.lanes.specs.declared.rounds.Sums.{Sums}
 use Rattle.explanation.specs.Judge.{Judge}
 use Rattle.explanation.specs.Covering.{Weights}
-use Rattle.verdict.specs.Walk.{roundsBelow, decidedBelow}
+use Rattle.cost.specs.Cheapest.{Chosen}
+use Rattle.verdict.specs.Walk.{minimalsBelow, roundsBelow, decidedBelow}
 use Rattle.verdict.specs.Visited.{Visited}
 use Rattle.walk.specs.declared.walk.Tally.{Tally}
 
@@ -49,6 +50,9 @@ pub record Summed (J : Judge) (s : ℕ) (r : Sums) : Type 0 where
   pub rounds-are : r .rounds ≡ roundsBelow J s
   pub decided-are : r .decided ≡ decidedBelow J s
 
-pub record Walked (J : Judge) (cs list₀ work₀ : List ℕ) (s : ℕ) (t : Tally) (list work : List ℕ) : Type 0 where
+-- f is what a setting costs
+pub record Walked (J : Judge) (f : ℕ → ℕ) (cs list₀ work₀ : List ℕ) (s : ℕ) (t : Tally) (list work : List ℕ)
+    : Type 0 where
   pub visited : Visited J cs list₀ work₀ s (t .found) list work
   pub summed : Summed J s (t .sums)
+  pub chosen : Chosen f (minimalsBelow J cs s) (t .cheapest)

@@ -2,10 +2,16 @@
 ghost use mathlib.Core.Path.{_≡_};
 ghost use Prim.Native.Nat.{_≤_};
 ghost use lib.ListN.{length};
+ghost use Rattle.program.specs.Case.{priceSize};
 ghost use Rattle.program.specs.Cause.{causesOf, atomsIn};
 ghost use Rattle.program.specs.Setting.{choicesFor, settingsOf};
 ghost use Rattle.explanation.specs.Judge.{judgeOf};
+ghost use Rattle.cost.specs.Cost.{costUnder};
 ghost use Rattle.walk.specs.Walking.{AtHand, Bounded, Tabled, Walked};
+use cost::cheapest::Cheapest;
+use cost::cheapest::choose;
+use cost::cheapest::minimals_of;
+use cost::price::priced_in;
 use explanation::cover::cover;
 use explanation::explain::explaining;
 use explanation::weights::weigh;
@@ -21,11 +27,12 @@ use verdict::counts::Counts;
 use verdict::visit::Found;
 use verdict::visit::visit;
 
-// What a walk leaves: what it found setting by setting, and the rounds and decided atoms, which are summed 64 settings
-// at a time.
+// What a walk leaves: what it found setting by setting, and 64 settings at a time the sums of the rounds and decided
+// atoms, and the cheapest minimal setting.
 pub struct Tally {
     pub found: Found,
     pub sums: Sums,
+    pub cheapest: Cheapest,
 }
 
 // Visits the settings below end in rising order, 64 at a time. ot, of and oh are the planes of the opening; the row
@@ -35,6 +42,7 @@ fn visit_all(
     clauses: &[u64],
     constraints: &[u64],
     formula: &[u8],
+    prices: &[u32],
     causes: u64,
     opening: Opening,
     dependents: &[u64; 64],
@@ -51,8 +59,9 @@ fn visit_all(
 ) -> Tally
     requires { ⌜ Bounded c (now clauses) (now constraints) (now formula) causes end (now work)
         × Tabled c (now clauses) causes opening (now dependents) (now last) (now prev) (now weights) (now ot) (now of)
-        (now oh) × (length (now row) ≡ 1848) ⌝ }
+        (now oh) × (length (now row) ≡ 1848) × (priceSize ≤ length (now prices)) ⌝ }
     ensures { λ r. ⌜ Walked (judgeOf c (now (clauses .entry)) (now (constraints .entry)) (now (formula .entry)))
+        (costUnder (now (prices .entry)) (causesOf c (now (clauses .entry))))
         (choicesFor (atomsIn (causesOf c (now (clauses .entry))))) (now (list .entry)) (now (work .entry)) end r
         (now (list .exit)) (now (work .exit)) ⌝ }
 {
@@ -61,6 +70,8 @@ fn visit_all(
         counts: Counts::none(c.formulas),
         written: 0,
     };
+    let priced = priced_in(prices);
+    let mut cheapest = Cheapest::none();
     let mut rounds: u64 = 0;
     let mut decided: u64 = 0;
     let mut added = Additions {
@@ -99,12 +110,18 @@ fn visit_all(
         let e = explaining(c, constraints, &t, &f);
         let larger = cover(row, b, e, causes, weights, &x, &y);
         found = visit(&nodes, formula, e, larger, &t, &f, m, s, found, list, work);
+        let minimals = minimals_of(e, larger, m, s);
+        cheapest = choose(prices, priced, &x, &y, minimals, cheapest);
         added = next;
         b += 1;
         s += 64;
     }
     let sums = Sums { rounds, decided };
-    Tally { found, sums }
+    Tally {
+        found,
+        sums,
+        cheapest,
+    }
 }
 
 // Walks over the settings below end, with the tables for settling prepared once.
@@ -113,6 +130,7 @@ pub fn walk(
     clauses: &[u64],
     constraints: &[u64],
     formula: &[u8],
+    prices: &[u32],
     heads: u64,
     causes: u64,
     end: usize,
@@ -120,8 +138,10 @@ pub fn walk(
     work: &mut [u8],
 ) -> Tally
     requires { ⌜ AtHand c (now clauses) (now constraints) (now formula) heads causes
-        × (end ≡ settingsOf (causesOf c (now clauses))) × (end ≤ 59049) × (end ≤ length (now work)) ⌝ }
+        × (end ≡ settingsOf (causesOf c (now clauses))) × (end ≤ 59049) × (end ≤ length (now work))
+        × (priceSize ≤ length (now prices)) ⌝ }
     ensures { λ r. ⌜ Walked (judgeOf c (now (clauses .entry)) (now (constraints .entry)) (now (formula .entry)))
+        (costUnder (now (prices .entry)) (causesOf c (now (clauses .entry))))
         (choicesFor (atomsIn (causesOf c (now (clauses .entry))))) (now (list .entry)) (now (work .entry)) end r
         (now (list .exit)) (now (work .exit)) ⌝ }
 {
@@ -150,6 +170,7 @@ pub fn walk(
         clauses,
         constraints,
         formula,
+        prices,
         causes,
         opening,
         &dependents,

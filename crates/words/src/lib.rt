@@ -1,10 +1,10 @@
-// Words of 64 bits as sets of bit numbers: one bit, the lowest bits, the test of a bit, the count of ones, a walk over
-// the bits.
+// Words of 64 bits as sets of bit numbers: one bit, the lowest bits, the test of a bit, a bit added, the count of ones,
+// a walk over the bits.
 ghost use mathlib.Core.Path.{_≡_};
 ghost use Prim.Native.Nat.{ℕ, _+_, _^_, _≤_, _<_};
 ghost use lib.Count.{ones};
 ghost use Rattle.words.specs.Bits.{has};
-ghost use Rattle.words.specs.OneBit.{withoutBit, LowestOf};
+ghost use Rattle.words.specs.OneBit.{withBit, withoutBit, LowestOf};
 
 // The word with bit i alone.
 pub fn single(i: u32) -> u64
@@ -29,6 +29,17 @@ pub fn test(w: u64, i: u32) -> bool
     ensures { λ r. ⌜ r ≡ has w i ⌝ }
 {
     w & (1u64 << i) != 0
+}
+
+// The word w, and bit i where the test holds.
+pub fn with_bit(w: u64, on: bool, i: u32) -> u64
+    requires { ⌜ i < 64 ⌝ }
+    ensures { λ r. ⌜ r ≡ withBit on w i ⌝ }
+{
+    if on {
+        return w | single(i);
+    }
+    w
 }
 
 // How many bits w has.

@@ -3,13 +3,14 @@
 use Prim.Native.Nat.{_-_}
 use native.Mathlib.Omega.{arith}
 use borrow.Author.Needs.{needs}
+use Rattle.words.proofs.Gathering.{Gathering, gathering-start, gathering-next, gathering-end}
 use Rattle.logic.proofs.Interpretations.{interpretation-eq}
-use Rattle.planes.proofs.Gathering.{Gathering, gathering-start, gathering-next, gathering-end}
+use Rattle.planes.specs.Planes.{at}
 use Rattle.planes.proofs.lane.lane.Statement.{statement}
 use Rattle.planes.proofs.lane.lane.Tie as tie
 
 abbrev Inv-loop : tie.InvT-loop
-Inv-loop t f j trues₀ falses₀ i₀ trues falses i = Gathering t j trues i × Gathering f j falses i
+Inv-loop t f j trues₀ falses₀ i₀ trues falses i = Gathering (at t j) trues i × Gathering (at f j) falses i
 
 abbrev μ-loop : tie.MeasureT-loop
 μ-loop t f j trues₀ falses₀ i₀ trues falses i = 64 - i

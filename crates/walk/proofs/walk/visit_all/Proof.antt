@@ -1,5 +1,5 @@
--- `visit_all` meets its contract: a block is filled, settled, judged and visited, and the walk stands 64 settings on
--- (`Walking`). The measure is the settings to come. Assumes nothing.
+-- `visit_all` meets its contract: a block is filled, settled, judged and visited, the cheapest is chosen, and the walk
+-- stands 64 settings on (`Walking`). The measure is the settings to come. Assumes nothing.
 use mathlib.Core.Path.{refl}
 use Prim.Native.Nat.{_-_}
 use native.Mathlib.Omega.{arith}
@@ -16,15 +16,20 @@ use Rattle.walk.proofs.walk.visit_all.Statement.{statement}
 use Rattle.walk.proofs.walk.visit_all.Tie as tie
 
 abbrev Inv-loop : tie.InvT-loop
-Inv-loop c clauses constraints formula causes opening dependents last prev weights ot of oh end list₀ work₀ row₀ nodes
-    found₀ rounds₀ decided₀ added₀ b₀ s₀ list work row found rounds decided added b s =
-    Walking c clauses constraints formula causes end list₀ work₀ list work row found (sums rounds decided) added b s
+Inv-loop c clauses constraints formula prices causes opening dependents last prev weights ot of oh end list₀ work₀ row₀
+    nodes found₀ priced cheapest₀ rounds₀ decided₀ added₀ b₀ s₀ list work row found cheapest rounds decided added b s =
+    Walking c clauses constraints formula prices causes end list₀ work₀ list work row found (sums rounds decided)
+    cheapest added b s
 
 abbrev μ-loop : tie.MeasureT-loop
-μ-loop c clauses constraints formula causes opening dependents last prev weights ot of oh end list₀ work₀ row₀ nodes
-    found₀ rounds₀ decided₀ added₀ b₀ s₀ list work row found rounds decided added b s = end - s
+μ-loop c clauses constraints formula prices causes opening dependents last prev weights ot of oh end list₀ work₀ row₀
+    nodes found₀ priced cheapest₀ rounds₀ decided₀ added₀ b₀ s₀ list work row found cheapest rounds decided added b s =
+    end - s
 
 -- ---- the places before, from the last to the first
+abbrev picked : tie.After-choose Inv-loop μ-loop → tie.After-minimals-of Inv-loop μ-loop
+picked c = c .before .before .before
+
 abbrev visited : tie.After-slice-known4 Inv-loop μ-loop → tie.After-visit Inv-loop μ-loop
 visited c = c .before .before .before .before
 
@@ -53,10 +58,13 @@ abbrev looped : tie.In-loop Inv-loop μ-loop → tie.At-loop Inv-loop μ-loop
 looped c = c .before
 
 abbrev begun : tie.After-none Inv-loop μ-loop → tie.Start Inv-loop μ-loop
-begun c = c .before .before .before .before .before .before .before
+begun c = c .before .before .before .before .before .before .before .before
+
+abbrev priced : tie.At-loop Inv-loop μ-loop → tie.After-priced-in Inv-loop μ-loop
+priced c = c .before .before
 
 abbrev entry : tie.At-loop Inv-loop μ-loop → tie.Start Inv-loop μ-loop
-entry c = begun (c .before)
+entry c = begun (priced c .before)
 
 -- from one call to the call before
 abbrev explained : tie.After-cover Inv-loop μ-loop → tie.After-explaining Inv-loop μ-loop
@@ -74,12 +82,20 @@ turn c = turned (counted c)
 
 -- ---- the needs
 none-requires : tie.Need-none-requires Inv-loop μ-loop
-none-requires c κs = sound-formulas _ _ _ _ (c .before .before .before .before .before .before .pre .0 .is-sound)
+none-requires c κs =
+    sound-formulas _ _ _ _ (c .before .before .before .before .before .before .before .pre .0 .is-sound)
+
+priced-in-requires : tie.Need-priced-in-requires Inv-loop μ-loop
+priced-in-requires c κs = begun c .pre .3
+
+none-requires-2 : tie.Need-none-requires-2 Inv-loop μ-loop
+none-requires-2 c κs = search needs
 
 loop-holds : tie.Need-loop-holds Inv-loop μ-loop
 loop-holds c =
-    let p = begun c .pre in
-    rw (c .none .ensures) (walking-start (p .0) _ (p .2))
+    let d = c .before .before in
+    let p = begun d .pre in
+    rw (d .none .ensures, c .none2 .ensures) (walking-start (p .0) _ (p .2))
 
 fill-requires : tie.Need-fill-requires Inv-loop μ-loop
 fill-requires c κs = (
@@ -166,22 +182,44 @@ visit-requires c κs =
 abbrev turnOf : tie.After-slice-known4 Inv-loop μ-loop → tie.In-loop Inv-loop μ-loop
 turnOf c = turn (ran (explained (covered (lent (visited c)))))
 
+minimals-of-requires : tie.Need-minimals-of-requires Inv-loop μ-loop
+minimals-of-requires c κs =
+    let t = turnOf c in
+    let m = counted (ran (explained (covered (lent (visited c))))) .lanes-of .ensures in
+    (omega (arith, m, t .loop-test .taken), omega (arith, m))
+
+choose-requires : tie.Need-choose-requires Inv-loop μ-loop
+choose-requires c κs =
+    let d = c .before .before in
+    let t = turnOf (d .before) in
+    let l = looped t in
+    let p = entry l .pre in (
+      p .3,
+      priced l .priced-in .ensures,
+      omega (arith, d .minimals-of .ensures .first-is, t .loop-test .taken, end-few (p .0)),
+    )
+
+-- the turn, where the cheapest is chosen
+abbrev ending : tie.After-choose Inv-loop μ-loop → tie.In-loop Inv-loop μ-loop
+ending c = turnOf (picked c .before)
+
 add-b : tie.Need-add-b Inv-loop μ-loop
 add-b c =
-    let t = turnOf c in
+    let t = ending c in
     omega (arith, word-inside (entry (looped t) .pre .0) (looped t .loop .inv) (t .loop-test .taken) .1)
 
 add-s : tie.Need-add-s Inv-loop μ-loop
 add-s c =
-    let t = turnOf c in
+    let t = ending c in
     omega (arith, t .loop-test .taken, end-few (entry (looped t) .pre .0))
 
 loop-less : tie.Need-loop-less Inv-loop μ-loop
-loop-less c = omega (arith, turnOf c .loop-test .taken)
+loop-less c = omega (arith, ending c .loop-test .taken)
 
 loop-again : tie.Need-loop-again Inv-loop μ-loop
 loop-again c =
-    let v = visited c in
+    let q = picked c in
+    let v = visited (q .before) in
     let k = covered (lent v) in
     let e = explained k in
     let d = ran e in
@@ -191,7 +229,8 @@ loop-again c =
     let i = looped t .loop .inv in
     let x = m .before .fill .ensures _ (i .added-is) in
     walking-next (p .0) i (t .loop-test .taken) (m .lanes-of .ensures) (d .run .ensures) (p .1 .weights-are) (x .0)
-    (e .explaining .ensures) (k .cover .ensures) (x .1) (v .visit .ensures)
+    (e .explaining .ensures) (k .cover .ensures) (x .1) (v .visit .ensures) (q .minimals-of .ensures)
+    (c .choose .ensures)
 
 same-length : tie.Need-same-length Inv-loop μ-loop
 same-length c = list-kept (c .before .loop .inv .visited .left)
@@ -209,6 +248,8 @@ visit-all-spec =
     Inv-loop
     μ-loop
     none-requires
+    priced-in-requires
+    none-requires-2
     loop-holds
     fill-requires
     sub-lanes-of
@@ -219,6 +260,8 @@ visit-all-spec =
     explaining-requires
     cover-requires
     visit-requires
+    minimals-of-requires
+    choose-requires
     add-b
     add-s
     loop-less

@@ -28,7 +28,7 @@ abbrev blank : tie.After-prev → tie.After-dependents
 blank c = c .before .before
 
 abbrev entry : tie.After-dependents → tie.Start
-entry c = c .before .before .before .before .before .before
+entry c = c .before .before .before .before .before .before .before
 
 -- ---- the needs
 prepare-requires : tie.Need-prepare-requires
@@ -76,6 +76,7 @@ visit-all-requires c κs =
         heads-even = s .broadcast3 .ensures;
       },
       length-replicate {A = ℕ} 1848 0,
+      p .4,
     )
 
 same-length : tie.Need-same-length

@@ -1,11 +1,11 @@
--- `with_bit` meets its contract, by the test. Assumes nothing.
+-- `words::with_bit` meets its contract, by the test. Assumes nothing.
 use mathlib.Core.Path.{ap, sym, _∙_}
 use mathlib.Core.Bool.{Bool}
 use lib.Bits.{bitOr}
 use borrow.Author.Needs.{needs}
 use Rattle.words.specs.OneBit.{withBit}
-use Rattle.planes.proofs.lane.with_bit.Statement.{statement}
-use Rattle.planes.proofs.lane.with_bit.Tie as tie
+use Rattle.words.proofs.with_bit.Statement.{statement}
+use Rattle.words.proofs.with_bit.Tie as tie
 
 single-requires : tie.Need-single-requires
 single-requires c κs = search needs
