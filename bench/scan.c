@@ -88,7 +88,7 @@ void walk_scan(const Case *c, const Program *p, Answer *answer) {
         answer->work[setting] = EXPLAINS;
         if (!is_minimal(p, answer->work, setting, x)) continue;
         answer->work[setting] = MINIMAL;
-        take_minimal(answer, setting);
+        take_minimal(answer, c, p, setting);
         take_model(answer, c, s.model);
     }
 }
