@@ -1,6 +1,6 @@
 //! The text that `causes` should write for a file.
 //!
-//! From: document 01, The program `causes`; document 02, [1], [6].
+//! From: document 01, The program `causes`; document 02, [1], [6], [7].
 
 use crate::file::{read, Refusal};
 use crate::question::{ask, digits, Findings, Verdict};
@@ -51,6 +51,9 @@ pub fn text(findings: &Findings, names: &[String]) -> String {
             }
         }
         text.push_str(")\n");
+    }
+    if found > 0 {
+        text.push_str(&format!("(cheapest {})\n", findings.cheapest.cost));
     }
     text
 }

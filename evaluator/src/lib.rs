@@ -3,6 +3,7 @@
 //! | file | holds |
 //! |---|---|
 //! | formula, constraint, case | values and formulas; kinds of constraints; what a case file says |
+//! | cost | prices, what a setting costs, the cheapest explanation |
 //! | tree, form, file | a line as a tree, the form of a tree, the checks of a file |
 //! | model, completion | the step and its iterates; models of the weak completion |
 //! | verdict, question, answer | the verdict on a query, minimal explanations, the text of the answer |
@@ -24,6 +25,7 @@ pub mod check;
 pub mod compare;
 pub mod completion;
 pub mod constraint;
+pub mod cost;
 pub mod damage;
 pub mod decided_tally;
 pub mod edges;

@@ -128,7 +128,7 @@ pub fn drawn(random: &mut Random, shape: Shape) -> Case {
         let nodes = if left == 0 { shape.nodes } else { random.between(1, shape.nodes) };
         queries.push(sized(random, atoms, nodes));
     }
-    Case { names, clauses, constraints, observations, queries }
+    Case { names, clauses, constraints, observations, queries, prices: vec![0; atoms] }
 }
 
 /// A word of drawn bits, now and then a small number or all ones.

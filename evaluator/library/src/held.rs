@@ -163,6 +163,7 @@ impl Held {
             constraints: self.constraints.clone(),
             formulas: self.formula.clone(),
             names: self.names.clone(),
+            prices: vec![0; ATOMS],
         }
     }
 
@@ -199,6 +200,7 @@ impl Held {
             queries: (0..self.formulas())
                 .map(|q| formula(&self.formula[q * PART_BYTES..][..self.nodes(q)]).0)
                 .collect(),
+            prices: vec![0; count(0)],
         }
     }
 }

@@ -7,9 +7,10 @@ use crate::tests::{differing, Tests};
 use causes::lent::{self, Record, Tables};
 use causes::Refusal;
 use evaluator::check::vector_files;
-use evaluator::file;
+use evaluator::cost::Cheapest;
+use evaluator::file::{self, ATOMS};
 use evaluator::held::{self, Held};
-use evaluator::plain::{Answered, Operation};
+use evaluator::plain::{Answered, Operation, Sums};
 use evaluator::vectors::{Subject, Vector};
 use std::collections::BTreeMap;
 use std::path::{Path, PathBuf};
@@ -51,6 +52,7 @@ impl Lent {
             constraints: self.tables.constraints.to_vec(),
             formulas: self.tables.formula.to_vec(),
             names: self.tables.names.to_vec(),
+            prices: vec![0; ATOMS],
         }
     }
 
@@ -75,8 +77,8 @@ impl Lent {
         let a = lent::question(&self.record, &self.tables, &mut list, &mut work)?;
         list.truncate(a.listed);
         let verdicts = a.verdicts().iter().map(|verdict| *verdict as u64).collect();
-        let (minimal, rounds, decided) = (a.minimal as usize, a.rounds, a.decided);
-        Ok(Answered::Asked { verdicts, minimal, rounds, decided, list, work })
+        let sums = Sums { rounds: a.rounds, decided: a.decided, cheapest: Cheapest::default() };
+        Ok(Answered::Asked { verdicts, minimal: a.minimal as usize, sums, list, work })
     }
 }
 
