@@ -28,16 +28,7 @@ static Value value(const uint8_t **nodes, Interpretation i) {
     }
 }
 
-// What a setting costs: a fact and an assumption cost the same.
-static uint64_t cost_of(const Case *c, const Program *p, int setting) {
-    uint64_t sum = 0;
-    for (int i = 0; setting != 0; i++, setting /= 3)
-        if (setting % 3 != 0) sum += c->price[p->cause[i]];
-    return sum;
-}
-
-void take_minimal(Answer *answer, const Case *c, const Program *p, int setting) {
-    uint64_t cost = cost_of(c, p, setting);
+void take_minimal(Answer *answer, int setting, uint64_t cost) {
     if (answer->minimal == 0 || cost < answer->cost) {
         answer->cost = cost;
         answer->cheapest = setting;

@@ -26,8 +26,8 @@ static inline uint64_t unsettled(const Answer *answer, const Case *c) {
     return (bit(c->queries) - 1) & ~(answer->untrue & answer->unfalse);
 }
 
-// Counts and lists a minimal explanation, and takes its cost where it is the first or costs less.
-void take_minimal(Answer *answer, const Case *c, const Program *p, int setting);
+// Counts and lists a minimal explanation, and keeps it as the cheapest where it is the first or costs less.
+void take_minimal(Answer *answer, int setting, uint64_t cost);
 
 // Evaluates the queries that are not open yet in the least model of a minimal explanation.
 void take_model(Answer *answer, const Case *c, Interpretation model);

@@ -192,6 +192,16 @@ static inline Interpretation column(int atoms, int lane) {
     return i;
 }
 
+// What the setting of one lane costs. No rule has a cause as its head, so the planes have what the setting adds.
+static inline uint64_t cost_in(const Case *c, const Program *p, int lane) {
+    uint64_t sum = 0;
+    for (uint64_t left = p->priced; left != 0; left &= left - 1) {
+        int a = lowest(left);
+        if ((now.trues[a] | now.falses[a]) >> lane & 1) sum += c->price[a];
+    }
+    return sum;
+}
+
 // Marks the settings of a block in its bytes of the work area.
 static void mark(uint8_t *work, int number, uint64_t explains, uint64_t minimal) {
     if (explains == 0) {
@@ -205,7 +215,7 @@ static void mark(uint8_t *work, int number, uint64_t explains, uint64_t minimal)
 static void take(Answer *answer, const Case *c, const Program *p, int first, uint64_t minimal) {
     for (; minimal != 0; minimal &= minimal - 1) {
         int lane = lowest(minimal);
-        take_minimal(answer, c, p, first + lane);
+        take_minimal(answer, first + lane, cost_in(c, p, lane));
         if (unsettled(answer, c) != 0) take_model(answer, c, column(c->atoms, lane));
     }
 }
