@@ -64,8 +64,8 @@ pub const CHECKS: [Check; 7] = [
 /// A line of a file, and its number counted from 1.
 pub type Numbered<'a> = (usize, &'a [u8]);
 
-/// How a file is read: the order of its lines, the numbers, the checks from 6 on, whether a cost line names an atom, and
-/// the price of cents with a supplement in per cent.
+/// How a file is read: the order of its lines, the numbers, the checks from 6 on, whether a cost line names an atom,
+/// and the price of cents with a supplement in per cent.
 pub struct Rules {
     pub order: fn(Vec<Numbered>) -> Vec<Numbered>,
     pub number: Number,
