@@ -4,15 +4,16 @@
 
 use crate::edges::{sample, Edge};
 use crate::families::queries;
-use crate::file::{CENTS, PER_CENT};
+use crate::file::{ATOMS, CENTS, NAME_BYTES, PER_CENT};
 use crate::form::DIGITS;
 use crate::layout::file;
+use crate::names::drawn_name;
 use crate::prices::{cost_line, number};
 use crate::random::Random;
 use crate::sample::Sample;
 
 /// Every limit of cost lines.
-pub const COST_EDGES: [Edge; 2] = [cost_numbers, cost_count];
+pub const COST_EDGES: [Edge; 3] = [cost_numbers, cost_count, cost_name];
 
 /// A file in which either of two causes explains, with the lines `costs` among the others; with `past` = 1 these are to
 /// be refused with `number`, unless another line before them is, and now and then one behind them would be too.
@@ -60,4 +61,17 @@ fn cost_count(random: &mut Random, past: usize) -> Sample {
         costs.push(if is_dear { String::from("(cost shut 5 101)") } else { cost_line(random, "shut") });
     }
     with_costs(random, costs, past, if is_dear { 16 } else { 17 })
+}
+
+/// A cost line with a name of 16 bytes or with the 64th name, or one past either with numbers past theirs as well.
+fn cost_name(random: &mut Random, past: usize) -> Sample {
+    let cents = CENTS as usize + past;
+    if random.chance(50) {
+        let name = drawn_name(random, NAME_BYTES + past);
+        return with_costs(random, vec![format!("(cost {name} {cents} 0)")], past, 6);
+    }
+    let mut lines = vec![String::from("(avoid low shut stopped)")];
+    lines.extend((4..ATOMS + past).map(|i| format!("(false x{i})")));
+    lines.push(format!("(cost x {cents} 0)"));
+    with_costs(random, lines, past, 8)
 }
