@@ -28,7 +28,11 @@ static Value value(const uint8_t **nodes, Interpretation i) {
     }
 }
 
-void take_minimal(Answer *answer, int setting) {
+void take_minimal(Answer *answer, int setting, uint64_t cost) {
+    if (answer->minimal == 0 || cost < answer->cost) {
+        answer->cost = cost;
+        answer->cheapest = setting;
+    }
     if (answer->minimal < LISTED) answer->list[answer->minimal] = (uint16_t)setting;
     answer->minimal++;
 }
@@ -68,6 +72,7 @@ void report(const Answer *answer, const Case *c, const Program *p) {
     end += sprintf(end, "(rounds %ld)\n(decided %ld)\n", answer->rounds, answer->decided);
     end += sprintf(end, "(minimal %d %d)\n", answer->minimal, listed);
     for (int k = 0; k < listed; k++) end = put_setting(end, answer->list[k], c, p);
+    if (answer->minimal != 0) end += sprintf(end, "(cheapest %lu)\n", (unsigned long)answer->cost);
     size_t length = (size_t)(end - text);
     if (fwrite(text, 1, length, stdout) != length || fflush(stdout) != 0) fail("the report cannot be written");
 }

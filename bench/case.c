@@ -121,6 +121,21 @@ static void constraint(ConstraintKind kind) {
     literals(&k->body);
 }
 
+// The next word, of digits, as a number.
+static uint32_t number(void) {
+    const char *from;
+    uint32_t n = 0;
+    for (size_t left = word(&from); left > 0; left--) n = 10 * n + (uint32_t)(*from++ - '0');
+    return n;
+}
+
+// Takes a price and its supplement in per cent, which is rounded to the nearest cent, half a cent upwards.
+static void cost(void) {
+    int a = atom();
+    uint32_t price = number(), supplement = number();
+    reading->price[a] = price + (price * supplement + 50) / 100;
+}
+
 // Takes the form of one line, told by the first letter of its word.
 static void form(void) {
     const char *from;
@@ -133,6 +148,7 @@ static void form(void) {
     case 'a': constraint(AVOID); break;
     case 's': literals(&reading->observed); break;
     case 'q': query(); break;
+    case 'c': cost(); break;
     default: fail("a line that is no form");
     }
 }

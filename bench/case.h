@@ -36,7 +36,8 @@ typedef struct {
     Body body;
 } Constraint;
 
-// Clauses, constraints and queries stand in file order, names by atom number.
+// Clauses, constraints and queries stand in file order, names and prices by atom number; a price is in cents, 0 where
+// the file has none.
 typedef struct {
     int atoms, clauses, constraints, queries;
     Clause clause[MOST_CLAUSES];
@@ -44,6 +45,7 @@ typedef struct {
     Body observed;
     uint8_t formula[MOST_QUERIES][MOST_NODES];
     char name[MOST_ATOMS][MOST_NAME + 1];
+    uint32_t price[MOST_ATOMS];
 } Case;
 
 // The word with one atom.

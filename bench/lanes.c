@@ -192,17 +192,30 @@ static inline Interpretation column(int atoms, int lane) {
     return i;
 }
 
-// Takes the answer's part of a block: its bytes, and its minimal explanations in rising order.
-static void take(Answer *answer, const Case *c, int first, int number, uint64_t explains, uint64_t minimal) {
-    uint8_t *work = &answer->work[first];
+// What the setting of one lane costs. No rule has a cause as its head, so the planes have what the setting adds.
+static inline uint64_t cost_in(const Case *c, const Program *p, int lane) {
+    uint64_t sum = 0;
+    for (uint64_t left = p->priced; left != 0; left &= left - 1) {
+        int a = lowest(left);
+        if ((now.trues[a] | now.falses[a]) >> lane & 1) sum += c->price[a];
+    }
+    return sum;
+}
+
+// Marks the settings of a block in its bytes of the work area.
+static void mark(uint8_t *work, int number, uint64_t explains, uint64_t minimal) {
     if (explains == 0) {
         memset(work, NO, (size_t)number);
         return;
     }
     for (int j = 0; j < number; j++) work[j] = (uint8_t)((explains >> j & 1) + (minimal >> j & 1));
+}
+
+// Takes the minimal explanations of a block in rising order.
+static void take(Answer *answer, const Case *c, const Program *p, int first, uint64_t minimal) {
     for (; minimal != 0; minimal &= minimal - 1) {
         int lane = lowest(minimal);
-        take_minimal(answer, first + lane);
+        take_minimal(answer, first + lane, cost_in(c, p, lane));
         if (unsettled(answer, c) != 0) take_model(answer, c, column(c->atoms, lane));
     }
 }
@@ -219,6 +232,7 @@ void walk_lanes(const Case *c, const Program *p, Answer *answer) {
         answer->decided += decided(c, valid);
         uint64_t explains = explaining(c) & valid;
         uint64_t larger = cover(p, first / LANES, explains);
-        take(answer, c, first, number, explains, explains & ~larger);
+        mark(&answer->work[first], number, explains, explains & ~larger);
+        take(answer, c, p, first, explains & ~larger);
     }
 }

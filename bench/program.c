@@ -30,6 +30,7 @@ static void take_causes(Program *p, const Case *c) {
     for (int a = 0; a < c->atoms; a++) {
         if (p->heads & bit(a)) continue;
         if (p->causes == MOST_CAUSES) fail("too many causes");
+        if (c->price[a] != 0) p->priced |= bit(a);
         p->cause[p->causes] = a;
         p->weight[p->causes++] = p->settings;
         p->settings *= 3;

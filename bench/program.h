@@ -18,6 +18,7 @@ typedef struct {
     const Rule *first[MOST_ATOMS + 1];  // for each atom its first rule; the next atom's first rule ends them
     Rule rule[MOST_CLAUSES];            // the rules, ordered by head
     int causes, settings;
+    uint64_t priced;                    // the causes with a price over 0
     int cause[MOST_CAUSES];
     int weight[MOST_CAUSES];
 } Program;

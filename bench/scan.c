@@ -77,6 +77,13 @@ static int is_minimal(const Program *p, const uint8_t *work, int setting, Added 
     return 1;
 }
 
+// What a setting costs: a fact and an assumption cost the same.
+static uint64_t cost_of(const Case *c, const Program *p, Added x) {
+    uint64_t sum = 0;
+    for (uint64_t left = (x.facts | x.assumed) & p->priced; left != 0; left &= left - 1) sum += c->price[lowest(left)];
+    return sum;
+}
+
 void walk_scan(const Case *c, const Program *p, Answer *answer) {
     Added x = {0, 0};
     for (int setting = 0; setting < p->settings; setting++, x = next_setting(p, x)) {
@@ -88,7 +95,7 @@ void walk_scan(const Case *c, const Program *p, Answer *answer) {
         answer->work[setting] = EXPLAINS;
         if (!is_minimal(p, answer->work, setting, x)) continue;
         answer->work[setting] = MINIMAL;
-        take_minimal(answer, setting);
+        take_minimal(answer, setting, cost_of(c, p, x));
         take_model(answer, c, s.model);
     }
 }

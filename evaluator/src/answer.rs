@@ -1,9 +1,10 @@
 //! The text that `causes` should write for a file.
 //!
-//! From: document 01, The program `causes`; document 02, [1], [6].
+//! From: document 01, The program `causes`; document 02, [1], [6], [7].
 
+use crate::case::Case;
 use crate::file::{read, Refusal};
-use crate::question::{ask, digits, Findings, Verdict};
+use crate::question::{ask, ask_unheld, digits, Findings, Verdict};
 
 /// The slots of the program's list.
 pub const LIST_SLOTS: usize = 1_024;
@@ -15,6 +16,14 @@ pub struct Answer {
     pub result: Result<(Vec<Verdict>, usize), Refusal>,
     pub settings: usize,
     pub searched: usize,
+}
+
+/// The case of a file with what is found of it, or the refusal.
+pub type Asked = Result<(Case, Findings), Refusal>;
+
+/// What is found of the file `bytes`, where what is settled is not held to the definition.
+pub fn asked(bytes: &[u8]) -> Asked {
+    read(bytes).map(|case| (case.clone(), ask_unheld(case)))
 }
 
 /// What the file `bytes` should get.
@@ -51,6 +60,9 @@ pub fn text(findings: &Findings, names: &[String]) -> String {
             }
         }
         text.push_str(")\n");
+    }
+    if found > 0 {
+        text.push_str(&format!("(cheapest {})\n", findings.cheapest.cost));
     }
     text
 }

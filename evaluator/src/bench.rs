@@ -1,8 +1,10 @@
 //! One test: a program's run on a stored or generated file, or the evaluator's answer to a vector, compared with what
 //! is expected.
 
-use crate::answer::{answer, Answer};
+use crate::answer::{answer, asked, Answer};
+use crate::cheapest_tally;
 use crate::compare::{differing, shown, unmeant};
+use crate::costs_tally;
 use crate::decided_tally;
 use crate::kinds_tally;
 use crate::run::{bad_end, run, Fault, Input};
@@ -26,8 +28,8 @@ pub enum Test {
     Generated(u64),
 }
 
-/// What a test gave: the evaluator's answer, what is counted of a generated file by its kinds of constraints and by its
-/// decided total, and the complaint if it failed.
+/// What a test gave: the evaluator's answer, what is counted of a generated file by its kinds of constraints, by its
+/// decided total and by its costs, and the complaint if it failed.
 pub struct Outcome {
     pub own: Option<Answer>,
     pub met: Option<Vec<bool>>,
@@ -136,7 +138,14 @@ impl Bench {
         let made = sample(seed);
         let (own, met) = evaluated(|| {
             let own = answer(&made.bytes);
-            let met = [kinds_tally::met(&made.bytes, &own), decided_tally::met(&made.bytes)].concat();
+            let asked = asked(&made.bytes);
+            let met = [
+                kinds_tally::met(&made.bytes, &own),
+                decided_tally::met(&asked),
+                costs_tally::met(&made.bytes, &asked),
+                cheapest_tally::met(&asked),
+            ]
+            .concat();
             (own, met)
         })?;
         let expected = [("evaluator", own.text.as_bytes())];

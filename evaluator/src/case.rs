@@ -1,6 +1,6 @@
 //! What a case file says, with atoms as numbers.
 //!
-//! From: document 01, Interpretations and the step; Causes, settings, explanations.
+//! From: document 01, Interpretations and the step; Causes, settings, explanations; document 02, [7].
 
 use crate::constraint::Constraint;
 use crate::formula::{Formula, Literal};
@@ -20,7 +20,7 @@ pub struct Clause {
     pub body: Body,
 }
 
-/// A case: names by atom number; clauses, constraints, observations and queries in file order.
+/// A case: names and prices by atom number; clauses, constraints, observations and queries in file order.
 #[derive(Clone)]
 pub struct Case {
     pub names: Vec<String>,
@@ -28,6 +28,7 @@ pub struct Case {
     pub constraints: Vec<Constraint>,
     pub observations: Vec<Literal<usize>>,
     pub queries: Vec<Formula<usize>>,
+    pub prices: Vec<u32>,
 }
 
 /// The atoms among the first `atoms` that head none of `clauses`, in atom order.

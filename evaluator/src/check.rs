@@ -1,6 +1,8 @@
 //! The driver: all tests of a program, their failures, what occurred, and the count.
 
 use crate::bench::{Bench, Test};
+use crate::cheapest_tally;
+use crate::costs_tally;
 use crate::decided_tally;
 use crate::kinds_tally;
 use crate::row_tally::RowTally;
@@ -112,7 +114,8 @@ pub fn check(program: &Path, folders: &[&Path], limit: Duration) -> bool {
     }
     tests.extend((0..SAMPLES).map(Test::Generated));
     let mut tally = Tally::default();
-    let mut rows = RowTally::new(kinds_tally::words().chain(decided_tally::words()));
+    let costs = costs_tally::words().chain(cheapest_tally::words());
+    let mut rows = RowTally::new(kinds_tally::words().chain(decided_tally::words()).chain(costs));
     let mut counts = Counts::default();
     let bench = Bench::new(program, limit);
     for (test, outcome) in tests.iter().zip(outcomes(&tests, |test| bench.outcome(test))) {

@@ -1,19 +1,24 @@
 //! Damage done to a case file: to its bytes, to its lines, and to what documents 01 and 02 limit.
 
 use crate::families::constraint;
-use crate::file::{ATOMS, CAUSES, CLAUSES, CONSTRAINTS, DEPTH, FILE_BYTES, LINE_BYTES, QUERIES};
+use crate::file::{ATOMS, CAUSES, CENTS, CLAUSES, CONSTRAINTS, DEPTH, FILE_BYTES, LINE_BYTES, PER_CENT, QUERIES};
+use crate::form::DIGITS;
 use crate::layout::joined;
 use crate::names::drawn_name;
+use crate::prices::cost_line;
 use crate::random::Random;
 
 /// Bytes that have no place in a form, and some that have.
 const ODD_BYTES: [u8; 18] = *b"\0\t\r\x0b\x7f\x80\xff;()_.,AZ-9\n";
 
 /// Tokens of which odd lines are made.
-const TOKENS: [&str; 19] = [
-    "(", "(", "(", ")", ")", ")", "if", "query", "seen", "never", "avoid", "not", "and", "true", "a", "n0", "low",
-    "9a", "-",
+const TOKENS: [&str; 23] = [
+    "(", "(", "(", ")", ")", ")", "if", "query", "seen", "never", "avoid", "cost", "not", "and", "true", "a", "n0",
+    "low", "9a", "-", "7", "100", "01000000",
 ];
+
+/// What stands for a word of a cost line.
+const ODD_WORDS: [&str; 9] = ["(not n0)", "n1", "7a", "-7", "0000007", "00000007", "(n0)", "", "1 1"];
 
 /// The lines of `bytes`.
 fn lines_of(bytes: &[u8]) -> Vec<Vec<u8>> {
@@ -58,7 +63,7 @@ fn damaged_bytes(random: &mut Random, mut bytes: Vec<u8>) -> Vec<u8> {
 /// `;` as their first byte, some as their second.
 fn damage_lines(random: &mut Random, lines: &mut Vec<Vec<u8>>) {
     let at = random.below(lines.len());
-    match random.below(9) {
+    match random.below(11) {
         0 => lines.insert(at, lines[at].clone()),
         1 => drop(lines.remove(at)),
         2 => {
@@ -79,7 +84,9 @@ fn damage_lines(random: &mut Random, lines: &mut Vec<Vec<u8>>) {
             let odd: Vec<&str> = (0..count).map(|_| *random.pick(&TOKENS)).collect();
             lines[at] = odd.join(" ").into_bytes();
         }
-        6 => lengthen_word(random, &mut lines[at]),
+        6 => lengthen_word(random, &mut lines[at], |b| b.is_ascii_lowercase(), (b"ab0-", 17)),
+        8 => lengthen_word(random, &mut lines[at], |b| b.is_ascii_digit(), (b"0019", DIGITS)),
+        9 => lines[at] = odd_cost_line(random),
         7 => {
             let length = random.between(LINE_BYTES - 2, LINE_BYTES + 3).max(lines[at].len());
             lines[at].resize(length, *random.pick(b"  ;a)"));
@@ -91,14 +98,28 @@ fn damage_lines(random: &mut Random, lines: &mut Vec<Vec<u8>>) {
     }
 }
 
-/// Lengthens a drawn word of `line` by up to 17 bytes, so that it may pass the length of a name.
-fn lengthen_word(random: &mut Random, line: &mut Vec<u8>) {
-    let inside: Vec<usize> = (0..line.len()).filter(|i| line[*i].is_ascii_lowercase()).collect();
+/// Lengthens a drawn word of `line` behind a byte that `inside` takes by one of `bytes`, at most `most` times, so
+/// that the word may pass the length of a name or of a number.
+fn lengthen_word(random: &mut Random, line: &mut Vec<u8>, inside: fn(u8) -> bool, (bytes, most): (&[u8; 4], usize)) {
+    let inside: Vec<usize> = (0..line.len()).filter(|i| inside(line[*i])).collect();
     if !inside.is_empty() {
         let at = *random.pick(&inside);
-        let more = vec![*random.pick(b"ab0-"); random.between(1, 17)];
+        let more = vec![*random.pick(bytes); random.between(1, most)];
         line.splice(at + 1..at + 1, more);
     }
+}
+
+/// A cost line with one of its words doubled, left out or replaced, or with two exchanged.
+fn odd_cost_line(random: &mut Random) -> Vec<u8> {
+    let mut words: Vec<String> = ["cost", "n0", "150", "1"].map(String::from).to_vec();
+    let (at, other) = (random.below(words.len()), random.below(words.len()));
+    match random.below(4) {
+        0 => words.insert(at, words[other].clone()),
+        1 => drop(words.remove(at)),
+        2 => words.swap(at, other),
+        _ => words[at] = random.pick(&ODD_WORDS).to_string(),
+    }
+    format!("({})", words.join(" ")).into_bytes()
 }
 
 /// `bytes` with lines added, or its queries left out, so that a limit is met or passed.
@@ -109,7 +130,7 @@ fn past_a_limit(random: &mut Random, mut bytes: Vec<u8>) -> Vec<u8> {
         1 => String::from("(if n1 n0)\n"),
         _ => String::from("(false n1)\n"),
     };
-    let more: String = match random.below(9) {
+    let more: String = match random.below(11) {
         0 => (0..ATOMS / 2 + around).map(|i| format!("(true x{i})\n(false y{i})\n")).collect(),
         1 => (0..CLAUSES - 20 + 10 * around).map(line).collect(),
         2 => (0..CONSTRAINTS - 2 + around).map(|_| constraint(random, "n0 (not n0)") + "\n").collect(),
@@ -121,6 +142,7 @@ fn past_a_limit(random: &mut Random, mut bytes: Vec<u8>) -> Vec<u8> {
             constraint(random, &body) + "\n"
         }
         7 => return without_query(&bytes),
+        8 | 9 => costs_at_limits(random, around),
         _ => {
             let free = (FILE_BYTES - 300 + 200 * around).saturating_sub(bytes.len());
             format!("{}\n", ";".repeat(99)).repeat(free / 100)
@@ -130,6 +152,21 @@ fn past_a_limit(random: &mut Random, mut bytes: Vec<u8>) -> Vec<u8> {
     let before: usize = lines[..random.below(lines.len())].iter().map(|l| l.len() + 1).sum();
     bytes.splice(before..before, more.into_bytes());
     bytes
+}
+
+/// Cost lines at a limit, met or passed by `around`, 0 to 2: of the cents, the per cent, the digits, or the lines of a
+/// name, the last of which may pass another limit as well.
+fn costs_at_limits(random: &mut Random, around: usize) -> String {
+    let width = DIGITS - 1 + around;
+    match random.below(5) {
+        0 => format!("(cost n0 {} {})\n", CENTS as usize - 1 + around, random.below(PER_CENT as usize)),
+        1 => format!("(cost n0 {} {})\n", random.below(CENTS as usize), PER_CENT as usize - 1 + around),
+        2 => {
+            format!("(cost n0 {:0width$} {:0width$})\n", random.below(CENTS as usize), random.below(PER_CENT as usize))
+        }
+        3 => format!("(cost n0 0 0)\n(cost n0 5 {})\n", PER_CENT as usize - 1 + around),
+        _ => (0..around).map(|_| cost_line(random, "n0") + "\n").collect(),
+    }
 }
 
 /// `bytes` without the lines that hold "query".

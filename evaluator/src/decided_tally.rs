@@ -2,12 +2,11 @@
 //!
 //! From: document 02, [6].
 
-use crate::answer::LIST_SLOTS;
+use crate::answer::{Asked, LIST_SLOTS};
 use crate::case::{Body, Case};
-use crate::file;
 use crate::formula::{Value, FALSE, TRUE, UNKNOWN};
 use crate::model::Settled;
-use crate::question::{ask_unheld, has_explaining_subset, Findings};
+use crate::question::{has_explaining_subset, Findings};
 
 /// A wrong reading: the words, and the total that it gives a case of which this is found.
 type Misreading = (&'static str, fn(&Case, &Findings) -> u64);
@@ -111,9 +110,8 @@ pub fn words() -> impl Iterator<Item = &'static str> {
     MISREADINGS.into_iter().map(|(what, _)| what)
 }
 
-/// Which of the wrong readings give `file` another total; none of a file that is refused.
-pub fn met(file: &[u8]) -> Vec<bool> {
-    let Ok(case) = file::read(file) else { return vec![false; MISREADINGS.len()] };
-    let found = ask_unheld(case.clone());
-    MISREADINGS.iter().map(|(_, total)| total(&case, &found) != found.decided).collect()
+/// Which of the wrong readings give a file that gets `asked` another total; none of one that is refused.
+pub fn met(asked: &Asked) -> Vec<bool> {
+    let Ok((case, found)) = asked else { return vec![false; MISREADINGS.len()] };
+    MISREADINGS.iter().map(|(_, total)| total(case, found) != found.decided).collect()
 }

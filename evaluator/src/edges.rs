@@ -1,19 +1,22 @@
 //! Files at the limits of documents 01 and 02, each limit from both sides.
 //!
-//! From: document 01, The file; What each operation refuses (Reading); Edges; document 02, [1], [2], [5].
+//! From: document 01, The file; What each operation refuses (Reading); Edges; document 02, [1], [2], [5], [7].
 
 use crate::constraint::KINDS;
 use crate::families::{constraint, formula, literal, queries};
-use crate::file::{ATOMS, CAUSES, CLAUSES, CONSTRAINTS, DEPTH, FILE_BYTES, LINE_BYTES, NAME_BYTES, QUERIES};
+use crate::file::{
+    ATOMS, CAUSES, CENTS, CLAUSES, CONSTRAINTS, DEPTH, FILE_BYTES, LINE_BYTES, NAME_BYTES, PER_CENT, QUERIES,
+};
 use crate::layout::{file, joined};
 use crate::names::{drawn_name, names};
+use crate::prices::cost_line;
 use crate::random::Random;
 use crate::sample::{Due, Sample};
 
 /// The files at one limit: within it, or one past it.
-type Edge = fn(&mut Random, usize) -> Sample;
+pub type Edge = fn(&mut Random, usize) -> Sample;
 
-/// Every limit, and the length of comments, which have none of their own.
+/// Every limit but those of cost lines, and the length of comments, which have none of their own.
 pub const EDGES: [Edge; 10] = [
     atom_count,
     name_length,
@@ -28,7 +31,7 @@ pub const EDGES: [Edge; 10] = [
 ];
 
 /// The sample of `bytes` that is to be read, or with `past` = 1 to be refused with `number`.
-fn sample(bytes: Vec<u8>, past: usize, number: u32) -> Sample {
+pub fn sample(bytes: Vec<u8>, past: usize, number: u32) -> Sample {
     Sample { bytes, due: if past == 0 { Due::Read } else { Due::Refused(number) } }
 }
 
@@ -54,6 +57,12 @@ fn atom_count(random: &mut Random, past: usize) -> Sample {
     if past == 1 && random.chance(30) {
         lines.extend(asked_before(random, &heads[0], past));
         lines.push(format!("(query (or (and {} {}) (then {} {})))", rest[0], rest[1], rest[2], rest[3]));
+    } else if random.chance(30) {
+        lines.push(format!("(query {})", heads[1]));
+        lines.extend(rest.iter().map(|name| cost_line(random, name)));
+    } else if past == 1 && random.chance(30) {
+        lines.push(format!("(query (or (and {} {}) {}))", rest[0], rest[1], rest[2]));
+        lines.push(format!("(cost {} {} 0)", rest[3], CENTS + 1));
     } else {
         lines.push(format!("(query {})", heads[1]));
         lines.push(constraint(random, &rest.join(" ")));
@@ -65,9 +74,11 @@ fn atom_count(random: &mut Random, past: usize) -> Sample {
 fn name_length(random: &mut Random, past: usize) -> Sample {
     let name = drawn_name(random, NAME_BYTES + past);
     let mut lines = vec![String::from("(query (or low shut))")];
-    lines.push(match random.below(6) {
+    lines.push(match random.below(8) {
         0 => format!("(true {name})"),
         1 => format!("(if {name} shut)"),
+        6 => cost_line(random, &name),
+        7 if past == 1 => format!("(cost {name} 0 {})", PER_CENT + 1),
         2 => format!("(if low shut (not {name}))"),
         3 => constraint(random, &format!("shut {name}")),
         4 => format!("(seen (not {name}))"),
@@ -84,7 +95,11 @@ fn cause_count(random: &mut Random, past: usize) -> Sample {
     let all: Vec<String> = (0..CAUSES + past).map(|i| format!("c{i}")).collect();
     let cut = random.between(1, all.len() - 1);
     let mut lines = vec![format!("(if low {})", all[..cut].join(" "))];
-    lines.push(constraint(random, &all[cut..].join(" ")));
+    if random.chance(30) {
+        lines.extend(all[cut..].iter().map(|cause| cost_line(random, cause)));
+    } else {
+        lines.push(constraint(random, &all[cut..].join(" ")));
+    }
     lines.push(String::from("(seen low)"));
     lines.extend(queries(random, &all, 3));
     sample(file(random, &lines), past, 12)

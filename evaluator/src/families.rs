@@ -4,6 +4,7 @@
 use crate::constraint::KINDS;
 use crate::file::{ATOMS, CLAUSES, QUERIES};
 use crate::names::names;
+use crate::prices::cost_lines;
 use crate::random::Random;
 
 /// `name` or its negation, the latter in `percent` of 100 draws.
@@ -136,7 +137,7 @@ pub fn diagnosis(random: &mut Random, causes: usize, readings: usize) -> Vec<Str
     let depth = random.between(1, 3);
     let from = if random.chance(60) { &sources[..causes] } else { sources };
     let queries = queries(random, from, depth);
-    finished(random, lines, queries)
+    finished(random, lines, queries, &atoms)
 }
 
 /// The lines of a program with many clauses on up to 64 atoms.
@@ -170,7 +171,7 @@ pub fn chain(random: &mut Random, causes: usize, links: usize) -> Vec<String> {
     let end = literal(random, &chain[chain.len() - 1], 30);
     lines.push(format!("(seen {end})"));
     let queries = if random.chance(50) { queries(random, starts, 3) } else { queries(random, &atoms, 1) };
-    finished(random, lines, queries)
+    finished(random, lines, queries, &atoms)
 }
 
 /// `clauses` with readings, constraints and queries behind them.
@@ -178,15 +179,17 @@ fn asked(random: &mut Random, mut clauses: Vec<String>, heads: &[String], atoms:
     clauses.extend(readings(random, heads, atoms));
     let depth = *random.pick(&[1, 1, 2, 2, 3, 4]);
     let queries = queries(random, atoms, depth);
-    finished(random, clauses, queries)
+    finished(random, clauses, queries, atoms)
 }
 
-/// `lines`, one of them repeated now and then, with `queries` behind them or, in half of the draws, in a drawn order.
-fn finished(random: &mut Random, mut lines: Vec<String>, queries: Vec<String>) -> Vec<String> {
+/// `lines`, one of them repeated now and then, with cost lines of `atoms` and with `queries` behind them or, in half of
+/// the draws, in a drawn order.
+fn finished(random: &mut Random, mut lines: Vec<String>, queries: Vec<String>, atoms: &[String]) -> Vec<String> {
     if !lines.is_empty() && random.chance(25) {
         let again = random.pick(&lines).clone();
         lines.insert(0, again);
     }
+    lines.extend(cost_lines(random, atoms));
     lines.extend(queries);
     if random.chance(50) {
         random.shuffle(&mut lines);

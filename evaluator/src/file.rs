@@ -1,11 +1,19 @@
-//! Reading a case file: each line that is no comment is taken through the checks 3 to 10, one after the other over the
-//! whole line.
+//! Reading a case file: each line that is no comment is taken through the checks, 3 to 9, 16, 17 and 10, one after the
+//! other over the whole line.
 //!
-//! From: document 01, The file; What each operation refuses (Reading); document 02, [1], [2], [5].
+//! From: document 01, The file; What each operation refuses (Reading); document 02, [1], [2], [5], [7].
+//!
+//! | name | meaning |
+//! |---|---|
+//! | `Reading` | what the lines read so far say |
+//! | `Check`, `CHECKS` | a check from 6 on; all of them in their order |
+//! | `Rules`, `RULES` | how a file is read; as the documents say |
+//! | `read`, `read_by` | the case of a file; the same by other rules |
 
 use crate::case::{causes, Body, Case, Clause};
 use crate::constraint::Constraint;
-use crate::form::{form, Form};
+use crate::cost::price;
+use crate::form::{decimal, form, Form, Number};
 use crate::formula::{Formula, Literal};
 use crate::tree::tree;
 
@@ -18,26 +26,64 @@ pub const CLAUSES: usize = 256;
 pub const CONSTRAINTS: usize = 32;
 pub const CAUSES: usize = 10;
 pub const QUERIES: usize = 16;
+pub const CENTS: u64 = 1_000_000;
+pub const PER_CENT: u64 = 100;
 
 /// A refusal: its number and the line, 0 where no line is at fault.
-#[derive(Clone, Copy)]
+#[derive(Clone, Copy, PartialEq)]
 pub struct Refusal {
     pub number: u32,
     pub line: usize,
 }
 
-/// What the lines read so far say.
+/// What the lines read so far say; the atom and the price of each cost line.
 #[derive(Default)]
-struct Reading {
+pub struct Reading {
     names: Vec<String>,
     clauses: Vec<Clause>,
     constraints: Vec<Constraint>,
     observations: Vec<Literal<usize>>,
     queries: Vec<Formula<usize>>,
+    costs: Vec<(usize, u32)>,
 }
+
+/// The number of a check, and whether a form fails it whose names are among those read.
+pub type Check = (u32, fn(&Reading, &Form) -> bool);
+
+/// The checks from 6 on, in their order.
+pub const CHECKS: [Check; 7] = [
+    (6, |_, said| said.names().iter().any(|n| n.len() > NAME_BYTES)),
+    (7, |_, said| said.depth() > DEPTH),
+    (8, |reading, _| reading.names.len() > ATOMS),
+    (9, |reading, said| reading.is_full_for(said)),
+    (16, |_, said| matches!(said, Form::Cost(_, cents, per_cent) if *cents > CENTS || *per_cent > PER_CENT)),
+    (17, |reading, said| matches!(said, Form::Cost(name, ..) if !reading.prices_of(name).is_empty())),
+    (10, |reading, said| matches!(said, Form::Query(_)) && reading.queries.len() == QUERIES),
+];
+
+/// A line of a file, and its number counted from 1.
+pub type Numbered<'a> = (usize, &'a [u8]);
+
+/// How a file is read: the order of its lines, the numbers, the checks from 6 on, whether a cost line names an atom,
+/// and the price of cents with a supplement in per cent.
+pub struct Rules {
+    pub order: fn(Vec<Numbered>) -> Vec<Numbered>,
+    pub number: Number,
+    pub checks: [Check; 7],
+    pub cost_names: bool,
+    pub price: fn(u64, u64) -> u64,
+}
+
+/// The rules of the documents.
+pub const RULES: Rules = Rules { order: |lines| lines, number: decimal, checks: CHECKS, cost_names: true, price };
 
 /// The case that `bytes` describes, or the refusal.
 pub fn read(bytes: &[u8]) -> Result<Case, Refusal> {
+    read_by(&RULES, bytes)
+}
+
+/// The case that `bytes` describes by `rules`, or the refusal.
+pub fn read_by(rules: &Rules, bytes: &[u8]) -> Result<Case, Refusal> {
     if bytes.len() > FILE_BYTES {
         return Err(Refusal { number: 2, line: 0 });
     }
@@ -46,8 +92,8 @@ pub fn read(bytes: &[u8]) -> Result<Case, Refusal> {
         lines.pop();
     }
     let mut reading = Reading::default();
-    for (at, line) in lines.into_iter().enumerate() {
-        reading.take(line).map_err(|number| Refusal { number, line: at + 1 })?;
+    for (line, bytes) in (rules.order)((1..).zip(lines).collect()) {
+        reading.take(rules, bytes).map_err(|number| Refusal { number, line })?;
     }
     reading.close().map_err(|number| Refusal { number, line: 0 })
 }
@@ -57,9 +103,9 @@ fn allowed(b: u8) -> bool {
     b.is_ascii_lowercase() || b.is_ascii_digit() || b"- ()".contains(&b)
 }
 
-/// The form that `line` is, none for a comment or a line of spaces, or the number of the first of the checks 3 to 7
+/// The form that `line` is, none for a comment or a line of spaces, or the number of the first of the checks 3 to 5
 /// that it fails.
-fn checked_form(line: &[u8]) -> Result<Option<Form>, u32> {
+fn checked_form(line: &[u8], number: Number) -> Result<Option<Form>, u32> {
     if line.first() == Some(&b';') {
         return Ok(None);
     }
@@ -73,37 +119,25 @@ fn checked_form(line: &[u8]) -> Result<Option<Form>, u32> {
         return Ok(None);
     }
     let text = String::from_utf8_lossy(line);
-    let said = tree(&text).and_then(|t| form(&t)).ok_or(5u32)?;
-    if said.names().iter().any(|n| n.len() > NAME_BYTES) {
-        return Err(6);
-    }
-    if said.depth() > DEPTH {
-        return Err(7);
-    }
-    Ok(Some(said))
+    tree(&text).and_then(|t| form(&t, number)).map(Some).ok_or(5)
 }
 
 impl Reading {
     /// Takes one line, or answers the number of the first check that it fails.
-    fn take(&mut self, line: &[u8]) -> Result<(), u32> {
-        let Some(said) = checked_form(line)? else {
+    fn take(&mut self, rules: &Rules, line: &[u8]) -> Result<(), u32> {
+        let Some(said) = checked_form(line, rules.number)? else {
             return Ok(());
         };
         for name in said.names() {
-            if !self.names.contains(name) {
+            let names_atom = rules.cost_names || !matches!(said, Form::Cost(..));
+            if names_atom && !self.names.contains(name) {
                 self.names.push(name.clone());
             }
         }
-        if self.names.len() > ATOMS {
-            return Err(8);
+        if let Some((number, _)) = rules.checks.iter().find(|(_, fails)| fails(self, &said)) {
+            return Err(*number);
         }
-        if self.is_full_for(&said) {
-            return Err(9);
-        }
-        if matches!(said, Form::Query(_)) && self.queries.len() == QUERIES {
-            return Err(10);
-        }
-        self.add(said);
+        self.add(said, rules.price);
         Ok(())
     }
 
@@ -112,13 +146,23 @@ impl Reading {
         match said {
             Form::Fact(_) | Form::Assumption(_) | Form::Rule(..) => self.clauses.len() == CLAUSES,
             Form::Constraint(..) => self.constraints.len() == CONSTRAINTS,
-            Form::Seen(_) | Form::Query(_) => false,
+            Form::Seen(_) | Form::Query(_) | Form::Cost(..) => false,
         }
+    }
+
+    /// The number of the atom `name`, if it was named before.
+    fn named(&self, name: &str) -> Option<usize> {
+        self.names.iter().position(|n| n == name)
     }
 
     /// The number of the atom `name`, which was named before.
     fn atom(&self, name: &str) -> usize {
-        self.names.iter().position(|n| n == name).expect("a name of the file")
+        self.named(name).expect("a name of the file")
+    }
+
+    /// The prices that the cost lines of `name` give.
+    pub fn prices_of(&self, name: &str) -> Vec<u32> {
+        self.costs.iter().filter(|(atom, _)| Some(*atom) == self.named(name)).map(|(_, price)| *price).collect()
     }
 
     /// The literals of `body` with atoms as numbers.
@@ -126,8 +170,8 @@ impl Reading {
         body.iter().map(|l| Literal { atom: self.atom(&l.atom), negated: l.negated }).collect()
     }
 
-    /// Adds what `said` says.
-    fn add(&mut self, said: Form) {
+    /// Adds what `said` says, with prices by `price`.
+    fn add(&mut self, said: Form, price: fn(u64, u64) -> u64) {
         let clause = |head, body| Clause { head, body };
         match said {
             Form::Fact(n) => self.clauses.push(clause(self.atom(&n), Body::True)),
@@ -136,6 +180,9 @@ impl Reading {
             Form::Constraint(kind, body) => self.constraints.push(Constraint { kind, body: self.numbered(&body) }),
             Form::Seen(l) => self.observations.extend(self.numbered(&[l])),
             Form::Query(f) => self.queries.push(f.map(&|n| self.atom(n))),
+            Form::Cost(n, cents, per_cent) => {
+                self.costs.extend(self.named(&n).map(|atom| (atom, price(cents, per_cent) as u32)));
+            }
         }
     }
 
@@ -147,12 +194,15 @@ impl Reading {
         if causes(self.names.len(), &self.clauses).len() > CAUSES {
             return Err(12);
         }
+        let mut prices = vec![0; self.names.len()];
+        self.costs.iter().for_each(|(atom, price)| prices[*atom] = *price);
         Ok(Case {
             names: self.names,
             clauses: self.clauses,
             constraints: self.constraints,
             observations: self.observations,
             queries: self.queries,
+            prices,
         })
     }
 }

@@ -1,12 +1,24 @@
 //! The form that a tree of words is.
 //!
-//! From: document 01, The file; document 02, [5].
+//! From: document 01, The file; document 02, [5], [7].
 
 use crate::constraint::Kind;
 use crate::formula::{Connective, Formula, Literal};
 use crate::tree::Tree;
 
-/// What a line says, with atoms by their names.
+/// The most digits of a price or a supplement.
+pub const DIGITS: usize = 7;
+
+/// The number that a word is, none if it is no number.
+pub type Number = fn(&str) -> Option<u64>;
+
+/// The number that `word` is: one to seven digits.
+pub fn decimal(word: &str) -> Option<u64> {
+    let is_number = (1..=DIGITS).contains(&word.len()) && word.bytes().all(|b| b.is_ascii_digit());
+    word.parse().ok().filter(|_| is_number)
+}
+
+/// What a line says, with atoms by their names; of a cost line the price in cents and the supplement in per cent.
 pub enum Form {
     Fact(String),
     Assumption(String),
@@ -14,6 +26,7 @@ pub enum Form {
     Constraint(Kind, Vec<Literal<String>>),
     Seen(Literal<String>),
     Query(Formula<String>),
+    Cost(String, u64, u64),
 }
 
 /// The form's word of `tree` and the trees behind it.
@@ -32,6 +45,14 @@ fn name(tree: &Tree) -> Option<String> {
     match tree {
         Tree::Word(word) if word.starts_with(|c: char| c.is_ascii_lowercase()) => Some(word.clone()),
         _ => None,
+    }
+}
+
+/// The number that `tree` is, by `number`.
+fn number(tree: &Tree, number: Number) -> Option<u64> {
+    match tree {
+        Tree::Word(word) => number(word),
+        Tree::List(_) => None,
     }
 }
 
@@ -69,8 +90,8 @@ fn formula(tree: &Tree) -> Option<Formula<String>> {
     }
 }
 
-/// The form that `tree` is, with length of names and depth left aside.
-pub fn form(tree: &Tree) -> Option<Form> {
+/// The form that `tree` is, with length of names and depth left aside, and with numbers by `digits`.
+pub fn form(tree: &Tree, digits: Number) -> Option<Form> {
     match parts(tree)? {
         ("true", [n]) => Some(Form::Fact(name(n)?)),
         ("false", [n]) => Some(Form::Assumption(name(n)?)),
@@ -79,6 +100,7 @@ pub fn form(tree: &Tree) -> Option<Form> {
         ("avoid", body) => Some(Form::Constraint(Kind::Avoid, literals(body)?)),
         ("seen", [l]) => Some(Form::Seen(literal(l)?)),
         ("query", [f]) => Some(Form::Query(formula(f)?)),
+        ("cost", [n, p, s]) => Some(Form::Cost(name(n)?, number(p, digits)?, number(s, digits)?)),
         _ => None,
     }
 }
@@ -87,7 +109,7 @@ impl Form {
     /// The names of this form in the order of the line, with repeats.
     pub fn names(&self) -> Vec<&String> {
         match self {
-            Form::Fact(n) | Form::Assumption(n) => vec![n],
+            Form::Fact(n) | Form::Assumption(n) | Form::Cost(n, ..) => vec![n],
             Form::Rule(n, body) => std::iter::once(n).chain(body.iter().map(|l| &l.atom)).collect(),
             Form::Constraint(_, body) => body.iter().map(|l| &l.atom).collect(),
             Form::Seen(l) => vec![&l.atom],

@@ -1,6 +1,6 @@
 //! The record and the tables that hold a case, made from it and read back.
 //!
-//! From: document 01, Case tables and sound cases; document 02, [1], [5].
+//! From: document 01, Case tables and sound cases; document 02, [1], [5], [7].
 //!
 //! | name | meaning |
 //! |---|---|
@@ -41,6 +41,7 @@ pub struct Held {
     pub constraints: Vec<u64>,
     pub formulas: Vec<u8>,
     pub names: Vec<u8>,
+    pub prices: Vec<u32>,
 }
 
 /// The plain and the negated atoms of `literals`, bit i for atom i.
@@ -134,6 +135,7 @@ impl Held {
             constraints: vec![0; 3 * CONSTRAINTS],
             formulas: vec![0; PART_BYTES * QUERIES],
             names: vec![0; NAME_BYTES * ATOMS],
+            prices: vec![0; ATOMS],
         }
     }
 
@@ -156,6 +158,7 @@ impl Held {
         for (row, name) in held.names.chunks_exact_mut(NAME_BYTES).zip(&case.names) {
             fill(row, name.as_bytes());
         }
+        fill(&mut held.prices, &case.prices);
         held
     }
 
@@ -185,6 +188,7 @@ impl Held {
                 .collect::<Option<_>>()?,
             observations: literals(self.record.plain, self.record.negated, atoms)?,
             queries: (0..formulas).map(|at| self.formula(at, atoms)).collect::<Option<_>>()?,
+            prices: self.prices[..atoms].to_vec(),
         };
         (causes(atoms, &case.clauses).len() <= CAUSES).then_some(case)
     }

@@ -15,12 +15,14 @@ const HIGH: u64 = 54;
 type Row = (&'static str, fn(&Result<Layering, Refusal>) -> bool);
 
 /// Everything that is counted; each must occur.
-const ROWS: [Row; 8] = [
+const ROWS: [Row; 10] = [
     ("layered", |own| own.as_ref().is_ok_and(|l| l.numbers.is_some())),
     ("a ring", |own| own.as_ref().is_ok_and(|l| l.numbers.is_none())),
     ("refused", |own| own.is_err()),
+    ("refused with 16 or 17", |own| own.as_ref().is_err_and(|refusal| [16, 17].contains(&refusal.number))),
     ("a number of 54 and more", |own| own.as_ref().is_ok_and(is_high)),
     ("an atom in its own body", |own| own.as_ref().is_ok_and(names_itself)),
+    ("an atom of a cost line alone", |own| own.as_ref().is_ok_and(|l| has_only_priced(&l.case))),
     ("other without negated atoms", |own| own.as_ref().is_ok_and(|l| differs(l, without_negated))),
     ("other with first bodies only", |own| own.as_ref().is_ok_and(|l| differs(l, with_first_bodies))),
     ("other with constraints as rules", |own| own.as_ref().is_ok_and(|l| differs(l, with_constraints))),
@@ -34,6 +36,18 @@ fn is_high(layering: &Layering) -> bool {
 /// Whether some atom stands in its own body.
 fn names_itself(layering: &Layering) -> bool {
     layering.dependence.iter().enumerate().any(|(atom, named)| named.contains(&atom))
+}
+
+/// Whether some atom of `case` stands in no clause, constraint, observation or query.
+fn has_only_priced(case: &Case) -> bool {
+    let in_body = |body: &[Literal<usize>], atom| body.iter().any(|l| l.atom == atom);
+    let in_clause = |c: &Clause, atom| c.head == atom || matches!(&c.body, Body::All(body) if in_body(body, atom));
+    (0..case.names.len()).any(|atom| {
+        !case.clauses.iter().any(|c| in_clause(c, atom))
+            && !case.constraints.iter().any(|c| in_body(&c.body, atom))
+            && !in_body(&case.observations, atom)
+            && !case.queries.iter().any(|query| query.atoms().contains(&&atom))
+    })
 }
 
 /// Whether the numbers are others, or there are none on one side only, in what `misread` makes of the case.

@@ -3,16 +3,18 @@
 //! | file | holds |
 //! |---|---|
 //! | formula, constraint, case | values and formulas; kinds of constraints; what a case file says |
+//! | cost | prices, what a setting costs, the cheapest explanation |
 //! | tree, form, file | a line as a tree, the form of a tree, the checks of a file |
 //! | model, completion | the step and its iterates; models of the weak completion |
 //! | verdict, question, answer | the verdict on a query, minimal explanations, the text of the answer |
 //! | layers, layers_answer | which atoms depend on which: least numbers and rings; what `layers` should write |
 //! | lookup | a word compared with an entry of the names table |
 //! | held, plain, vectors | the record and the tables of a case, the plain form, the vectors of operations |
-//! | random, names, layout, families | drawn lawful files |
+//! | random, names, prices, layout, families | drawn lawful files |
 //! | shapes | drawn files with chains and rings |
-//! | edges, lists, damage, sample | files at the limits, damaged files, the file of a seed |
-//! | run, compare, tally, row_tally, kinds_tally, decided_tally, bench, check | the driver |
+//! | edges, cost_edges, lists, damage, sample | files at the limits, damaged files, the file of a seed |
+//! | run, compare, tally, row_tally, bench, check | the driver |
+//! | kinds_tally, decided_tally, costs_tally, cheapest_tally | how many files tell wrong readings apart |
 //! | layers_tally, layers_check | the driver of the program `layers` |
 //! | lookup_pairs, lookup_tally, lookup_check | the driver of the program `compare`, and the pairs that it draws |
 //! | tables | tables of the manual |
@@ -20,10 +22,14 @@
 pub mod answer;
 pub mod bench;
 pub mod case;
+pub mod cheapest_tally;
 pub mod check;
 pub mod compare;
 pub mod completion;
 pub mod constraint;
+pub mod cost;
+pub mod cost_edges;
+pub mod costs_tally;
 pub mod damage;
 pub mod decided_tally;
 pub mod edges;
@@ -46,6 +52,7 @@ pub mod lookup_tally;
 pub mod model;
 pub mod names;
 pub mod plain;
+pub mod prices;
 pub mod question;
 pub mod random;
 pub mod row_tally;

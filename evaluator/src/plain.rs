@@ -7,13 +7,14 @@
 //! | `Answered` | what an operation answers |
 //! | `Answered::text` | its text |
 
+use crate::cost::Cheapest;
 use crate::file::{Refusal, NAME_BYTES};
 use crate::held::{Held, Record, PART_BYTES};
 use crate::layers::turned;
 use crate::lookup::{Outcome, Pair};
 
 /// The labels of the lines that list a record and tables.
-const LABELS: [&str; 11] = [
+const LABELS: [&str; 12] = [
     "atoms",
     "clauses",
     "constraints",
@@ -25,6 +26,7 @@ const LABELS: [&str; 11] = [
     "constraint",
     "formula",
     "name",
+    "price",
 ];
 
 /// An operation with its arguments.
@@ -36,13 +38,21 @@ pub enum Operation {
     Compare(Pair),
 }
 
+/// What the question answers over all settings: the rounds and the decided atoms; of the minimal ones the lowest cost
+/// and the setting that has it.
+pub struct Sums {
+    pub rounds: u64,
+    pub decided: u64,
+    pub cheapest: Cheapest,
+}
+
 /// What an operation answers, with what it writes to lent memory; of rings those that are told.
 pub enum Answered {
     Unread(Refusal),
     Refused(u32),
     Read(Held),
     Settled { truths: u64, falsehoods: u64, rounds: u64, decided: u64 },
-    Asked { verdicts: Vec<u64>, minimal: usize, rounds: u64, decided: u64, list: Vec<u16>, work: Vec<u8> },
+    Asked { verdicts: Vec<u64>, minimal: usize, sums: Sums, list: Vec<u16>, work: Vec<u8> },
     Layered(Vec<u64>),
     Rings(Vec<Vec<usize>>),
     Compared(Outcome),
@@ -107,6 +117,7 @@ pub fn tables(text: &str) -> Result<Held, String> {
     put(&mut held.clauses, 3, &rows(text, "clause", hexadecimal)?)?;
     put(&mut held.constraints, 3, &rows(text, "constraint", hexadecimal)?)?;
     put(&mut held.formulas, PART_BYTES, &rows(text, "formula", byte)?)?;
+    put(&mut held.prices, 1, &rows(text, "price", decimal)?)?;
     put(&mut held.names, NAME_BYTES, &names.iter().map(|name| name.concat()).collect::<Vec<_>>())?;
     Ok(held)
 }
@@ -138,6 +149,7 @@ fn tables_text(held: &Held) -> String {
         let name: Vec<u8> = row.iter().copied().take_while(|b| *b != 0).collect();
         text.push_str(&format!("name {}\n", String::from_utf8_lossy(&name)));
     }
+    text.push_str(&entry_lines("price", &held.prices, 1, *atoms, |price| price.to_string()));
     text
 }
 
@@ -172,10 +184,11 @@ impl Answered {
             Answered::Settled { truths, falsehoods, rounds, decided } => {
                 format!("{truths:016x} {falsehoods:016x} {rounds} {decided}\n")
             }
-            Answered::Asked { verdicts, minimal, rounds, decided, list, work } => {
+            Answered::Asked { verdicts, minimal, sums, list, work } => {
                 let verdicts = joined(verdicts, ",", |v| v.to_string());
                 let settings: String = list.iter().map(|s| format!("{s}\n")).collect();
-                let counts = format!("{minimal} {} {rounds} {decided}", list.len());
+                let Sums { rounds, decided, cheapest: Cheapest { cost, setting } } = sums;
+                let counts = format!("{minimal} {} {rounds} {decided} {cost} {setting}", list.len());
                 format!("{verdicts} {counts}\n{settings}{:016x}\n", fnv(work))
             }
             Answered::Layered(numbers) => format!("layered {}\n", joined(numbers, " ", |n| n.to_string())),

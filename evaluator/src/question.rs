@@ -1,7 +1,7 @@
-//! The question: which settings explain, which of these are minimal, the verdict on each query, and what settling adds
-//! up to.
+//! The question: which settings explain, which of these are minimal, the verdict on each query, what settling adds up
+//! to, and the cheapest explanation.
 //!
-//! From: document 01, Causes, settings, explanations; The question; document 02, [1], [5], [6].
+//! From: document 01, Causes, settings, explanations; The question; document 02, [1], [5], [6], [7].
 //!
 //! | name | meaning |
 //! |---|---|
@@ -14,6 +14,7 @@
 use crate::case::{causes, Body, Case};
 use crate::completion::{search_order, Completion, SearchOrder};
 use crate::constraint::Constraint;
+use crate::cost::{cheapest, Cheapest};
 use crate::formula::{Formula, Literal, Value, TRUE, UNKNOWN};
 use crate::model::{Program, Settled};
 pub use crate::verdict::Verdict;
@@ -46,8 +47,8 @@ struct Judged {
 }
 
 /// The question's answer: whether each setting explains, every minimal one in rising order, the rounds and the decided
-/// atoms over all settings, and the verdict on each query; what each setting settles to, and in how many of them every
-/// model was gone through.
+/// atoms over all settings, the verdict on each query, and the cheapest of the minimal ones; what each setting settles
+/// to, and in how many of them every model was gone through.
 pub struct Findings {
     pub causes: Vec<usize>,
     pub explains: Vec<bool>,
@@ -55,13 +56,14 @@ pub struct Findings {
     pub rounds: u64,
     pub decided: u64,
     pub verdicts: Vec<Verdict>,
+    pub cheapest: Cheapest,
     pub settled: Vec<Settled>,
     pub searched: usize,
 }
 
-/// A case taken apart: its program, its weak completion, its causes, what is asked of it, and in how many of the
-/// settled sets every model was gone through. A cap on the rounds is for showing what goes wrong with one; what is
-/// settled is not held to the definition where another walk has done so.
+/// A case taken apart: its program, its weak completion, its causes and their prices, what is asked of it, and in how
+/// many of the settled sets every model was gone through. A cap on the rounds is for showing what goes wrong with one;
+/// what is settled is not held to the definition where another walk has done so.
 pub struct Engine {
     program: Program,
     completion: Completion,
@@ -74,6 +76,7 @@ pub struct Engine {
     constraints: Vec<Constraint>,
     observations: Vec<Literal<usize>>,
     queries: Vec<Formula<usize>>,
+    prices: Vec<u64>,
 }
 
 impl Choice {
@@ -109,9 +112,22 @@ impl Engine {
         let order = search_order(&equivalences);
         let completion = Completion { equivalences };
         let tries = LEAST_TRIES.max(TRIES / 3usize.pow(causes.len() as u32));
+        let prices = causes.iter().map(|cause| u64::from(case.prices[*cause])).collect();
         let Case { constraints, observations, queries, .. } = case;
-        let (cap, held, searched) = (None, true, 0);
-        Engine { program, completion, order, tries, cap, held, searched, causes, constraints, observations, queries }
+        Engine {
+            program,
+            completion,
+            order,
+            tries,
+            cap: None,
+            held: true,
+            searched: 0,
+            causes,
+            constraints,
+            observations,
+            queries,
+            prices,
+        }
     }
 
     /// What the program with the choices `set` added settles to: its least model.
@@ -193,6 +209,7 @@ pub fn ask(case: Case) -> Findings {
             assert!(own.rounds == found.rounds, "the rounds are others in a case with one of the queries");
             assert!(own.decided == found.decided, "the decided atoms are others in a case with one of the queries");
             assert!(own.minimal == found.minimal, "the minimal settings are others in a case with one of the queries");
+            assert!(own.cheapest == found.cheapest, "the cheapest is another in a case with one of the queries");
         }
     }
     found
@@ -243,5 +260,6 @@ fn findings(mut engine: Engine) -> Findings {
     let settled: Vec<Settled> = judged.into_iter().map(|j| j.settled).collect();
     let rounds = settled.iter().map(|s| s.rounds()).sum();
     let decided = decided_total(&settled, &engine.causes);
-    Findings { causes: engine.causes, explains, minimal, rounds, decided, verdicts, settled, searched }
+    let cheapest = cheapest(&minimal, &explains, &engine.prices);
+    Findings { causes: engine.causes, explains, minimal, rounds, decided, verdicts, cheapest, settled, searched }
 }

@@ -1,10 +1,11 @@
 //! The generated files, by seed.
 
+use crate::cost_edges::COST_EDGES;
 use crate::damage::damaged;
 use crate::edges::EDGES;
 use crate::families::{chain, diagnosis, program, wide};
 use crate::layout::file;
-use crate::lists::list_edge;
+use crate::lists::{list_edge, KINDS};
 use crate::random::Random;
 use crate::shapes::{shaped, Shaped};
 
@@ -33,14 +34,16 @@ pub fn shape(seed: u64) -> Option<Shaped> {
     (seed >= SAMPLES).then(|| shaped(&mut Random::new(seed)))
 }
 
-/// The file of `seed`: below `SAMPLES` one of 20 stands at a limit, half are damaged, the others are whole.
+/// The file of `seed`: below `SAMPLES` one of 20 stands at a limit, one of 100 at one of cost lines, half are damaged,
+/// the others are whole.
 pub fn sample(seed: u64) -> Sample {
     if let Some(shaped) = shape(seed) {
         return Sample { bytes: shaped.bytes, due: Due::Read };
     }
     let mut random = Random::new(seed);
-    match seed % 20 {
-        0 => edge(&mut random, seed as usize / 20),
+    match seed % 100 {
+        n if n % 20 == 0 => edge(&mut random, seed as usize / 20),
+        50 => cost_edge(&mut random, seed as usize / 100),
         n if n % 2 == 1 => {
             let causes = random.between(0, 4);
             let mut bytes = whole(&mut random, causes);
@@ -64,9 +67,14 @@ pub fn sample(seed: u64) -> Sample {
 /// from both sides in turn.
 fn edge(random: &mut Random, at: usize) -> Sample {
     if at % 25 == 24 {
-        return list_edge(random, at / 25 % 4);
+        return list_edge(random, at / 25 % KINDS);
     }
     EDGES[at % EDGES.len()](random, at / EDGES.len() % 2)
+}
+
+/// The file number `at` of those at a limit of cost lines, the limits in turn, each from both sides in turn.
+fn cost_edge(random: &mut Random, at: usize) -> Sample {
+    COST_EDGES[at % COST_EDGES.len()](random, at / COST_EDGES.len() % 2)
 }
 
 /// A lawful file with at most `causes` causes, or one if that is 0 and the family needs one.

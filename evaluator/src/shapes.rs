@@ -5,6 +5,7 @@ use crate::families::{constraint, literal};
 use crate::file::{ATOMS, CAUSES};
 use crate::layout::file;
 use crate::names::names;
+use crate::prices::cost_lines;
 use crate::random::Random;
 
 /// A rule over numbered atoms; the percent of negated literals in its body.
@@ -99,7 +100,8 @@ fn plain_clauses(random: &mut Random, rules: &[Rule], names: &[String]) -> Vec<S
     chosen.map(|atom| format!("({} {})", random.pick(&["true", "false"]), names[*atom])).collect()
 }
 
-/// Lines that say nothing of dependence: constraints, readings and a query, each naming atoms in ascending order.
+/// Lines that say nothing of dependence: constraints, readings, cost lines and a query, each naming atoms in ascending
+/// order.
 fn other_lines(random: &mut Random, names: &[String]) -> Vec<String> {
     let mut pair = || {
         let (first, second) = (random.below(names.len()), random.below(names.len()));
@@ -114,6 +116,7 @@ fn other_lines(random: &mut Random, names: &[String]) -> Vec<String> {
     if random.chance(30) {
         lines.extend([format!("(seen {})", literal(random, &e, 30)), format!("(seen {f})")]);
     }
+    lines.extend(cost_lines(random, names));
     lines
 }
 

@@ -3,7 +3,10 @@
 use crate::answer::{answer, LIST_SLOTS};
 use crate::case::Case;
 use crate::edges::EDGES;
-use crate::file::{ATOMS, CAUSES, CLAUSES, CONSTRAINTS, DEPTH, FILE_BYTES, LINE_BYTES, NAME_BYTES, QUERIES};
+use crate::file::{
+    ATOMS, CAUSES, CENTS, CLAUSES, CONSTRAINTS, DEPTH, FILE_BYTES, LINE_BYTES, NAME_BYTES, PER_CENT, QUERIES,
+};
+use crate::form::DIGITS;
 use crate::formula::{Value, FALSE, TRUE};
 use crate::question::{ask, ask_capped, digits, Engine, Findings};
 use crate::random::Random;
@@ -20,12 +23,20 @@ const LIMITS: [(&str, usize, usize); 8] = [
     ("causes", CAUSES, 2),
 ];
 
-/// `n` in decimal, with a comma before the last three digits of a number over 999.
+/// The limits of cost lines in the manual's order: the words, the number, and a line one past it, behind a first one.
+const COST_LIMITS: [(&str, usize, &str); 4] = [
+    ("cents of a price, before its supplement", CENTS as usize, "(cost b 1000001 0)"),
+    ("per cent of a supplement", PER_CENT as usize, "(cost b 0 101)"),
+    ("digits of a price or of a supplement", DIGITS, "(cost b 00000001 0)"),
+    ("`cost` lines for a name", 1, "(cost a 0 0)"),
+];
+
+/// `n` in decimal, with a comma before each three digits of a number over 999.
 fn grouped(n: usize) -> String {
     if n < 1_000 {
         n.to_string()
     } else {
-        format!("{},{:03}", n / 1_000, n % 1_000)
+        format!("{},{:03}", grouped(n / 1_000), n % 1_000)
     }
 }
 
@@ -101,6 +112,10 @@ pub fn limits() -> Vec<String> {
     let mut rows: Vec<String> = LIMITS.iter().map(row).collect();
     let asked = format!("| queries | {QUERIES}, and no fewer than 1 | {}, {} |", queries[0], queries[1]);
     rows.insert(LIMITS.len() - 1, asked);
+    rows.extend(COST_LIMITS.iter().map(|(what, most, line)| {
+        let file = format!("(query a)\n(cost a 0 0)\n{line}\n");
+        format!("| {what} | {} | {} |", grouped(*most), refusal(file.as_bytes()))
+    }));
     let listed = grouped(LIST_SLOTS);
     rows.push(format!(
         "| `cause` lines in a report | {listed} | no refusal: m tells how many explanations there are |"

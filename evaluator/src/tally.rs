@@ -5,13 +5,13 @@ use crate::file::{LINE_BYTES, QUERIES};
 use crate::verdict::VERDICTS;
 
 /// The refusals that a file can meet.
-const REFUSALS: std::ops::RangeInclusive<usize> = 2..=12;
+const REFUSALS: [usize; 13] = [2, 3, 4, 5, 6, 7, 8, 9, 10, 11, 12, 16, 17];
 
 /// Counts of answers by refusal number, by verdict, of several queries, of long lists, and of long comments in files
 /// that are read, or before the line that is refused.
 #[derive(Default)]
 pub struct Tally {
-    refusals: [usize; 13],
+    refusals: [usize; 18],
     verdicts: [usize; 4],
     several_queries: usize,
     most_queries: usize,
@@ -53,7 +53,7 @@ impl Tally {
 
     /// Each thing to be met, with its count.
     fn rows(&self) -> Vec<(String, usize)> {
-        let refusals = REFUSALS.map(|n| (format!("refusal {n}"), self.refusals[n]));
+        let refusals = REFUSALS.into_iter().map(|n| (format!("refusal {n}"), self.refusals[n]));
         let verdicts = VERDICTS.iter().zip(self.verdicts).map(|(v, n)| (format!("verdict {}", v.word()), n));
         let files = [
             ("several queries", self.several_queries),

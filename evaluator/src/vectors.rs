@@ -7,7 +7,7 @@ use crate::formula::{FALSE, TRUE};
 use crate::held::Held;
 use crate::layers::{dependence, numbers, rings};
 use crate::model::mask;
-use crate::plain::{tables, Answered, Operation};
+use crate::plain::{tables, Answered, Operation, Sums};
 use crate::question::{ask, Engine};
 use std::path::Path;
 
@@ -55,8 +55,8 @@ fn asked(case: Case, slots: usize, bytes: usize) -> Answered {
     }
     let list = found.minimal.iter().take(slots).map(|s| *s as u16).collect();
     let verdicts = found.verdicts.iter().map(|v| v.number()).collect();
-    let (minimal, rounds, decided) = (found.minimal.len(), found.rounds, found.decided);
-    Answered::Asked { verdicts, minimal, rounds, decided, list, work }
+    let sums = Sums { rounds: found.rounds, decided: found.decided, cheapest: found.cheapest };
+    Answered::Asked { verdicts, minimal: found.minimal.len(), sums, list, work }
 }
 
 /// What the operation `layers` may answer on `case`: the least numbers, or any of all its rings.

@@ -12,7 +12,9 @@ pub fn mend(refusal: Refusal) -> &'static str {
             "Shorten the names, or name a part of the form; a long comment needs `;` as its line's first byte."
         }
         Refusal::BadByte { .. } => "Write names in small letters, digits and `-`, and a comment on its own line.",
-        Refusal::NotAForm { .. } => "Write one whole form on the line: true, false, if, never, avoid, seen or query.",
+        Refusal::NotAForm { .. } => {
+            "Write one whole form on the line: true, false, if, never, avoid, seen, query, or cost with two numbers."
+        }
         Refusal::LongName { .. } => "Shorten the name, on every line that has it.",
         Refusal::DeepFormula { .. } => "Name a part of the query by a rule, and ask for that name.",
         Refusal::ManyNames { .. } => "Leave out the names that no reading and no query needs.",
@@ -20,6 +22,10 @@ pub fn mend(refusal: Refusal) -> &'static str {
         Refusal::ManyQueries { .. } => "Join two queries by `and` or `or`, or write a second file.",
         Refusal::NoQuery => "Add a line such as `(query damper-shut)`.",
         Refusal::ManyCauses => "Give some of the causes a line `(false N)` or `(true N)`, abnormality atoms first.",
+        Refusal::HighPrice { .. } => {
+            "Write the price in cents, 1000000 at most, and the supplement in per cent, 100 at most."
+        }
+        Refusal::SecondCost { .. } => "Leave one cost line for each name.",
         _ => "See the manual's section on refusals.",
     }
 }

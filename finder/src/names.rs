@@ -5,6 +5,11 @@ fn in_word(b: u8) -> bool {
     b.is_ascii_lowercase() || b.is_ascii_digit() || b == b'-'
 }
 
+/// Whether `word`, which is no form's word, is a name; the others are a cost line's numbers.
+fn is_name(word: &str) -> bool {
+    word.bytes().next().is_some_and(|b| b.is_ascii_lowercase())
+}
+
 /// The words of `line`, each with whether it stands behind a bracket and so is a form's word.
 fn words(line: &str) -> Vec<(bool, &str)> {
     let mut words = Vec::new();
@@ -36,7 +41,7 @@ pub fn causes(file: &[u8]) -> Vec<String> {
     let lines = file.split(|b| *b == b'\n').filter(|line| line.first() != Some(&b';'));
     for line in lines.filter_map(|line| std::str::from_utf8(line).ok()) {
         let words = words(line);
-        let named = || words.iter().filter(|(form, _)| !form).map(|(_, name)| *name);
+        let named = || words.iter().filter(|(form, word)| !form && is_name(word)).map(|(_, name)| *name);
         if matches!(words.first(), Some((true, "true" | "false" | "if"))) {
             heads.extend(named().next());
         }

@@ -5,7 +5,7 @@ mod common;
 use causes::Refusal;
 use common::{bytes, finder, stored};
 use evaluator::file;
-use evaluator::form::{form, Form};
+use evaluator::form::{decimal, form, Form};
 use evaluator::tree::tree;
 
 /// How the manual says that the refusal `number` is mended.
@@ -23,7 +23,7 @@ fn causes_of(file: &[u8]) -> Vec<String> {
     let mut heads: Vec<String> = Vec::new();
     let text = String::from_utf8_lossy(file);
     for line in text.lines().filter(|line| !line.starts_with(';') && !line.trim().is_empty()) {
-        let said = tree(line).and_then(|tree| form(&tree)).expect("a lawful line");
+        let said = tree(line).and_then(|tree| form(&tree, decimal)).expect("a lawful line");
         for name in said.names() {
             if !names.contains(name) {
                 names.push(name.clone());
@@ -65,7 +65,7 @@ fn seen(b: u8) -> String {
 
 #[test]
 fn each_refusal_is_told_with_its_line_its_meaning_and_its_mend() {
-    let mut met = [false; 13];
+    let mut met = [false; 18];
     let long = (String::from("long.case"), [b"(query a)\n".as_slice(), &b";\n".repeat(17_000)].concat());
     let files = stored().into_iter().map(|name| (name.clone(), bytes(&name))).chain([long]);
     for (name, file) in files {
@@ -78,13 +78,16 @@ fn each_refusal_is_told_with_its_line_its_meaning_and_its_mend() {
         assert_eq!(run.status, 1, "{name}");
         met[due.number as usize] = true;
     }
-    assert_eq!(met[2..], [true; 11], "a file for each refusal");
+    let numbers: Vec<usize> = (0..18).filter(|number| met[*number]).collect();
+    assert_eq!(numbers, (2..=12).chain([16, 17]).collect::<Vec<usize>>(), "a file for each refusal");
 }
 
 #[test]
 fn too_many_causes_are_listed_whatever_the_spaces() {
     let many: String = (0..9).map(|i| format!("( seen( not c{i} ) )\n")).collect();
-    let file = format!("; (true c1)\n(if if true(not false))\n  \n{many}(true true)\n(query(then c3 query))\n");
+    let file = format!(
+        "; (true c1)\n(if if true(not false))\n  \n{many}(true true)\n(cost query 7 07)\n(query(then c3 query))\n"
+    );
     assert_eq!(file::read(file.as_bytes()).map(|_| ()).map_err(|r| r.number), Err(12));
     let run = finder(&[], file.as_bytes());
     assert!(run.err.contains("  11 causes: false c0 c1 c2 c3 c4 c5 c6 c7 c8 query\n"), "{}", run.err);
@@ -108,7 +111,7 @@ fn bytes_that_do_not_show_are_written_out() {
 
 #[test]
 fn the_manual_s_common_mistakes_get_their_numbers() {
-    let rows: [(&str, u32); 14] = [
+    let rows: [(&str, u32); 18] = [
         ("(query Low)", 4),
         ("(query\tlow)", 4),
         ("(query room_low)", 4),
@@ -123,6 +126,10 @@ fn the_manual_s_common_mistakes_get_their_numbers() {
         ("(if low\nshut)\n(query low)", 5),
         ("(if low (or shut stopped))\n(query low)", 5),
         ("(if (not low) shut)\n(query low)", 5),
+        ("(cost low 40)\n(query low)", 5),
+        ("(cost 40 low 0)\n(query low)", 5),
+        ("(cost low 12345678 0)\n(query low)", 5),
+        ("(cost low 40 101)\n(query low)", 16),
     ];
     for (text, number) in rows {
         assert_eq!(file::read(text.as_bytes()).err().map(|r| (r.number, r.line)), Some((number, 1)), "{text}");

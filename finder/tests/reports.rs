@@ -41,13 +41,24 @@ fn generated_files_on_standard_input_get_their_reports() {
 #[test]
 fn a_verdict_line_stands_for_each_query() {
     let run = finder(&[], b"(true a)\n(query a)\n(query (not a))\n(query b)\n");
-    let due = "(verdict follows)\n(verdict denied)\n(verdict open)\n(rounds 3)\n(decided 5)\n(minimal 1 1)\n(cause)\n";
+    let verdicts = "(verdict follows)\n(verdict denied)\n(verdict open)\n";
+    let due = format!("{verdicts}(rounds 3)\n(decided 5)\n(minimal 1 1)\n(cause)\n(cheapest 0)\n");
     assert_eq!(run, Run { out: due.into(), err: String::new(), status: 0 });
     let run = finder(&[], "(query a)\n".repeat(16).as_bytes());
-    let due = "(verdict open)\n".repeat(16) + "(rounds 2)\n(decided 2)\n(minimal 1 1)\n(cause)\n";
+    let due = "(verdict open)\n".repeat(16) + "(rounds 2)\n(decided 2)\n(minimal 1 1)\n(cause)\n(cheapest 0)\n";
     assert_eq!(run, Run { out: due.into(), err: String::new(), status: 0 });
     let run = finder(&[], "(query a)\n".repeat(17).as_bytes());
     assert_eq!((run.out.as_slice(), run.status), (&b"(refused 10 17)\n"[..], 1));
+}
+
+#[test]
+fn the_lowest_cost_stands_last() {
+    let run = finder(&[], b"(if low shut)\n(if low off)\n(seen low)\n(query off)\n(cost shut 50 1)\n(cost off 50 0)\n");
+    let causes = "(cause (true shut))\n(cause (true off))\n";
+    let due = format!("(verdict open)\n(rounds 14)\n(decided 18)\n(minimal 2 2)\n{causes}(cheapest 50)\n");
+    assert_eq!(run, Run { out: due.into(), err: String::new(), status: 0 });
+    let run = finder(&[], b"(seen a)\n(seen (not a))\n(query a)\n(cost a 7 7)\n");
+    assert_eq!(run.out, b"(verdict unexplained)\n(rounds 2)\n(decided 2)\n(minimal 0 0)\n");
 }
 
 #[test]

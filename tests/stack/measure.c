@@ -29,7 +29,7 @@ static uint16_t list[LISTED];
 static uint64_t clauses[CAUSES_CLAUSE_WORDS], constraints[CAUSES_CONSTRAINT_WORDS], answer[CAUSES_LAYERS_WORDS];
 static uint64_t record[CAUSES_RECORD_WORDS], setting;
 static size_t file_bytes;
-static uint32_t refusal;
+static uint32_t prices[CAUSES_PRICES], refusal;
 static uint8_t *stack;
 
 static void fail(const char *what) {
@@ -39,7 +39,8 @@ static void fail(const char *what) {
 
 static void call_read(void) {
     refusal = causes_read(file, file_bytes, clauses, CAUSES_CLAUSE_WORDS, constraints, CAUSES_CONSTRAINT_WORDS, formula,
-                          CAUSES_FORMULA_BYTES, names, CAUSES_NAMES_BYTES, answer, CAUSES_READ_WORDS);
+                          CAUSES_FORMULA_BYTES, names, CAUSES_NAMES_BYTES, prices, CAUSES_PRICES, answer,
+                          CAUSES_READ_WORDS);
 }
 
 static void call_settle(void) {
@@ -50,8 +51,8 @@ static void call_settle(void) {
 
 static void call_question(void) {
     refusal = causes_question(record, CAUSES_RECORD_WORDS, clauses, CAUSES_CLAUSE_WORDS, constraints,
-                              CAUSES_CONSTRAINT_WORDS, formula, CAUSES_FORMULA_BYTES, list, LISTED, work,
-                              CAUSES_SETTINGS, answer, CAUSES_QUESTION_WORDS);
+                              CAUSES_CONSTRAINT_WORDS, formula, CAUSES_FORMULA_BYTES, prices, CAUSES_PRICES, list,
+                              LISTED, work, CAUSES_SETTINGS, answer, CAUSES_QUESTION_WORDS);
 }
 
 static void call_layers(void) {

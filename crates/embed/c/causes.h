@@ -2,7 +2,7 @@
  * or find a ring of rules, write the report.
  *
  * From: document 01, "Case tables and sound cases" and "What each operation refuses"; document 02, [1], [3],
- * [5] and [6]. Link libembed.a (x86-64).
+ * [5], [6] and [7]. Link libembed.a (x86-64).
  *
  * Lent memory is a pointer and a number of elements. The pointer is aligned for its type and reaches that many
  * elements; memory that a call writes overlaps no other memory lent to the same call. A pointer to no elements isn't
@@ -25,7 +25,7 @@ extern "C" {
 #endif
 
 /* The version of this header and of the Rust module beside it. */
-#define CAUSES_VERSION "0.4.0"
+#define CAUSES_VERSION "0.5.0"
 
 /* Sizes of the lent tables, in elements. A longer table is lawful; what is past its size keeps its contents. */
 enum {
@@ -34,7 +34,8 @@ enum {
     CAUSES_FORMULA_BYTES = 2048,  /* 16 parts: formula q at the front of part q */
     CAUSES_PART_BYTES = 128,      /* nodes in prefix order: 0 to 63 an atom, then CAUSES_NOT to CAUSES_SAME */
     CAUSES_NAMES_BYTES = 1024,    /* 16 an atom, zero-filled at the end */
-    CAUSES_NAME_BYTES = 16
+    CAUSES_NAME_BYTES = 16,
+    CAUSES_PRICES = 64            /* 1 an atom, in cents, supplement included; any 32-bit numbers may be lent */
 };
 
 /* Kinds of clauses, kinds of constraints and nodes of formulas; another kind is unsound. A constraint's body is all its
@@ -49,7 +50,7 @@ enum {
     CAUSES_FILE_BYTES = 32768,   /* the longest file that is read */
     CAUSES_SETTINGS = 59049,     /* 3^10, the most settings: bytes of a work area */
     CAUSES_MINIMAL = 15360,      /* the most minimal explanations: slots of a list */
-    CAUSES_REPORT_BYTES = 264600 /* the longest report */
+    CAUSES_REPORT_BYTES = 264640 /* the longest report */
 };
 
 /* Sizes of a thread's stack, in bytes, with which an operation ends; each has room to spare. */
@@ -70,8 +71,8 @@ enum { CAUSES_RECORD_WORDS = 22 };
 enum {
     CAUSES_READ_WORDS = 23,     /* line of the refusal or 0, then the case record */
     CAUSES_SETTLE_WORDS = 4,    /* true atoms, false atoms, rounds, how many atoms are decided */
-    CAUSES_QUESTION_WORDS = 20, /* 16 verdicts, 0 past the formulas; minimal explanations, how many listed, rounds,
-                                 * decided total */
+    CAUSES_QUESTION_WORDS = 22, /* 16 verdicts, 0 past the formulas; minimal explanations, how many listed, rounds,
+                                 * decided total, lowest cost, cheapest setting */
     CAUSES_LAYERS_WORDS = 66,   /* 1 layered or 0 not, number of entries, 64 entries, 0 past the last */
     CAUSES_REPORT_WORDS = 1     /* length of the text */
 };
@@ -79,7 +80,7 @@ enum {
 /* Verdicts. */
 enum { CAUSES_UNEXPLAINED = 0, CAUSES_FOLLOWS = 1, CAUSES_DENIED = 2, CAUSES_OPEN = 3 };
 
-/* Refusals. 3 to 10 have the line, counted from 1; the others have line 0. */
+/* Refusals. 3 to 10, 16 and 17 have the line, counted from 1; the others have line 0. */
 enum {
     CAUSES_SHORT = 1,         /* a lent table, record or answer is shorter than its size */
     CAUSES_LONG_FILE = 2,     /* over 32,768 bytes */
@@ -96,16 +97,19 @@ enum {
     CAUSES_UNSOUND = 13,      /* the record and the tables are no sound case */
     CAUSES_NO_SETTING = 14,   /* the setting is 3^k or more, for k causes */
     CAUSES_SHORT_WORK = 15,   /* the work area has fewer than 3^k bytes */
+    CAUSES_HIGH_PRICE = 16,   /* a price over 1,000,000 or a supplement over 100 */
+    CAUSES_SECOND_COST = 17,  /* a second cost line of a name */
     CAUSES_SHORT_OUTPUT = 19  /* the output is shorter than the report */
 };
 
-/* Reads a case file into the four tables. Refuses with 1 to 12. 1 and 2 leave the tables as they were, 3 to 12 zero
- * them in their sizes. answer: CAUSES_READ_WORDS. */
+/* Reads a case file into the five tables. Refuses with 1 to 12, 16 and 17. 1 and 2 leave the tables as they were, the
+ * others zero them in their sizes. answer: CAUSES_READ_WORDS. */
 uint32_t causes_read(const uint8_t *file, size_t file_bytes,
                      uint64_t *clauses, size_t clause_words,
                      uint64_t *constraints, size_t constraint_words,
                      uint8_t *formula, size_t formula_bytes,
                      uint8_t *names, size_t names_bytes,
+                     uint32_t *prices, size_t price_entries,
                      uint64_t *answer, size_t answer_words);
 
 /* Settles one setting of a case: digit i of the setting to base three, lowest first, adds nothing, a fact or an
@@ -122,12 +126,15 @@ uint32_t causes_settle(const uint64_t *record, size_t record_words,
 /* Answers the question of a case, with a verdict for each formula. The minimal settings go to the list in rising order,
  * as many as it has slots for, and byte s of the work area becomes 0 (setting s doesn't explain), 1 (explains, not
  * minimal) or 2 (minimal); slots and bytes behind these keep their contents. Rounds and decided atoms are those of
- * causes_settle, summed over all settings. Refuses with 1, 13, 15, in this order, and then touches neither.
- * answer: CAUSES_QUESTION_WORDS. */
+ * causes_settle, summed over all settings. A setting costs the sum of the prices of the causes for which it adds a fact
+ * or an assumption; the lowest cost is that among all minimal settings, listed or not, and the cheapest setting the
+ * lowest-numbered of those that have it, both 0 where there is none. Refuses with 1, 13, 15, in this order, and then
+ * touches neither. answer: CAUSES_QUESTION_WORDS. */
 uint32_t causes_question(const uint64_t *record, size_t record_words,
                          const uint64_t *clauses, size_t clause_words,
                          const uint64_t *constraints, size_t constraint_words,
                          const uint8_t *formula, size_t formula_bytes,
+                         const uint32_t *prices, size_t price_entries,
                          uint16_t *list, size_t list_slots,
                          uint8_t *work, size_t work_bytes,
                          uint64_t *answer, size_t answer_words);
@@ -176,6 +183,8 @@ static inline const char *causes_refusal_text(uint32_t number)
     case CAUSES_UNSOUND: return "the case handed in is not sound";
     case CAUSES_NO_SETTING: return "the setting's number is not below the number of settings";
     case CAUSES_SHORT_WORK: return "the work area is shorter than one byte for each setting";
+    case CAUSES_HIGH_PRICE: return "the price is over 1,000,000, or the supplement over 100";
+    case CAUSES_SECOND_COST: return "the line is a second cost line for its name";
     case CAUSES_SHORT_OUTPUT: return "the lent output is too short for the report";
     default: return NULL;
     }

@@ -1,6 +1,6 @@
 /* A case with its tables in one struct, over the calls of causes.h: the sizes go with it, and a name is a text.
  *
- * A struct is 10,160 bytes. Calls on different structs are independent; all but reading only read theirs.
+ * A struct is 10,416 bytes. Calls on different structs are independent; all but reading only read theirs.
  */
 #ifndef CAUSES_CASE_H
 #define CAUSES_CASE_H
@@ -23,6 +23,7 @@ struct causes_case {
     uint64_t constraints[CAUSES_CONSTRAINT_WORDS];
     uint8_t formula[CAUSES_FORMULA_BYTES];
     uint8_t names[CAUSES_NAMES_BYTES];
+    uint32_t prices[CAUSES_PRICES];
 };
 
 /* A settled setting: the true and the false atoms, bit i for atom i, the rounds, and how many atoms are decided. */
@@ -31,9 +32,10 @@ struct causes_settled {
 };
 
 /* The question's answer: how many queries there are, a verdict for each in file order, zeros behind, the number of
- * minimal explanations, how many are listed, and over all settings the rounds and the decided atoms. */
+ * minimal explanations, how many are listed, over all settings the rounds and the decided atoms, and of the minimal
+ * ones the lowest cost in cents and the lowest-numbered setting that has it, both 0 where nothing explains. */
 struct causes_answer {
-    uint64_t queries, verdicts[CAUSES_QUERIES], minimal, listed, rounds, decided;
+    uint64_t queries, verdicts[CAUSES_QUERIES], minimal, listed, rounds, decided, cost, cheapest;
 };
 
 /* The layers of a case: whether it is layered, how many entries there are, and the least number of each atom in atom
@@ -42,14 +44,14 @@ struct causes_layering {
     uint64_t layered, count, entries[CAUSES_ATOMS];
 };
 
-/* Reads a file into a case. Refuses with 2 to 12; then the line, 0 where no line is at fault, is put to *line unless
- * line is a null pointer, and the record is zeros. */
+/* Reads a file into a case. Refuses with 2 to 12, 16 and 17; then the line, 0 where no line is at fault, is put to *line
+ * unless line is a null pointer, and the record is zeros. */
 static inline uint32_t causes_case_read(struct causes_case *c, const uint8_t *file, size_t file_bytes, uint64_t *line)
 {
     uint64_t words[CAUSES_READ_WORDS];
     uint32_t refusal = causes_read(file, file_bytes, c->clauses, CAUSES_CLAUSE_WORDS,
                                    c->constraints, CAUSES_CONSTRAINT_WORDS, c->formula, CAUSES_FORMULA_BYTES,
-                                   c->names, CAUSES_NAMES_BYTES, words, CAUSES_READ_WORDS);
+                                   c->names, CAUSES_NAMES_BYTES, c->prices, CAUSES_PRICES, words, CAUSES_READ_WORDS);
     memcpy(c->record, words + 1, sizeof c->record);
     if (line != NULL)
         *line = words[0];
@@ -78,13 +80,16 @@ static inline uint32_t causes_case_question(const struct causes_case *c, uint16_
     uint64_t words[CAUSES_QUESTION_WORDS];
     uint32_t refusal = causes_question(c->record, CAUSES_RECORD_WORDS, c->clauses, CAUSES_CLAUSE_WORDS,
                                        c->constraints, CAUSES_CONSTRAINT_WORDS, c->formula, CAUSES_FORMULA_BYTES,
-                                       list, list_slots, work, work_bytes, words, CAUSES_QUESTION_WORDS);
+                                       c->prices, CAUSES_PRICES, list, list_slots, work, work_bytes,
+                                       words, CAUSES_QUESTION_WORDS);
     answer->queries = refusal == 0 ? c->record[3] : 0;
     memcpy(answer->verdicts, words, sizeof answer->verdicts);
     answer->minimal = words[CAUSES_QUERIES];
     answer->listed = words[CAUSES_QUERIES + 1];
     answer->rounds = words[CAUSES_QUERIES + 2];
     answer->decided = words[CAUSES_QUERIES + 3];
+    answer->cost = words[CAUSES_QUERIES + 4];
+    answer->cheapest = words[CAUSES_QUERIES + 5];
     return refusal;
 }
 

@@ -1,5 +1,6 @@
-/* Answers M4 of document 01: reads the case, asks its question, prints list, rounds, decided atoms and verdict, then
- * the report. The exit status is 1 where an answer is not that of documents 01 and 02. */
+/* Answers M4 of document 01 with prices: reads the case, asks its question, prints list, rounds, decided atoms, the
+ * cheapest setting and the verdict, then the report. The exit status is 1 where an answer is not that of documents 01
+ * and 02. */
 #include "causes_case.h"
 
 #include <stdio.h>
@@ -10,7 +11,9 @@ static const char file[] =
     "(false ab1)\n"
     "(false ab2)\n"
     "(seen low)\n"
-    "(query shut)\n";
+    "(query shut)\n"
+    "(cost shut 9000 50)\n"
+    "(cost stopped 4000 0)\n";
 
 static const char report[] =
     "(verdict open)\n"
@@ -18,11 +21,13 @@ static const char report[] =
     "(decided 36)\n"
     "(minimal 2 2)\n"
     "(cause (true shut))\n"
-    "(cause (true stopped))\n";
+    "(cause (true stopped))\n"
+    "(cheapest 4000)\n";
 
 static const char *const verdicts[] = {"unexplained", "follows", "denied", "open"};
 
-/* Reads the file and asks its question; whether the answer is list 1, 3; rounds 15; decided 36; open. */
+/* Reads the file and asks its question; whether the answer is list 1, 3; rounds 15; decided 36; setting 3 for 4000
+ * cents; open. */
 static int question_answered(void)
 {
     static struct causes_case m4;
@@ -43,10 +48,12 @@ static int question_answered(void)
     printf("list:");
     for (i = 0; i < answer.listed; i++)
         printf(" %u", (unsigned)list[i]);
-    printf("\nrounds: %lu\ndecided: %lu\nverdict: %s\n", (unsigned long)answer.rounds, (unsigned long)answer.decided,
+    printf("\nrounds: %lu\ndecided: %lu\ncheapest: %lu for %lu\nverdict: %s\n", (unsigned long)answer.rounds,
+           (unsigned long)answer.decided, (unsigned long)answer.cheapest, (unsigned long)answer.cost,
            verdicts[answer.verdicts[0]]);
     return answer.queries == 1 && answer.verdicts[0] == CAUSES_OPEN && answer.minimal == 2 && answer.listed == 2
-        && answer.rounds == 15 && answer.decided == 36 && list[0] == 1 && list[1] == 3;
+        && answer.rounds == 15 && answer.decided == 36 && answer.cost == 4000 && answer.cheapest == 3
+        && list[0] == 1 && list[1] == 3;
 }
 
 /* Prints the file's report; whether it is that of documents 01 and 02. */

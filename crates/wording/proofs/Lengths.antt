@@ -13,7 +13,7 @@ use Rattle.output.proofs.Decimals.{decimal-length, decimal-short}
 use Rattle.output.proofs.FormTexts.{spaced-nil, spaced-more, spaced-one, spaced-two, form-length, line-length}
 use Rattle.wording.specs.declared.Totals.{Totals}
 use Rattle.wording.specs.Text.{linesOf, verdictWord, verdictLine, verdictLines, roundsLine, decidedLine}
-use Rattle.wording.specs.Text.{minimalLine}
+use Rattle.wording.specs.Text.{minimalLine, cheapestLine, cheapestLines}
 use Rattle.wording.specs.Text.{withAbducible, abducibles, causeLine, causeLines, answerText, refusalText}
 
 -- Lines
@@ -34,20 +34,26 @@ verdict-line-length : (v : ℕ) → length (verdictLine v) ≤ 22
 unfolding verdictLine
 verdict-line-length v = rw (line-length, spaced-one) (omega (arith, verdict-word-length v))
 
--- one number of at most 7 digits behind a word
-number-line-length : (w : List ℕ) (n : ℕ) → n < 10 ^ 7 → length (line w (decimal n ∷ [])) ≤ length w + 11
-number-line-length w n h = rw (line-length, spaced-one) (omega (arith, decimal-short 6 n h))
+-- one number of at most k digits behind a word
+number-line-length : (w : List ℕ) (n k : ℕ) → length (decimal n) ≤ k
+    → length (line w (decimal n ∷ [])) ≤ length w + k + 4
+number-line-length w n k h = rw (line-length, spaced-one) (omega arith)
 
 minimal-line-length : (m w : ℕ) → m < 10 ^ 5 → w < 10 ^ 4 → length (minimalLine m w) ≤ 21
 unfolding minimalLine
 minimal-line-length m w h k =
     rw (line-length, spaced-two) (omega (arith, decimal-short 4 m h, decimal-short 3 w k))
 
+cheapest-length : (m c : ℕ) → length (cheapestLines m c) ≤ 32
+unfolding cheapestLines cheapestLine
+cheapest-length zero c = omega arith
+cheapest-length (suc m) c = number-line-length (bytes "cheapest") c 20 (decimal-length c)
+
 pub refusal-length : (n k : ℕ) → length (refusalText n k) ≤ 52
 unfolding refusalText
 refusal-length n k = rw (line-length, spaced-two) (omega (arith, decimal-length n, decimal-length k))
 
--- the numbers t have at most 7, 7 and 5 digits
+-- rounds, decided atoms and minimal explanations of t have at most 7, 7 and 5 digits
 pub record Short (t : Totals) : Type 0 where
   pub rounds-short : t .rounds < 10 ^ 7
   pub decided-short : t .decided < 10 ^ 7
@@ -75,22 +81,25 @@ module _ (name : ℕ → List ℕ) (short : (a : ℕ) → length (name a) ≤ 16
     cause-line-length s = rw line-length (omega (arith, abducibles-length (atomsIn w) (digitsOf w s)))
 
     pub answer-length : (vs : List ℕ) (t : Totals) (l : List ℕ) → length vs ≤ 16 → Short t → length l ≤ 1024
-        → length (answerText name w vs t l) ≤ 264600
+        → length (answerText name w vs t l) ≤ 264640
     unfolding answerText roundsLine decidedLine
     answer-length vs t l g s f =
         let rounds = roundsLine (t .rounds) in
         let decided = decidedLine (t .decided) in
         let minimals = minimalLine (t .minimal) (length l) in
         let causes = causeLines name w l in
+        let cheapest = cheapestLines (t .minimal) (t .cost) in
         omega (
           arith,
-          length-append (verdictLines vs) (rounds ++ (decided ++ (minimals ++ causes))),
-          length-append rounds (decided ++ (minimals ++ causes)),
-          length-append decided (minimals ++ causes),
-          length-append minimals causes,
+          length-append (verdictLines vs) (rounds ++ (decided ++ (minimals ++ (causes ++ cheapest)))),
+          length-append rounds (decided ++ (minimals ++ (causes ++ cheapest))),
+          length-append decided (minimals ++ (causes ++ cheapest)),
+          length-append minimals (causes ++ cheapest),
+          length-append causes cheapest,
           lines-length verdictLine 22 verdict-line-length vs,
-          number-line-length (bytes "rounds") (t .rounds) (s .rounds-short),
-          number-line-length (bytes "decided") (t .decided) (s .decided-short),
+          number-line-length (bytes "rounds") (t .rounds) 7 (decimal-short 6 (t .rounds) (s .rounds-short)),
+          number-line-length (bytes "decided") (t .decided) 7 (decimal-short 6 (t .decided) (s .decided-short)),
           minimal-line-length (t .minimal) (length l) (s .minimal-short) (omega arith),
           lines-length (causeLine name w) 258 cause-line-length l,
+          cheapest-length (t .minimal) (t .cost),
         )

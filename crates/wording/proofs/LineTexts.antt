@@ -8,7 +8,7 @@ use Rattle.text.specs.Bytes.{bytes}
 use Rattle.output.specs.Decimal.{decimal}
 use Rattle.output.specs.Forms.{spaced, form}
 use Rattle.wording.specs.Text.{verdictWord, verdictLine, roundsLine, decidedLine, minimalLine, refusalText}
-use Rattle.wording.specs.Text.{withAbducible, abducibles, causeLine}
+use Rattle.wording.specs.Text.{withAbducible, abducibles, causeLine, cheapestLine, cheapestLines}
 use Rattle.output.proofs.FormTexts.{lineEnd, line-parts, line-one, line-two}
 use Rattle.output.proofs.FormTexts.{spaced-nil, spaced-cons, spaced-form}
 
@@ -23,6 +23,9 @@ decidedOpening = bytes "(decided "
 
 abbrev pub minimalOpening : List ℕ
 minimalOpening = bytes "(minimal "
+
+abbrev pub cheapestOpening : List ℕ
+cheapestOpening = bytes "(cheapest "
 
 abbrev pub refusedOpening : List ℕ
 refusedOpening = bytes "(refused "
@@ -64,6 +67,15 @@ decided-text n = line-one (bytes "decided") (decimal n)
 pub minimal-text : (m w : ℕ) → minimalLine m w ≡ pairText minimalOpening m w
 unfolding minimalLine
 minimal-text m w = line-two (bytes "minimal") (decimal m) (decimal w)
+
+pub cheapest-none : (c : ℕ) → cheapestLines 0 c ≡ []
+unfolding cheapestLines
+cheapest-none c = refl
+
+pub cheapest-text : (m c : ℕ) → (m ≡ 0 → ⊥) → cheapestLines m c ≡ numberText cheapestOpening c
+unfolding cheapestLines cheapestLine
+cheapest-text zero c p = absurd (p refl)
+cheapest-text (suc m) c p = line-one (bytes "cheapest") (decimal c)
 
 pub refusal-text : (n k : ℕ) → refusalText n k ≡ pairText refusedOpening n k
 unfolding refusalText

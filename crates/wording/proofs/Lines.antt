@@ -15,10 +15,10 @@ use Rattle.output.proofs.Decimals.{decimal-length}
 use Rattle.output.proofs.FormTexts.{lineEnd}
 use Rattle.output.proofs.Laying.{writes-append}
 use Rattle.wording.specs.Text.{verdictWord, verdictLine, withAbducible, abducibles, causeLine}
-use Rattle.wording.specs.Text.{refusalText}
-use Rattle.wording.proofs.LineTexts.{verdictOpening, refusedOpening, causeOpening, factOpening}
+use Rattle.wording.specs.Text.{cheapestLines, refusalText}
+use Rattle.wording.proofs.LineTexts.{verdictOpening, cheapestOpening, refusedOpening, causeOpening, factOpening}
 use Rattle.wording.proofs.LineTexts.{assumptionOpening, numberText, pairText, verdict-text, open-word}
-use Rattle.wording.proofs.LineTexts.{refusal-text, cause-text, fact-text, assumption-text}
+use Rattle.wording.proofs.LineTexts.{cheapest-text, refusal-text, cause-text, fact-text, assumption-text}
 
 -- three pieces
 pieces-room : (s t u : List ℕ) {at : ℕ} → Room (s ++ (t ++ u)) at → at + (length s + length t + length u) ≤ textLimit
@@ -91,6 +91,15 @@ module _ {v at : ℕ} (p : v ≡ 0 → ⊥) (q : v ≡ 1 → ⊥) (o : v ≡ 2 �
   pub open-written : {r : ℕ} {out u : List ℕ} → Writes (verdictOpening ++ (bytes "open" ++ lineEnd)) out at r u
       → Writes (verdictLine v) out at r u
   open-written h = rw (verdict-text, open-word v p q o) h
+
+-- the line of the lowest cost c among m minimal explanations, one or more
+module _ (m c : ℕ) {at : ℕ} (p : m ≡ 0 → ⊥) where
+  pub cheapest-room : Room (cheapestLines m c) at → Room (numberText cheapestOpening c) at
+  cheapest-room h = rw (cheapest-text m c p) at h
+
+  pub cheapest-written : {r : ℕ} {out u : List ℕ} → Writes (numberText cheapestOpening c) out at r u
+      → Writes (cheapestLines m c) out at r u
+  cheapest-written h = rw (cheapest-text m c p) h
 
 -- what the digit d adds for the cause named w: a fact where it is 1, and an assumption where it is neither 0 nor 1
 module _ (d : ℕ) (w : List ℕ) {at : ℕ} where

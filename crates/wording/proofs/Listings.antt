@@ -12,7 +12,7 @@ use Rattle.output.specs.Writing.{Writes, textLimit, Room}
 use Rattle.output.proofs.Laying.{writes-append}
 use Rattle.wording.specs.Text.{linesOf, verdictLine, verdictLines, roundsLine, decidedLine, minimalLine}
 use Rattle.wording.specs.declared.Totals.{Totals}
-use Rattle.wording.specs.Text.{causeLines, answerText}
+use Rattle.wording.specs.Text.{causeLines, cheapestLines, answerText}
 use Rattle.wording.proofs.Progress.{Underway, underway-start, underway-room, underway-more, underway-end}
 use Rattle.wording.proofs.LineTexts.{numberText, pairText, roundsOpening, decidedOpening, minimalOpening}
 use Rattle.wording.proofs.LineTexts.{rounds-text, decided-text, minimal-text}
@@ -69,29 +69,35 @@ module _ (name : ℕ → List ℕ) (w : ℕ) (vs : List ℕ) (t : Totals) (list 
       ≡ verdictLines vs
       ++ (numberText roundsOpening (t .rounds)
       ++ (numberText decidedOpening (t .decided)
-      ++ (pairText minimalOpening (t .minimal) (length list) ++ causeLines name w list)))
+      ++ (pairText minimalOpening (t .minimal) (length list)
+      ++ (causeLines name w list ++ cheapestLines (t .minimal) (t .cost)))))
   unfolding answerText
   answer-text = rw (rounds-text, decided-text, minimal-text)
 
   pub answer-room : {at : ℕ} → Room (answerText name w vs t list) at
       → at + (length (verdictLines vs) + length (decimal (t .rounds)) + 10 + length (decimal (t .decided)) + 11
-      + length (decimal (t .minimal)) + length (decimal (length list)) + 12 + length (causeLines name w list))
+      + length (decimal (t .minimal)) + length (decimal (length list)) + 12 + length (causeLines name w list)
+      + length (cheapestLines (t .minimal) (t .cost)))
       ≤ textLimit
   answer-room h = omega (arith, simp length-append at (rw answer-text at (h .fits)))
 
-  pub answer-written : {out out₁ out₂ out₃ out₄ out₅ : List ℕ} {at i j k n e : ℕ}
+  pub answer-written : {out out₁ out₂ out₃ out₄ out₅ out₆ : List ℕ} {at i j k n o e : ℕ}
       → Writes (verdictLines vs) out at i out₁ → Writes (numberText roundsOpening (t .rounds)) out₁ i j out₂
       → Writes (numberText decidedOpening (t .decided)) out₂ j k out₃
       → Writes (pairText minimalOpening (t .minimal) (length list)) out₃ k n out₄
-      → Writes (causeLines name w list) out₄ n e out₅ → Writes (answerText name w vs t list) out at e out₅
-  answer-written first second third fourth lines =
-      rw answer-text (writes-append first (writes-append second (writes-append third (writes-append fourth lines))))
+      → Writes (causeLines name w list) out₄ n o out₅ → Writes (cheapestLines (t .minimal) (t .cost)) out₅ o e out₆
+      → Writes (answerText name w vs t list) out at e out₆
+  answer-written first second third fourth lines last =
+      rw answer-text
+      (writes-append first
+      (writes-append second (writes-append third (writes-append fourth (writes-append lines last)))))
 
 -- an answer on one query
 pub answer-one : (name : ℕ → List ℕ) (w v : ℕ) (t : Totals) (l : List ℕ)
     → answerText name w (v ∷ []) t l
     ≡ verdictLine v
     ++ (roundsLine (t .rounds)
-    ++ (decidedLine (t .decided) ++ (minimalLine (t .minimal) (length l) ++ causeLines name w l)))
+    ++ (decidedLine (t .decided)
+    ++ (minimalLine (t .minimal) (length l) ++ (causeLines name w l ++ cheapestLines (t .minimal) (t .cost)))))
 unfolding answerText linesOf
 answer-one name w v t l = rw append-nil

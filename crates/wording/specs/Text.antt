@@ -1,5 +1,6 @@
 -- The text of an answer, and of a refusal.
--- From: document 01, "The program `causes`"; document 02, [6] ("a line `(decided total)` after the rounds").
+-- From: document 01, "The program `causes`"; document 02, [6] ("a line `(decided total)` after the rounds"), [7] ("ends
+-- with a line `(cheapest C)`").
 --
 --   linesOf f l                 the lines that f gives for the numbers l, one behind another
 --   verdictWord v               the word of the verdict with the number v
@@ -7,8 +8,9 @@
 --   abducibles name l ds        (true N) or (false N) for each cause of l whose digit in ds isn't 0, in atom order
 --   causeLine name w s          the line of setting s of the causes w
 --   causeLines name w l         the lines of the settings l
---   answerText name w vs t l    verdicts vs, rounds, decided atoms and minimal explanations t, of which the settings l
---                               are listed
+--   cheapestLines m c           the line of the lowest cost c among m minimal explanations, if there are any
+--   answerText name w vs t l    verdicts vs, rounds, decided atoms, minimal explanations and lowest cost t, and of the
+--                               minimal ones the settings l listed
 --   refusalText n k             the refusal with the number n at line k
 use mathlib.Core.List.{List, [], _∷_, _++_}
 use Prim.Native.Nat.{ℕ, zero, suc}
@@ -69,11 +71,21 @@ causeLine name w s = line (bytes "cause") (abducibles name (atomsIn w) (digitsOf
 abbrev pub causeLines : (ℕ → List ℕ) → ℕ → List ℕ → List ℕ
 causeLines name w l = linesOf (causeLine name w) l
 
+-- "(cheapest n)"
+unfoldable pub cheapestLine : ℕ → List ℕ
+cheapestLine n = line (bytes "cheapest") (decimal n ∷ [])
+
+-- none where nothing explains: the verdicts are then unexplained
+unfoldable pub cheapestLines : ℕ → ℕ → List ℕ
+cheapestLines zero c = []
+cheapestLines (suc m) c = cheapestLine c
+
 unfoldable pub answerText : (ℕ → List ℕ) → ℕ → List ℕ → Totals → List ℕ → List ℕ
 answerText name w vs t l =
     verdictLines vs
     ++ (roundsLine (t .rounds)
-    ++ (decidedLine (t .decided) ++ (minimalLine (t .minimal) (length l) ++ causeLines name w l)))
+    ++ (decidedLine (t .decided)
+    ++ (minimalLine (t .minimal) (length l) ++ (causeLines name w l ++ cheapestLines (t .minimal) (t .cost)))))
 
 -- "(refused n k)"
 unfoldable pub refusalText : ℕ → ℕ → List ℕ

@@ -10,19 +10,20 @@ ghost use Rattle.names.specs.Row.{nameIn};
 ghost use Rattle.output.specs.Decimal.{decimal};
 ghost use Rattle.output.specs.Forms.{spaced};
 ghost use Rattle.wording.specs.Text.{withAbducible, abducibles, causeLine, causeLines};
-ghost use Rattle.wording.specs.Text.{verdictLine, verdictLines, answerText, refusalText};
+ghost use Rattle.wording.specs.Text.{verdictLine, verdictLines, cheapestLines, answerText, refusalText};
 ghost use Rattle.output.specs.Writing.{Writes, Room};
 use output::put;
 use output::put_decimal;
 use output::put_name;
 use output::put_text;
 
-// The numbers of an answer that its text shows: the rounds and the decided atoms over all settings, and the minimal
-// explanations.
+// The numbers of an answer that its text shows: the rounds and the decided atoms over all settings, the minimal
+// explanations, and the lowest cost among them.
 pub struct Totals {
     pub rounds: u64,
     pub decided: u64,
     pub minimal: u64,
+    pub cost: u64,
 }
 
 // Writes the line of the verdict with the number v.
@@ -153,8 +154,19 @@ fn cause_lines(out: &mut [u8], at: usize, names: &[u8], causes: u64, list: &[u16
     place
 }
 
+// Writes the line of the lowest cost among some minimal explanations, if there are any.
+fn cheapest_lines(out: &mut [u8], at: usize, minimal: u64, cost: u64) -> usize
+    requires { ⌜ Room (cheapestLines minimal cost) at ⌝ }
+    ensures { λ r. ⌜ Writes (cheapestLines minimal cost) (now (out .entry)) at r (now (out .exit)) ⌝ }
+{
+    if minimal == 0 {
+        return at;
+    }
+    number_line(out, at, b"(cheapest ", cost)
+}
+
 // Writes the text of an answer from the output's first byte on: verdicts, rounds, decided atoms, how many minimal
-// explanations there are, and the settings listed. Answers the text's length.
+// explanations there are, the settings listed, and the lowest cost. Answers the text's length.
 pub fn answer_text(
     out: &mut [u8],
     verdicts: &[u64],
@@ -173,7 +185,8 @@ pub fn answer_text(
     let third = number_line(out, second, b"(rounds ", totals.rounds);
     let fourth = number_line(out, third, b"(decided ", totals.decided);
     let fifth = pair_line(out, fourth, b"(minimal ", totals.minimal, list.len() as u64);
-    cause_lines(out, fifth, names, causes, list)
+    let sixth = cause_lines(out, fifth, names, causes, list);
+    cheapest_lines(out, sixth, totals.minimal, totals.cost)
 }
 
 // Writes the text of a refusal from the output's first byte on. Answers the text's length.

@@ -77,15 +77,21 @@ static void blank(void)
 static uint32_t read_file(void)
 {
     return causes_read(file, file_bytes, lent.clauses, CAUSES_CLAUSE_WORDS, lent.constraints, CAUSES_CONSTRAINT_WORDS,
-                       lent.formula, CAUSES_FORMULA_BYTES, lent.names, CAUSES_NAMES_BYTES, found, CAUSES_READ_WORDS);
+                       lent.formula, CAUSES_FORMULA_BYTES, lent.names, CAUSES_NAMES_BYTES, lent.prices, CAUSES_PRICES,
+                       found, CAUSES_READ_WORDS);
 }
 
 static void print_tables(void)
 {
+    size_t i;
     print_words("clauses", lent.clauses, CAUSES_CLAUSE_WORDS);
     print_words("constraints", lent.constraints, CAUSES_CONSTRAINT_WORDS);
     print_bytes("formula", lent.formula, CAUSES_FORMULA_BYTES);
     print_bytes("names", lent.names, CAUSES_NAMES_BYTES);
+    printf("prices");
+    for (i = 0; i < CAUSES_PRICES; i++)
+        printf(" %" PRIu32, lent.prices[i]);
+    printf("\n");
 }
 
 static void plain_calls(uint64_t setting, size_t slots, size_t bytes, size_t out_bytes)
@@ -105,7 +111,7 @@ static void plain_calls(uint64_t setting, size_t slots, size_t bytes, size_t out
     blank();
     refusal = causes_question(found + 1, CAUSES_RECORD_WORDS, lent.clauses, CAUSES_CLAUSE_WORDS,
                               lent.constraints, CAUSES_CONSTRAINT_WORDS, lent.formula, CAUSES_FORMULA_BYTES,
-                              list, slots, work, bytes, answer, CAUSES_QUESTION_WORDS);
+                              lent.prices, CAUSES_PRICES, list, slots, work, bytes, answer, CAUSES_QUESTION_WORDS);
     print_verdicts(refusal, answer, CAUSES_QUERIES);
     print_words("answer", answer, CAUSES_QUESTION_WORDS);
     print_list(slots);
@@ -148,8 +154,8 @@ static void struct_calls(uint64_t setting, size_t slots, size_t bytes)
     refusal = causes_case_question(&lent, list, slots, work, bytes, &answer);
     print_verdicts(refusal, answer.verdicts, (size_t)answer.queries);
     print_words("verdicts", answer.verdicts, CAUSES_QUERIES);
-    printf("counts %" PRIu64 " %" PRIu64 " %" PRIu64 " %" PRIu64 "\n", answer.minimal, answer.listed, answer.rounds,
-           answer.decided);
+    printf("counts %" PRIu64 " %" PRIu64 " %" PRIu64 " %" PRIu64 " %" PRIu64 " %" PRIu64 "\n", answer.minimal,
+           answer.listed, answer.rounds, answer.decided, answer.cost, answer.cheapest);
     print_list(slots);
     print_bytes("work", work, bytes);
     refusal = causes_case_layers(&lent, &layering);
@@ -161,32 +167,34 @@ static void struct_calls(uint64_t setting, size_t slots, size_t bytes)
 static void short_calls(void)
 {
     uint64_t answer[CAUSES_LAYERS_WORDS];
-    size_t at, less[7];
+    size_t at, less[8];
     uint32_t refusal;
     printf("read %s\n", refusal_name(read_file()));
-    for (at = 0; at < 7; at++) {
+    for (at = 0; at < 8; at++) {
         memset(less, 0, sizeof less);
         less[at] = 1;
         refusal = causes_read(file, file_bytes, lent.clauses, CAUSES_CLAUSE_WORDS - less[0],
                               lent.constraints, CAUSES_CONSTRAINT_WORDS - less[1],
                               lent.formula, CAUSES_FORMULA_BYTES - less[2],
-                              lent.names, CAUSES_NAMES_BYTES - less[3], answer, CAUSES_READ_WORDS - less[4]);
+                              lent.names, CAUSES_NAMES_BYTES - less[3],
+                              lent.prices, CAUSES_PRICES - less[4], answer, CAUSES_READ_WORDS - less[5]);
         printf("%s", refusal_name(refusal));
         refusal = causes_settle(found + 1, CAUSES_RECORD_WORDS - less[3], lent.clauses, CAUSES_CLAUSE_WORDS - less[0],
                                 lent.constraints, CAUSES_CONSTRAINT_WORDS - less[1],
                                 lent.formula, CAUSES_FORMULA_BYTES - less[2], 0,
-                                answer, CAUSES_SETTLE_WORDS - less[4]);
+                                answer, CAUSES_SETTLE_WORDS - less[5]);
         printf(" %s", refusal_name(refusal));
         refusal = causes_question(found + 1, CAUSES_RECORD_WORDS - less[3], lent.clauses, CAUSES_CLAUSE_WORDS - less[0],
                                   lent.constraints, CAUSES_CONSTRAINT_WORDS - less[1],
-                                  lent.formula, CAUSES_FORMULA_BYTES - less[2], list, CAUSES_MINIMAL - less[5],
-                                  work, CAUSES_SETTINGS - less[6], answer, CAUSES_QUESTION_WORDS - less[4]);
+                                  lent.formula, CAUSES_FORMULA_BYTES - less[2],
+                                  lent.prices, CAUSES_PRICES - less[4], list, CAUSES_MINIMAL - less[6],
+                                  work, CAUSES_SETTINGS - less[7], answer, CAUSES_QUESTION_WORDS - less[5]);
         printf(" %s", refusal_name(refusal));
         refusal = causes_layers(found + 1, CAUSES_RECORD_WORDS - less[3], lent.clauses, CAUSES_CLAUSE_WORDS - less[0],
                                 lent.constraints, CAUSES_CONSTRAINT_WORDS - less[1],
-                                lent.formula, CAUSES_FORMULA_BYTES - less[2], answer, CAUSES_LAYERS_WORDS - less[4]);
+                                lent.formula, CAUSES_FORMULA_BYTES - less[2], answer, CAUSES_LAYERS_WORDS - less[5]);
         printf(" %s", refusal_name(refusal));
-        refusal = causes_report(file, file_bytes, out, CAUSES_REPORT_BYTES, answer, CAUSES_REPORT_WORDS - less[4]);
+        refusal = causes_report(file, file_bytes, out, CAUSES_REPORT_BYTES, answer, CAUSES_REPORT_WORDS - less[5]);
         printf(" %s\n", refusal_name(refusal));
     }
 }

@@ -136,7 +136,7 @@ fn every_length(tests: &mut Tests) {
 }
 
 /// A file with `causes` causes that must all be decided, so with a minimal explanation for each way to decide them.
-fn several(causes: usize) -> String {
+pub fn several(causes: usize) -> String {
     let body: Vec<String> = (0..causes).map(|i| format!("d{i}")).collect();
     let decided: String = (0..causes).map(|i| format!("(if d{i} c{i})\n(if d{i} (not c{i}))\n")).collect();
     format!("{decided}(if low {})\n(seen low)\n(query c0)\n", body.join(" "))

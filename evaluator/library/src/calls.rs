@@ -5,13 +5,15 @@
 //! | `Sizes` | how many entries are lent to reading |
 //! | `SETTLED_WORDS`, `ASKED_WORDS`, `LAYERS_WORDS` | how many words settling, the question and the layers answer |
 //! | `ROUNDS`, `DECIDED` | where the question answers the rounds and the decided total |
+//! | `COST`, `CHEAPEST` | where it answers the lowest cost and the setting that has it |
 //! | `ReadDue`, `QuestionDue` | the number, the answer's words and what is written; empty where nothing is touched |
 //! | `LayersDue` | the same of the layers, where a ring may be any |
 //! | `read`, `settle`, `question`, `layers` | make the call and give the complaints |
 //! | `settled_words`, `asked_words`, `layers_words` | make the call and give the words |
 
 use crate::due::Layering;
-use crate::held::{Held, ATOMS, CLAUSE_WORDS, CONSTRAINT_WORDS, FORMULA_BYTES, NAMES_BYTES, QUERIES, RECORD_WORDS};
+use crate::held::{Held, ATOMS, CLAUSE_WORDS, CONSTRAINT_WORDS, FORMULA_BYTES, NAMES_BYTES, PRICES};
+use crate::held::{QUERIES, RECORD_WORDS};
 use crate::lent::{Entry, Lent};
 use crate::tests::Complaints;
 use causes::raw;
@@ -23,6 +25,7 @@ pub struct Sizes {
     pub constraints: usize,
     pub formula: usize,
     pub names: usize,
+    pub prices: usize,
     pub answer: usize,
 }
 
@@ -33,6 +36,7 @@ impl Sizes {
         constraints: CONSTRAINT_WORDS,
         formula: FORMULA_BYTES,
         names: NAMES_BYTES,
+        prices: PRICES,
         answer: 1 + RECORD_WORDS,
     };
 }
@@ -40,10 +44,13 @@ impl Sizes {
 /// The words of settling's answer: the true atoms, the false atoms, the rounds and the number of decided atoms.
 pub const SETTLED_WORDS: usize = 4;
 
-/// The words of the question's answer: the verdicts, m, w, the rounds and the decided total.
-pub const ASKED_WORDS: usize = QUERIES + 4;
+/// The words of the question's answer: the verdicts, m, w, the rounds, the decided total, the lowest cost and the
+/// cheapest setting.
+pub const ASKED_WORDS: usize = QUERIES + 6;
 pub const ROUNDS: usize = QUERIES + 2;
 pub const DECIDED: usize = QUERIES + 3;
+pub const COST: usize = QUERIES + 4;
+pub const CHEAPEST: usize = QUERIES + 5;
 
 /// The words of the layers' answer: whether the case is layered, the number of entries, the entries.
 pub const LAYERS_WORDS: usize = 2 + ATOMS;
@@ -93,6 +100,7 @@ pub fn read(file: &[u8], sizes: Sizes, nowhere: bool, due: &ReadDue) -> Complain
     let mut constraints = lent(sizes.constraints, nowhere);
     let mut formula = lent(sizes.formula, nowhere);
     let mut names = lent(sizes.names, nowhere);
+    let mut prices = lent(sizes.prices, nowhere);
     let mut answer = lent(sizes.answer, nowhere);
     // SAFETY: each pointer comes with the number of entries that its own memory has.
     let got = unsafe {
@@ -107,6 +115,8 @@ pub fn read(file: &[u8], sizes: Sizes, nowhere: bool, due: &ReadDue) -> Complain
             formula.len(),
             names.at_mut(),
             names.len(),
+            prices.at_mut(),
+            prices.len(),
             answer.at_mut(),
             answer.len(),
         )
@@ -119,6 +129,7 @@ pub fn read(file: &[u8], sizes: Sizes, nowhere: bool, due: &ReadDue) -> Complain
         constraints.complaint("constraints", tables.map_or(&[], |t| &t.constraints)),
         formula.complaint("formula", tables.map_or(&[], |t| &t.formula)),
         names.complaint("names", tables.map_or(&[], |t| &t.names)),
+        prices.complaint("prices", tables.map_or(&[], |t| &t.prices)),
         answer.complaint("answer", &due.answer),
     ];
     complaints.into_iter().flatten().collect()
@@ -201,8 +212,14 @@ pub struct Room {
     pub answer: usize,
 }
 
-/// Asks the question of `case`; the number answered.
-fn call_question(case: &LentCase, list: &mut Lent<u16>, work: &mut Lent<u8>, answer: &mut Lent<u64>) -> u32 {
+/// Asks the question of `case` with `prices`; the number answered.
+fn call_question(
+    case: &LentCase,
+    prices: &Lent<u32>,
+    list: &mut Lent<u16>,
+    work: &mut Lent<u8>,
+    answer: &mut Lent<u64>,
+) -> u32 {
     // SAFETY: each pointer comes with the number of entries that its own memory has.
     unsafe {
         raw::causes_question(
@@ -214,6 +231,8 @@ fn call_question(case: &LentCase, list: &mut Lent<u16>, work: &mut Lent<u8>, ans
             case.constraints.len(),
             case.formula.at(),
             case.formula.len(),
+            prices.at(),
+            prices.len(),
             list.at_mut(),
             list.len(),
             work.at_mut(),
@@ -227,12 +246,14 @@ fn call_question(case: &LentCase, list: &mut Lent<u16>, work: &mut Lent<u8>, ans
 /// Asks the question of `held` with memory of the given sizes; a list without slots has the null pointer.
 pub fn question(held: &Held, room: Room, due: &QuestionDue) -> Complaints {
     let case = LentCase::of(held);
+    let prices = Lent::holding(&held.prices);
     let mut list = lent(room.list, true);
     let mut work = lent(room.work, false);
     let mut answer = lent(room.answer, false);
-    let got = call_question(&case, &mut list, &mut work, &mut answer);
+    let got = call_question(&case, &prices, &mut list, &mut work, &mut answer);
     let own = [
         other_number(due.refusal, got),
+        prices.complaint("prices", &[]),
         list.complaint("list", &due.list),
         work.complaint("work area", &due.work),
         answer.complaint("answer", &due.answer),
@@ -243,7 +264,8 @@ pub fn question(held: &Held, room: Room, due: &QuestionDue) -> Complaints {
 /// The words that the question of `held`, which has `settings` settings, is answered with.
 pub fn asked_words(held: &Held, settings: u64) -> Vec<u64> {
     let mut answer = Lent::blank(ASKED_WORDS);
-    call_question(&LentCase::of(held), &mut Lent::blank(0), &mut Lent::blank(settings as usize), &mut answer);
+    let (prices, mut work) = (Lent::holding(&held.prices), Lent::blank(settings as usize));
+    call_question(&LentCase::of(held), &prices, &mut Lent::blank(0), &mut work, &mut answer);
     answer.lent().to_vec()
 }
 

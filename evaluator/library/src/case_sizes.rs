@@ -4,7 +4,7 @@
 use crate::calls::{layers, question, settle, LayersDue, Room, ASKED_WORDS, LAYERS_WORDS, SETTLED_WORDS};
 use crate::drawn::{drawn, rich, strewn, word};
 use crate::due::{unanswered, unasked, Asking, Layering, Settling};
-use crate::held::{Held, CLAUSE_WORDS, CONSTRAINT_WORDS, FORMULAS, FORMULA_BYTES, RECORD_WORDS};
+use crate::held::{Held, CLAUSE_WORDS, CONSTRAINT_WORDS, FORMULAS, FORMULA_BYTES, PRICES, RECORD_WORDS};
 use crate::tests::Tests;
 use evaluator::random::Random;
 
@@ -56,6 +56,7 @@ fn resized(held: &Held, table: &str, length: usize) -> Held {
         "clauses" => other.clauses.resize_with(length, || word(&mut random)),
         "constraints" => other.constraints.resize_with(length, || word(&mut random)),
         "formula" => other.formula.resize_with(length, || word(&mut random) as u8),
+        "prices" => other.prices.resize_with(length, || word(&mut random) as u32),
         _ => other.record.resize_with(length, || word(&mut random)),
     }
     other
@@ -75,6 +76,24 @@ fn tables(tests: &mut Tests) {
             for length in size..size + 30 {
                 known.accepted(tests, &length.to_string(), &resized(&known.held, table, length));
             }
+        }
+    }
+}
+
+/// The table of prices, which the question alone is lent, at every length below its size and at some above.
+fn prices(tests: &mut Tests) {
+    tests.family("question: prices shorter than their size");
+    for known in (0..20).map(Known::of) {
+        for length in 0..PRICES {
+            let short = resized(&known.held, "prices", length);
+            tests.call(|| length.to_string(), question(&short, ROOM, &unasked(1)));
+        }
+    }
+    tests.family("question: prices longer than their size");
+    for known in (0..20).map(Known::of) {
+        for length in PRICES..PRICES + 30 {
+            let long = resized(&known.held, "prices", length);
+            tests.call(|| length.to_string(), question(&long, ROOM, &known.asking.due(ROOM.list)));
         }
     }
 }
@@ -148,6 +167,8 @@ fn order(tests: &mut Tests) {
             );
             tests.call(|| String::from("question, 1"), question(&short, room, &unasked(number)));
             tests.call(|| String::from("layers, 1"), layers(&short, LAYERS_WORDS, &LayersDue::Refused(number)));
+            let short = resized(held, "prices", PRICES - 1);
+            tests.call(|| String::from("question, 63 prices"), question(&short, room, &unasked(number)));
         }
         tests.call(|| String::from("settle, 13"), settle(&unsound, u64::MAX, SETTLED_WORDS, (13, &[0; SETTLED_WORDS])));
         tests.call(|| String::from("question, 13"), question(&unsound, room, &unasked(13)));
@@ -163,6 +184,7 @@ fn order(tests: &mut Tests) {
 /// All families by size.
 pub fn run(tests: &mut Tests) {
     tables(tests);
+    prices(tests);
     records(tests);
     answers(tests);
     order(tests);

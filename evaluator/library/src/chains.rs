@@ -40,6 +40,7 @@ impl Chain {
             constraints: Vec::new(),
             observations: Vec::new(),
             queries: vec![Formula::Atom(0)],
+            prices: vec![0; self.atoms],
         }
     }
 

@@ -16,8 +16,8 @@ use evaluator::answer::LIST_SLOTS;
 use evaluator::file::{self, ATOMS, CAUSES, CLAUSES, CONSTRAINTS, FILE_BYTES, NAME_BYTES, QUERIES};
 use std::path::Path;
 
-/// Document 01's refusals.
-pub const REFUSALS: [(&str, u32); 16] = [
+/// The refusals of documents 01 and 02.
+pub const REFUSALS: [(&str, u32); 18] = [
     ("SHORT", 1),
     ("LONG_FILE", 2),
     ("LONG_LINE", 3),
@@ -33,6 +33,8 @@ pub const REFUSALS: [(&str, u32); 16] = [
     ("UNSOUND", 13),
     ("NO_SETTING", 14),
     ("SHORT_WORK", 15),
+    ("HIGH_PRICE", 16),
+    ("SECOND_COST", 17),
     ("SHORT_OUTPUT", 19),
 ];
 
@@ -62,14 +64,15 @@ fn most_minimal() -> u64 {
     most
 }
 
-/// The bytes of a report that has the longest of each line.
+/// The bytes of a report that has the longest of each line, and any 64-bit number as its cost, rounded up to tens.
 fn longest_report() -> u64 {
     let most = 3u64.pow(CAUSES as u32) * ATOMS as u64;
     let verdicts = "(verdict unexplained)\n".repeat(QUERIES);
     let sums = format!("(rounds {most})\n(decided {most})\n");
     let head = format!("{verdicts}{sums}(minimal {} {LIST_SLOTS})\n", most_minimal());
     let cause = format!("(cause{})\n", format!(" (false {})", "n".repeat(NAME_BYTES)).repeat(CAUSES));
-    (head.len() + LIST_SLOTS * cause.len()) as u64
+    let cheapest = format!("(cheapest {})\n", u64::MAX);
+    (head.len() + LIST_SLOTS * cause.len() + cheapest.len()).next_multiple_of(10) as u64
 }
 
 /// Each constant and its value.
@@ -86,6 +89,7 @@ pub fn due() -> Vec<(&'static str, u64)> {
         ("QUERIES", QUERIES as u64),
         ("NAMES_BYTES", (ATOMS * NAME_BYTES) as u64),
         ("NAME_BYTES", NAME_BYTES as u64),
+        ("PRICES", Held::zeros().prices.len() as u64),
         ("ATOMS", ATOMS as u64),
         ("FACT", kind("(true a)")),
         ("ASSUMPTION", kind("(false a)")),
@@ -122,13 +126,14 @@ pub fn due() -> Vec<(&'static str, u64)> {
 }
 
 /// The constants of the Rust module's sizes.
-const SIZES: [(&str, usize); 13] = [
+const SIZES: [(&str, usize); 14] = [
     ("CLAUSE_WORDS", sizes::CLAUSE_WORDS),
     ("CONSTRAINT_WORDS", sizes::CONSTRAINT_WORDS),
     ("FORMULA_BYTES", sizes::FORMULA_BYTES),
     ("PART_BYTES", sizes::PART_BYTES),
     ("NAMES_BYTES", sizes::NAMES_BYTES),
     ("NAME_BYTES", sizes::NAME_BYTES),
+    ("PRICES", sizes::PRICES),
     ("ATOMS", sizes::ATOMS),
     ("RECORD_WORDS", sizes::RECORD_WORDS),
     ("QUERIES", sizes::QUERIES),

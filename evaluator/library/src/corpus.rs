@@ -84,6 +84,7 @@ pub const EACH: &[u8] = b"; each table
 (never stopped (not fan))
 (avoid stopped (not ab))
 (seen (not low))
+(cost stopped 1050 33)
 (seen fan)
 (query (then (or shut low) (same stopped (not ab))))
 (query (not fan))
@@ -110,9 +111,13 @@ pub fn refused_files() -> Vec<(u32, u64, Vec<u8>)> {
         (5, 2, query.clone() + "(seen (not (not low)))\n"),
         (5, 1, String::from("(query\nlow)")),
         (5, 3, query.clone() + &long_comment + "(\n"),
+        (5, 2, query.clone() + "(cost low 10000000 0)\n"),
+        (5, 2, query.clone() + "(cost low 7)\n"),
         (6, 2, query.clone() + "(true a1234567890123456)\n"),
+        (6, 2, query.clone() + "(cost a1234567890123456 1000001 0)\n"),
         (7, 2, String::from("(true low)\n") + &deep(17)),
         (8, 65, lines(65, "(true n#)") + "(query n0)\n"),
+        (8, 65, lines(65, "(cost n# 1000000 100)") + "(query n0)\n"),
         (9, 257, lines(300, "(true low)") + &query),
         (9, 34, query.clone() + &lines(40, "(never low)")),
         (9, 34, query.clone() + &lines(40, "(avoid low)")),
@@ -124,6 +129,12 @@ pub fn refused_files() -> Vec<(u32, u64, Vec<u8>)> {
         (11, 0, ";".repeat(32_768)),
         (11, 0, lines(20, "(seen c#)")),
         (12, 0, query.clone() + &lines(10, "(seen c#)")),
+        (12, 0, query.clone() + &lines(10, "(cost c# 0 0)")),
+        (16, 2, query.clone() + "(cost low 1000001 0)\n"),
+        (16, 3, query.clone() + "(cost low 1000000 100)\n(cost high 0 101)\n(\n"),
+        (16, 3, query.clone() + "(cost low 0 0)\n(cost low 9999999 9999999)\n"),
+        (17, 3, query.clone() + "(cost low 0 0)\n(cost low 1 0)\n"),
+        (17, 5, query.clone() + "(cost low 7 7)\n(cost high 7 7)\n;\n(cost low 7 7)\n(\n"),
     ];
     rows.into_iter().map(|(number, line, text)| (number, line, text.into_bytes())).collect()
 }

@@ -5,10 +5,11 @@
 //! | `Shape` | how many of each thing a case has, and the most nodes of a query |
 //! | `small`, `rich` | shapes for many cases; a rich one has each kind of entry |
 //! | `drawn` | a case of a shape |
+//! | `prices` | prices of atoms, in one of several ranges |
 //! | `strewn` | a case's tables with garbage in the entries past the counts |
 //! | `sized`, `deep` | a formula of so many nodes; one of so great a depth |
 
-use crate::held::{Held, NODES, PART_BYTES, QUERIES};
+use crate::held::{Held, NODES, PART_BYTES, PRICES, QUERIES};
 use evaluator::case::{Body, Case, Clause};
 use evaluator::constraint::{Constraint, KINDS};
 use evaluator::formula::{Connective, Formula, Literal};
@@ -108,6 +109,12 @@ fn constraint(random: &mut Random, atoms: usize) -> Constraint {
     Constraint { kind: *random.pick(&KINDS), body: body(random, atoms) }
 }
 
+/// Prices of `atoms` atoms: none, few that differ, what a line can give, or any 32-bit numbers.
+pub fn prices(random: &mut Random, atoms: usize) -> Vec<u32> {
+    let most = *random.pick(&[0, 1, 2, 2_000_000, u32::MAX]);
+    (0..atoms).map(|_| random.between(0, most as usize) as u32).collect()
+}
+
 /// A case of the shape `shape`.
 pub fn drawn(random: &mut Random, shape: Shape) -> Case {
     let Shape { atoms, causes, .. } = shape;
@@ -128,7 +135,7 @@ pub fn drawn(random: &mut Random, shape: Shape) -> Case {
         let nodes = if left == 0 { shape.nodes } else { random.between(1, shape.nodes) };
         queries.push(sized(random, atoms, nodes));
     }
-    Case { names, clauses, constraints, observations, queries }
+    Case { names, clauses, constraints, observations, queries, prices: prices(random, atoms) }
 }
 
 /// A word of drawn bits, now and then a small number or all ones.
@@ -140,11 +147,12 @@ pub fn word(random: &mut Random) -> u64 {
     }
 }
 
-/// `held` with drawn entries past its counts: in each part of the formula table behind its nodes, and in the parts and
-/// the node counts past the formulas.
+/// `held` with drawn entries past its counts: in each part of the formula table behind its nodes, in the parts and the
+/// node counts past the formulas, and in the prices past the atoms.
 pub fn strewn(random: &mut Random, held: &Held) -> Held {
     let mut other = held.clone();
-    let [_, clauses, constraints, ..] = held.record[..] else { panic!("a record") };
+    let [atoms, clauses, constraints, ..] = held.record[..] else { panic!("a record") };
+    other.prices[PRICES.min(atoms as usize)..].fill_with(|| word(random) as u32);
     other.clauses[3 * clauses as usize..].fill_with(|| word(random));
     other.constraints[3 * constraints as usize..].fill_with(|| word(random));
     other.record[NODES + held.formulas()..].fill_with(|| word(random));

@@ -96,9 +96,10 @@ impl Asking {
             work[*s] = 2;
         }
         let counts = [self.minimal() as u64, listed as u64, self.findings.rounds, self.findings.decided];
+        let cheapest = [self.findings.cheapest.cost, self.findings.cheapest.setting as u64];
         QuestionDue {
             refusal: 0,
-            answer: padded(self.verdicts(), QUERIES).into_iter().chain(counts).collect(),
+            answer: padded(self.verdicts(), QUERIES).into_iter().chain(counts).chain(cheapest).collect(),
             list: self.findings.minimal[..listed].iter().map(|s| *s as u16).collect(),
             work,
         }

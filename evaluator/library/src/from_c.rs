@@ -110,6 +110,7 @@ fn table_lines(tables: &Held) -> String {
         + &line("constraints", &tables.constraints)
         + &line("formula", &tables.formula)
         + &line("names", &tables.names)
+        + &line("prices", &tables.prices)
 }
 
 /// The tables that a reading with `due` leaves, which were full of `BYTE`.
@@ -119,6 +120,7 @@ fn left(due: &crate::calls::ReadDue) -> Held {
     untouched.constraints.fill(u64::from_ne_bytes([BYTE; 8]));
     untouched.formula.fill(BYTE);
     untouched.names.fill(BYTE);
+    untouched.prices.fill(u32::from_ne_bytes([BYTE; 4]));
     due.tables.clone().unwrap_or(untouched)
 }
 
@@ -236,7 +238,8 @@ fn short(tests: &mut Tests, program: &Path) {
     tests.family("C: memory one element short");
     let row = |answers: [u32; 5]| line(refusal(answers[0]), answers[1..].iter().map(|number| refusal(*number)));
     let tables = row([1, 1, 1, 1, 0]);
-    let due = line("read", ["none"]) + &tables.repeat(4) + &row([1; 5]) + &row([0; 5]).repeat(2);
+    let prices = row([1, 0, 1, 0, 0]);
+    let due = line("read", ["none"]) + &tables.repeat(4) + &prices + &row([1; 5]) + &row([0; 5]).repeat(2);
     for file in [M4, EACH] {
         tests.call(|| String::from("short"), compared(program, &[String::from("short")], file, due.as_bytes()));
     }

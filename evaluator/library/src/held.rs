@@ -1,6 +1,6 @@
 //! The record and the tables that hold a case, made from the evaluator's case and read back.
 //!
-//! From: document 01, Case tables and sound cases; document 02, [1], [5].
+//! From: document 01, Case tables and sound cases; document 02, [1], [5], [7].
 //!
 //! | name | meaning |
 //! |---|---|
@@ -21,6 +21,7 @@ pub const QUERIES: usize = 16;
 pub const PART_BYTES: usize = 128;
 pub const FORMULA_BYTES: usize = QUERIES * PART_BYTES;
 pub const NAMES_BYTES: usize = 1_024;
+pub const PRICES: usize = 64;
 pub const RECORD_WORDS: usize = 22;
 
 pub const FORMULAS: usize = 3;
@@ -35,6 +36,7 @@ pub struct Held {
     pub constraints: Vec<u64>,
     pub formula: Vec<u8>,
     pub names: Vec<u8>,
+    pub prices: Vec<u32>,
 }
 
 /// The plain and the negated atoms of `literals`, bit i for atom i.
@@ -137,6 +139,7 @@ impl Held {
             constraints: padded(case.constraints.iter().flat_map(constraint_words).collect(), CONSTRAINT_WORDS),
             formula: padded(parts, FORMULA_BYTES),
             names: padded(case.names.iter().flat_map(row).collect(), NAMES_BYTES),
+            prices: padded(case.prices.clone(), PRICES),
         }
     }
 
@@ -148,6 +151,7 @@ impl Held {
             constraints: vec![0; CONSTRAINT_WORDS],
             formula: vec![0; FORMULA_BYTES],
             names: vec![0; NAMES_BYTES],
+            prices: vec![0; PRICES],
         }
     }
 
@@ -163,6 +167,7 @@ impl Held {
             constraints: self.constraints.clone(),
             formulas: self.formula.clone(),
             names: self.names.clone(),
+            prices: self.prices.clone(),
         }
     }
 
@@ -199,6 +204,7 @@ impl Held {
             queries: (0..self.formulas())
                 .map(|q| formula(&self.formula[q * PART_BYTES..][..self.nodes(q)]).0)
                 .collect(),
+            prices: self.prices[..count(0)].to_vec(),
         }
     }
 }

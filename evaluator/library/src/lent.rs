@@ -28,6 +28,12 @@ impl Entry for u16 {
     }
 }
 
+impl Entry for u32 {
+    fn pattern(i: usize) -> u32 {
+        0xd69c_0000 | (i * 193 % 0xffff) as u32
+    }
+}
+
 impl Entry for u64 {
     fn pattern(i: usize) -> u64 {
         0xa5c3_96f0_5a3c_0000 + (i as u64 * 0x1_0001)

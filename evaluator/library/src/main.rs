@@ -8,7 +8,7 @@
 //! | corpus, drawn | files, and cases that no file need give |
 //! | reading, read_sizes | reading |
 //! | settling, asking, layering, case_sizes | settling, the question, the layers |
-//! | marked, chains | M1 to M10 with their tables, and chains of atoms, worked out by hand |
+//! | marked, chains, pricing | M1 to M10 with their tables, chains of atoms, and prices, worked out by hand |
 //! | vectors | operations that stand in files with their answers |
 //! | breaches, unsound, limits | each phrase of soundness broken alone, and each limit met |
 //! | fences | calls with the fence in front |
@@ -37,6 +37,7 @@ mod meanings;
 mod outside;
 mod owned;
 mod pages;
+mod pricing;
 mod read_sizes;
 mod reading;
 mod refusals;
@@ -67,6 +68,7 @@ fn main() -> ExitCode {
     settling::run(&mut tests, &folder);
     marked::run(&mut tests, &folder);
     chains::run(&mut tests);
+    pricing::run(&mut tests);
     asking::run(&mut tests, &folder);
     layering::run(&mut tests, &folder);
     case_sizes::run(&mut tests);

@@ -1,10 +1,10 @@
 //! Families of M1 to M10, and of M6 with `avoid`, read into tables that are worked out by hand; settled, asked and
 //! layered from these.
 //!
-//! From: document 01, Ten marked files; Case tables and sound cases; document 02, [5], [6].
+//! From: document 01, Ten marked files; Case tables and sound cases; document 02, [5], [6], [7].
 
 use crate::calls::{layers, question, read, settle, LayersDue, ReadDue, Room, Sizes};
-use crate::calls::{ASKED_WORDS, DECIDED, LAYERS_WORDS, ROUNDS, SETTLED_WORDS};
+use crate::calls::{ASKED_WORDS, CHEAPEST, COST, DECIDED, LAYERS_WORDS, ROUNDS, SETTLED_WORDS};
 use crate::corpus::stored;
 use crate::due::{self, Asking, Layering, Settling};
 use crate::held::{Held, NODES};
@@ -97,12 +97,13 @@ fn held((_, record, clauses, constraints, formula, names, _): Marked) -> Held {
 /// Reads each file, in memory of its sizes and with two entries past each.
 fn reads(tests: &mut Tests, folder: &Path) {
     tests.family("read: M1 to M10, tables by hand");
-    let Sizes { clauses, constraints, formula, names, answer } = Sizes::FULL;
+    let Sizes { clauses, constraints, formula, names, prices, answer } = Sizes::FULL;
     let longer = Sizes {
         clauses: clauses + 2,
         constraints: constraints + 2,
         formula: formula + 2,
         names: names + 2,
+        prices: prices + 2,
         answer: answer + 2,
     };
     for (row, input) in MARKED.into_iter().zip(stored(folder, "marked")) {
@@ -149,6 +150,9 @@ fn questions(tests: &mut Tests) {
         tests.require(&format!("{}: the evaluator's list", row.0), own == (list, list.len(), vec![verdict]));
         let sums = (due.answer[ROUNDS], due.answer[DECIDED]);
         tests.require(&format!("{}: the evaluator's sums", row.0), sums == (row.6, decided.iter().sum()));
+        let cheapest = (due.answer[COST], due.answer[CHEAPEST]);
+        let first = list.first().map_or(0, |setting| u64::from(*setting));
+        tests.require(&format!("{}: the evaluator's cheapest", row.0), cheapest == (0, first));
         let room = Room { list: 2, work: asking.settings(), answer: ASKED_WORDS };
         tests.call(|| String::from(row.0), question(&held, room, &due));
     }

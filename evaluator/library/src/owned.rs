@@ -1,6 +1,6 @@
 //! Families of the Rust module's case, which owns its record and tables, and of its report.
 
-use crate::calls::{layers_words, DECIDED, ROUNDS};
+use crate::calls::{layers_words, CHEAPEST, COST, DECIDED, ROUNDS};
 use crate::corpus::{stored, Input};
 use crate::due::{Asking, Layering, Settling};
 use crate::held::Held;
@@ -40,9 +40,11 @@ fn read(said: &evaluator::case::Case, case: &Case) -> Complaints {
         differing(held.constraints.as_slice(), &tables.constraints),
         differing(held.formula.as_slice(), &tables.formula),
         differing(held.names.as_slice(), &tables.names),
+        differing(held.prices.as_slice(), &tables.prices),
         differing(names.clone(), case.names().collect()),
         differing(names.last().copied(), case.name(names.len() - 1)),
         differing(None, case.name(names.len())),
+        differing(said.prices.clone(), (0..).map_while(|atom| case.price(atom)).collect()),
         differing(found, case.causes()),
         differing(settings, case.settings()),
     ]
@@ -87,11 +89,13 @@ fn asked(said: &evaluator::case::Case, case: &Case) -> Complaints {
     let lines: Vec<String> = got.explanations.iter().map(|e| e.to_string()).collect();
     let due_lines: Vec<String> = due.list.iter().map(|s| line(said, usize::from(*s))).collect();
     let verdicts: Vec<u64> = got.verdicts.iter().map(|verdict| *verdict as u64).collect();
+    let cheapest = (asking.minimal() > 0).then(|| line(said, due.answer[CHEAPEST] as usize));
     let named = got.explanations.iter().all(|e| e.causes.iter().all(|c| said.names.iter().any(|n| n == c.name)));
     [
         differing(asking.verdicts(), verdicts),
         differing(due.answer[0], got.verdict() as u64),
         differing((due.answer[ROUNDS], due.answer[DECIDED]), (got.rounds, got.decided)),
+        differing((due.answer[COST], cheapest), (got.cost, got.cheapest.map(|e| e.to_string()))),
         differing(due.list.iter().map(|s| u64::from(*s)).collect(), settings),
         differing(due_lines, lines),
         differing(true, named),

@@ -12,12 +12,13 @@ const DRAWN: u64 = 3_000;
 /// A table's name, its size, and the sizes with another one for it.
 type Table = (&'static str, usize, fn(usize) -> Sizes);
 
-/// The four tables.
-const TABLES: [Table; 4] = [
+/// The five tables.
+const TABLES: [Table; 5] = [
     ("clauses", Sizes::FULL.clauses, |clauses| Sizes { clauses, ..Sizes::FULL }),
     ("constraints", Sizes::FULL.constraints, |constraints| Sizes { constraints, ..Sizes::FULL }),
     ("formula", Sizes::FULL.formula, |formula| Sizes { formula, ..Sizes::FULL }),
     ("names", Sizes::FULL.names, |names| Sizes { names, ..Sizes::FULL }),
+    ("prices", Sizes::FULL.prices, |prices| Sizes { prices, ..Sizes::FULL }),
 ];
 
 /// What is due where the answer's words are too few.
@@ -27,7 +28,8 @@ fn untouched() -> ReadDue {
 
 /// Files that are read, refused at a line, refused at the end and refused for their length.
 fn files() -> Vec<Vec<u8>> {
-    let refused = refused_files().into_iter().filter(|(n, _, _)| [2, 5, 12].contains(n)).map(|(_, _, file)| file);
+    let numbers = [2, 5, 12, 16, 17];
+    let refused = refused_files().into_iter().filter(|(n, _, _)| numbers.contains(n)).map(|(_, _, file)| file);
     [M4.to_vec(), EACH.to_vec()].into_iter().chain(refused).collect()
 }
 
@@ -88,13 +90,15 @@ fn drawn_sizes(tests: &mut Tests) {
             constraints: near(Sizes::FULL.constraints),
             formula: near(Sizes::FULL.formula),
             names: near(Sizes::FULL.names),
+            prices: near(Sizes::FULL.prices),
             answer: near(Sizes::FULL.answer),
         };
         let file = random.pick(&files);
         let full = sizes.clauses >= Sizes::FULL.clauses
             && sizes.constraints >= Sizes::FULL.constraints
             && sizes.formula >= Sizes::FULL.formula
-            && sizes.names >= Sizes::FULL.names;
+            && sizes.names >= Sizes::FULL.names
+            && sizes.prices >= Sizes::FULL.prices;
         let due = match (sizes.answer < Sizes::FULL.answer, full) {
             (true, _) => untouched(),
             (false, false) => due::refused(1, 0),

@@ -22,6 +22,7 @@ fn files(tests: &mut Tests, name: &str, inputs: &[Input]) {
             constraints: Sizes::FULL.constraints + 1 + at % 3,
             formula: Sizes::FULL.formula + 1 + at % 5,
             names: Sizes::FULL.names + 1 + at % 17,
+            prices: Sizes::FULL.prices + 1 + at % 6,
             answer: Sizes::FULL.answer + 1 + at % 2,
         };
         tests.call(|| format!("{} {longer:?}", input.name), read(&input.bytes, longer, false, &due));
@@ -148,7 +149,7 @@ fn comments(tests: &mut Tests) {
 
 /// For each refusal from 2 on the files that get it, with the line worked out by hand.
 fn refusals(tests: &mut Tests) {
-    for number in 2..=12 {
+    for number in (2..=12).chain([16, 17]) {
         tests.family(&format!("read: refusal {number}"));
         for (_, line, file) in refused_files().into_iter().filter(|(n, _, _)| *n == number) {
             let due = due::refused(number, line);
@@ -160,6 +161,7 @@ fn refusals(tests: &mut Tests) {
                     constraints: Sizes::FULL.constraints + more,
                     formula: Sizes::FULL.formula + more,
                     names: Sizes::FULL.names + more,
+                    prices: Sizes::FULL.prices + more,
                     answer: Sizes::FULL.answer + more,
                 };
                 tests.call(|| format!("line {line}, {sizes:?}"), read(&file, sizes, false, &due));

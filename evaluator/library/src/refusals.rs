@@ -25,11 +25,13 @@ fn named(name: &str) -> Refusal {
         "UNSOUND" => Refusal::Unsound,
         "NO_SETTING" => Refusal::NoSetting,
         "SHORT_WORK" => Refusal::ShortWork,
+        "HIGH_PRICE" => Refusal::HighPrice { line },
+        "SECOND_COST" => Refusal::SecondCost { line },
         _ => Refusal::ShortOutput,
     }
 }
 
-/// Each refusal of document 01, and a number that is none.
+/// Each refusal of documents 01 and 02, and a number that is none.
 fn refusals(tests: &mut Tests, root: &Path) {
     tests.family("refusals of the Rust module");
     let section = section(root);
@@ -37,7 +39,7 @@ fn refusals(tests: &mut Tests, root: &Path) {
         let what = || format!("{name}, {number}");
         let got = Refusal::from_number(number, 7);
         tests.call(what, differing(named(name), got));
-        let line = (3..=10).contains(&number).then_some(7);
+        let line = ((3..=10).contains(&number) || [16, 17].contains(&number)).then_some(7);
         tests.call(what, differing((number, line), (got.number(), got.line())));
         let text = meaning(&section, number).unwrap_or_default();
         tests.require(&format!("the manual's meaning of {number}"), !text.is_empty());
@@ -45,7 +47,7 @@ fn refusals(tests: &mut Tests, root: &Path) {
         let place = if line.is_some() { " in line 7" } else { "" };
         tests.call(what, differing(format!("refused with {number}{place}: {text}"), got.to_string()));
     }
-    for number in [16, 17, 18, 20, 99] {
+    for number in [18, 20, 21, 99] {
         let got = Refusal::from_number(number, 3);
         let due = Refusal::Other { number, line: 3 };
         tests.call(|| number.to_string(), differing((due, number, Some(3)), (got, got.number(), got.line())));

@@ -7,9 +7,10 @@ use crate::tests::{differing, Tests};
 use causes::lent::{self, Record, Tables};
 use causes::Refusal;
 use evaluator::check::vector_files;
+use evaluator::cost::Cheapest;
 use evaluator::file;
 use evaluator::held::{self, Held};
-use evaluator::plain::{Answered, Operation};
+use evaluator::plain::{Answered, Operation, Sums};
 use evaluator::vectors::{Subject, Vector};
 use std::collections::BTreeMap;
 use std::path::{Path, PathBuf};
@@ -33,6 +34,7 @@ impl Lent {
         tables.constraints.copy_from_slice(&held.constraints);
         tables.formula.copy_from_slice(&held.formulas);
         tables.names.copy_from_slice(&held.names);
+        tables.prices.copy_from_slice(&held.prices);
         Lent { record, tables }
     }
 
@@ -51,6 +53,7 @@ impl Lent {
             constraints: self.tables.constraints.to_vec(),
             formulas: self.tables.formula.to_vec(),
             names: self.tables.names.to_vec(),
+            prices: self.tables.prices.to_vec(),
         }
     }
 
@@ -75,8 +78,9 @@ impl Lent {
         let a = lent::question(&self.record, &self.tables, &mut list, &mut work)?;
         list.truncate(a.listed);
         let verdicts = a.verdicts().iter().map(|verdict| *verdict as u64).collect();
-        let (minimal, rounds, decided) = (a.minimal as usize, a.rounds, a.decided);
-        Ok(Answered::Asked { verdicts, minimal, rounds, decided, list, work })
+        let cheapest = Cheapest { cost: a.cost, setting: a.cheapest as usize };
+        let sums = Sums { rounds: a.rounds, decided: a.decided, cheapest };
+        Ok(Answered::Asked { verdicts, minimal: a.minimal as usize, sums, list, work })
     }
 }
 

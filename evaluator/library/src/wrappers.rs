@@ -21,6 +21,7 @@ pub fn tables(held: &Held) -> Tables {
     tables.constraints.copy_from_slice(&held.constraints);
     tables.formula.copy_from_slice(&held.formula);
     tables.names.copy_from_slice(&held.names);
+    tables.prices.copy_from_slice(&held.prices);
     tables
 }
 
@@ -50,6 +51,7 @@ fn reads(tests: &mut Tests, inputs: &[Input]) {
     for input in inputs {
         let mut got = Tables::new();
         got.names.fill(7);
+        got.prices.fill(7);
         let before = got.clone();
         let read = lent::read(&input.bytes, &mut got);
         let due = due::read(&input.bytes);
@@ -99,7 +101,8 @@ fn cases(tests: &mut Tests, inputs: &[Input]) {
         let got = lent::question(&record, &tables, &mut list, &mut work);
         let shown = got.map(|a| {
             let verdicts: Vec<u64> = a.verdicts().iter().map(|verdict| *verdict as u64).collect();
-            [padded(verdicts, QUERIES), vec![a.minimal, a.listed as u64, a.rounds, a.decided]].concat()
+            let counts = vec![a.minimal, a.listed as u64, a.rounds, a.decided, a.cost, a.cheapest];
+            [padded(verdicts, QUERIES), counts].concat()
         });
         tests.call(name, differing(Ok(asking.verdicts().len()), got.map(|a| a.verdicts().len())));
         let listed = due.list.len();

@@ -1,5 +1,6 @@
-//! Answers M4 of document 01: reads the case, asks its question, prints settings, rounds, decided atoms and verdict,
-//! then the report. The exit status is 1 where an answer is not that of documents 01 and 02.
+//! Answers M4 of document 01 with prices: reads the case, asks its question, prints settings, rounds, decided atoms, the
+//! cheapest explanation and the verdict, then the report. The exit status is 1 where an answer is not that of documents
+//! 01 and 02.
 
 use causes::{Case, Refusal, Verdict};
 use std::process::ExitCode;
@@ -10,6 +11,8 @@ const FILE: &[u8] = b"(if low shut (not ab1))
 (false ab2)
 (seen low)
 (query shut)
+(cost shut 9000 50)
+(cost stopped 4000 0)
 ";
 
 const REPORT: &[u8] = b"(verdict open)
@@ -18,15 +21,24 @@ const REPORT: &[u8] = b"(verdict open)
 (minimal 2 2)
 (cause (true shut))
 (cause (true stopped))
+(cheapest 4000)
 ";
 
-/// Asks the file's question; whether the answer is list 1, 3; rounds 15; decided 36; open.
+/// Asks the file's question; whether the answer is list 1, 3; rounds 15; decided 36; setting 3 for 4000 cents; open.
 fn question_answered() -> Result<bool, Refusal> {
     let case = Case::read(FILE)?;
     let answer = case.question();
     let list: Vec<u64> = answer.explanations.iter().map(|explanation| explanation.setting).collect();
-    println!("list: {list:?}\nrounds: {}\ndecided: {}\nverdict: {}", answer.rounds, answer.decided, answer.verdict());
-    Ok(answer.verdicts == [Verdict::Open] && answer.rounds == 15 && answer.decided == 36 && list == [1, 3])
+    println!("list: {list:?}\nrounds: {}\ndecided: {}", answer.rounds, answer.decided);
+    if let Some(cheapest) = &answer.cheapest {
+        println!("cheapest: {cheapest} for {}", answer.cost);
+    }
+    println!("verdict: {}", answer.verdict());
+    let cheapest = answer.cheapest.map(|explanation| explanation.setting);
+    Ok(answer.verdicts == [Verdict::Open]
+        && (answer.rounds, answer.decided) == (15, 36)
+        && (answer.cost, cheapest) == (4000, Some(3))
+        && list == [1, 3])
 }
 
 /// Prints the file's report; whether it is that of documents 01 and 02.

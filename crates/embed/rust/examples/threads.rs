@@ -27,6 +27,7 @@ fn calls(file: &[u8]) -> io::Result<Result<usize, Refusal>> {
     let report = in_thread(stack::REPORT, || causes::report(file))?;
     println!("{} rounds, the last setting {:?}", answer.rounds, settled.map(|s| s.rounds));
     println!("{} decided atoms, the last setting {:?}", answer.decided, settled.map(|s| s.decided));
+    println!("{} cents for the cheapest explanation", answer.cost);
     println!("layered: {:?}", layers.map(|l| l.numbers().is_some()));
     Ok(report.map(|text| text.len()))
 }

@@ -15,6 +15,10 @@ pub struct Answer<'a> {
     pub decided: u64,
     /// All minimal explanations, by rising number of their setting.
     pub explanations: Vec<Explanation<'a>>,
+    /// The lowest cost among them, in cents; 0 if there is none.
+    pub cost: u64,
+    /// The first of them that has this cost; none if there is none. No other explanation costs less.
+    pub cheapest: Option<Explanation<'a>>,
 }
 
 impl Answer<'_> {

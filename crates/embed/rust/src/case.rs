@@ -26,7 +26,7 @@ pub struct Case {
 }
 
 impl Case {
-    /// Reads a case file. Refuses with 2 to 12.
+    /// Reads a case file. Refuses with 2 to 12, 16 and 17.
     pub fn read(file: &[u8]) -> Result<Case, Refusal> {
         let mut tables = Box::new(Tables::new());
         let record = lent::read(file, &mut tables)?;
@@ -54,6 +54,17 @@ impl Case {
         (0..self.record.atoms as usize).map_while(|atom| self.name(atom))
     }
 
+    /// The price of the atom `atom` in cents, with its supplement, none if the case has no such atom.
+    ///
+    /// ```
+    /// let case = causes::Case::read(b"(query shut)\n(query stopped)\n(cost shut 1050 33)\n")?;
+    /// assert_eq!([case.price(0), case.price(1), case.price(2)], [Some(1397), Some(0), None]);
+    /// # Ok::<(), causes::Refusal>(())
+    /// ```
+    pub fn price(&self, atom: usize) -> Option<u32> {
+        (atom < self.record.atoms as usize).then(|| self.tables.prices[atom])
+    }
+
     /// The causes, that is the atoms that head no clause, in atom order.
     pub fn causes(&self) -> Vec<usize> {
         let clauses = self.tables.clauses.chunks_exact(3).take(self.record.clauses as usize);
@@ -71,16 +82,30 @@ impl Case {
         lent::settle(&self.record, &self.tables, setting)
     }
 
-    /// Answers the question, with a verdict for each query and all minimal explanations.
+    /// Answers the question, with a verdict for each query, all minimal explanations and the cheapest of them.
+    ///
+    /// ```
+    /// let case = causes::Case::read(b"(if low shut)\n(if low off)\n(seen low)\n(query off)\n(cost shut 900 50)\n")?;
+    /// let answer = case.question();
+    /// assert_eq!(answer.cost, 0);
+    /// assert_eq!(answer.cheapest.map(|explanation| explanation.to_string()).as_deref(), Some("(cause (true off))"));
+    /// # Ok::<(), causes::Refusal>(())
+    /// ```
     pub fn question(&self) -> Answer<'_> {
         let mut list = vec![0; MINIMAL];
         let mut work = vec![0; self.settings() as usize];
         let answer = lent::question(&self.record, &self.tables, &mut list, &mut work)
             .expect("a case that was read is sound, and the work area has a byte for each setting");
         let causes = self.causes();
-        let explanations =
-            list[..answer.listed].iter().map(|setting| self.named(&causes, u64::from(*setting))).collect();
-        Answer { verdicts: answer.verdicts().to_vec(), rounds: answer.rounds, decided: answer.decided, explanations }
+        let listed = list[..answer.listed].iter();
+        Answer {
+            verdicts: answer.verdicts().to_vec(),
+            rounds: answer.rounds,
+            decided: answer.decided,
+            explanations: listed.map(|setting| self.named(&causes, u64::from(*setting))).collect(),
+            cost: answer.cost,
+            cheapest: (answer.minimal > 0).then(|| self.named(&causes, answer.cheapest)),
+        }
     }
 
     /// The least number of each atom, or a ring of rules where there are no numbers.
@@ -135,11 +160,11 @@ impl Case {
     }
 }
 
-/// The report of a case file: the answer that the program `causes` writes. Refuses with 2 to 12 as reading does.
+/// The report of a case file: the answer that the program `causes` writes. Refuses as reading does.
 ///
 /// ```
 /// let report = causes::report(b"(query a)\n")?;
-/// assert_eq!(report, b"(verdict open)\n(rounds 2)\n(decided 2)\n(minimal 1 1)\n(cause)\n");
+/// assert_eq!(report, b"(verdict open)\n(rounds 2)\n(decided 2)\n(minimal 1 1)\n(cause)\n(cheapest 0)\n");
 /// # Ok::<(), causes::Refusal>(())
 /// ```
 pub fn report(file: &[u8]) -> Result<Vec<u8>, Refusal> {

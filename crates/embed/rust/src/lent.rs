@@ -31,4 +31,4 @@ mod operations;
 mod tables;
 
 pub use operations::{layers, question, read, report, settle, Answer, Layers, Settled};
-pub use tables::{Clauses, Constraints, Formula, Names, Record, Tables};
+pub use tables::{Clauses, Constraints, Formula, Names, Prices, Record, Tables};

@@ -8,7 +8,7 @@
 
 #[allow(clippy::too_many_arguments)]
 extern "C" {
-    /// Reads a case file into four tables; answer: line, then the 22 words of the case record.
+    /// Reads a case file into five tables; answer: line, then the 22 words of the case record.
     pub fn causes_read(
         file: *const u8,
         file_bytes: usize,
@@ -20,6 +20,8 @@ extern "C" {
         formula_bytes: usize,
         names: *mut u8,
         names_bytes: usize,
+        prices: *mut u32,
+        price_entries: usize,
         answer: *mut u64,
         answer_words: usize,
     ) -> u32;
@@ -40,7 +42,7 @@ extern "C" {
     ) -> u32;
 
     /// Answers the question of a case; answer: 16 verdicts, number of minimal explanations, how many listed, rounds,
-    /// decided total.
+    /// decided total, lowest cost, cheapest setting.
     pub fn causes_question(
         record: *const u64,
         record_words: usize,
@@ -50,6 +52,8 @@ extern "C" {
         constraint_words: usize,
         formula: *const u8,
         formula_bytes: usize,
+        prices: *const u32,
+        price_entries: usize,
         list: *mut u16,
         list_slots: usize,
         work: *mut u8,

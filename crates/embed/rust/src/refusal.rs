@@ -1,6 +1,6 @@
 //! Refusals.
 //!
-//! From: document 01, What each operation refuses; docs/MANUAL.md, Refusals.
+//! From: document 01, What each operation refuses; document 02, `[7]`; docs/MANUAL.md, Refusals.
 
 use std::error::Error;
 use std::fmt;
@@ -41,6 +41,12 @@ pub enum Refusal {
     Unsound,
     NoSetting,
     ShortWork,
+    HighPrice {
+        line: u64,
+    },
+    SecondCost {
+        line: u64,
+    },
     ShortOutput,
     /// A number that this module doesn't know: the archive is a later one.
     Other {
@@ -68,6 +74,8 @@ impl Refusal {
             13 => Refusal::Unsound,
             14 => Refusal::NoSetting,
             15 => Refusal::ShortWork,
+            16 => Refusal::HighPrice { line },
+            17 => Refusal::SecondCost { line },
             19 => Refusal::ShortOutput,
             _ => Refusal::Other { number, line },
         }
@@ -93,6 +101,8 @@ impl Refusal {
             Refusal::Unsound => (13, None, "the case handed in is not sound"),
             Refusal::NoSetting => (14, None, "the setting's number is not below the number of settings"),
             Refusal::ShortWork => (15, None, "the work area is shorter than one byte for each setting"),
+            Refusal::HighPrice { line } => (16, Some(line), "the price is over 1,000,000, or the supplement over 100"),
+            Refusal::SecondCost { line } => (17, Some(line), "the line is a second cost line for its name"),
             Refusal::ShortOutput => (19, None, "the lent output is too short for the report"),
             Refusal::Other { number, line } => (number, (line > 0).then_some(line), "the library's header says why"),
         }

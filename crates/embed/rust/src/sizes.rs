@@ -1,6 +1,6 @@
 //! The sizes of lent memory, in elements.
 //!
-//! From: document 01, Case tables and sound cases; What each operation refuses; document 02, `[1]`, `[5]` and `[6]`.
+//! From: document 01, Case tables and sound cases; What each operation refuses; document 02, `[1]`, `[5]`, `[6]` and `[7]`.
 
 /// Words of the clause table, three a clause.
 pub const CLAUSE_WORDS: usize = 768;
@@ -19,6 +19,9 @@ pub const NAMES_BYTES: usize = 1_024;
 
 /// Bytes of a name's row.
 pub const NAME_BYTES: usize = 16;
+
+/// Entries of the table of prices, one an atom.
+pub const PRICES: usize = 64;
 
 /// The most atoms of a case.
 pub const ATOMS: usize = NAMES_BYTES / NAME_BYTES;
@@ -39,4 +42,4 @@ pub const SETTINGS: usize = 59_049;
 pub const MINIMAL: usize = 15_360;
 
 /// The longest report: an output of so many bytes is long enough for each.
-pub const REPORT_BYTES: usize = 264_600;
+pub const REPORT_BYTES: usize = 264_640;

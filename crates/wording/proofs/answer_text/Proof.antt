@@ -1,5 +1,5 @@
--- `wording::answer_text` meets its contract: the lines of the verdicts, three more, and those of the settings.
--- Assumes nothing.
+-- `wording::answer_text` meets its contract: the lines of the verdicts, three more, those of the settings, and that of
+-- the lowest cost. Assumes nothing.
 use borrow.Author.Needs.{needs}
 use native.Mathlib.Omega.{arith}
 use lib.ListN.{length-append}
@@ -31,6 +31,9 @@ pair-line-requires c κs = record { fits = simp length-append (omega (arith, ans
 cause-lines-requires : tie.Need-cause-lines-requires
 cause-lines-requires c κs = omega (arith, answer-room, number-ends, minimal-ends)
 
+cheapest-lines-requires : tie.Need-cheapest-lines-requires
+cheapest-lines-requires c κs = omega (arith, answer-room, number-ends, minimal-ends)
+
 same-length : tie.Need-same-length
 same-length c = search needs
 
@@ -49,5 +52,6 @@ answer-text-spec =
     slice-aggregate-pair-line
     pair-line-requires
     cause-lines-requires
+    cheapest-lines-requires
     same-length
     returns)

@@ -47,6 +47,10 @@ pub struct Answer {
     pub rounds: u64,
     /// The decided atoms over all settings: the sum of what [`Settled::decided`] is for each.
     pub decided: u64,
+    /// The lowest cost among all minimal explanations, in cents; 0 if there is none.
+    pub cost: u64,
+    /// The lowest-numbered minimal setting of that cost, listed or not; 0 if there is none.
+    pub cheapest: u64,
 }
 
 impl Answer {
@@ -86,7 +90,8 @@ fn accepted(number: u32, line: u64) -> Result<(), Refusal> {
     }
 }
 
-/// Reads a case file into `tables`. Refuses with 2 to 12; 2 leaves the tables as they were, the others zero them.
+/// Reads a case file into `tables`. Refuses with 2 to 12, 16 and 17; 2 leaves the tables as they were, the others zero
+/// them.
 pub fn read(file: &[u8], tables: &mut Tables) -> Result<Record, Refusal> {
     let mut words = [0; 1 + RECORD_WORDS];
     // SAFETY: each pointer comes with the length of its slice, and the tables are borrowed for writing.
@@ -102,6 +107,8 @@ pub fn read(file: &[u8], tables: &mut Tables) -> Result<Record, Refusal> {
             tables.formula.len(),
             tables.names.as_mut_ptr(),
             tables.names.len(),
+            tables.prices.as_mut_ptr(),
+            tables.prices.len(),
             words.as_mut_ptr(),
             words.len(),
         )
@@ -135,12 +142,13 @@ pub fn settle(record: &Record, tables: &Tables, setting: u64) -> Result<Settled,
 }
 
 /// Answers the question of a case. `list` gets the minimal settings in rising order, as many as it has slots for;
-/// byte s of `work` becomes 0 (setting s doesn't explain), 1 (explains, not minimal) or 2 (minimal). Refuses with 13
-/// and 15, and then touches neither.
+/// byte s of `work` becomes 0 (setting s doesn't explain), 1 (explains, not minimal) or 2 (minimal). A setting costs the
+/// sum of the prices of the causes for which it adds a fact or an assumption. Refuses with 13 and 15, and then touches
+/// neither.
 pub fn question(record: &Record, tables: &Tables, list: &mut [u16], work: &mut [u8]) -> Result<Answer, Refusal> {
     let formulas = record.formulas as usize;
     let record = record.words();
-    let mut words = [0; QUERIES + 4];
+    let mut words = [0; QUERIES + 6];
     // SAFETY: each pointer comes with the length of its slice; list and work area are borrowed for writing.
     let number = unsafe {
         raw::causes_question(
@@ -152,6 +160,8 @@ pub fn question(record: &Record, tables: &Tables, list: &mut [u16], work: &mut [
             tables.constraints.len(),
             tables.formula.as_ptr(),
             tables.formula.len(),
+            tables.prices.as_ptr(),
+            tables.prices.len(),
             list.as_mut_ptr(),
             list.len(),
             work.as_mut_ptr(),
@@ -160,9 +170,10 @@ pub fn question(record: &Record, tables: &Tables, list: &mut [u16], work: &mut [
             words.len(),
         )
     };
-    let [verdicts @ .., minimal, listed, rounds, decided] = words;
+    let [verdicts @ .., minimal, listed, rounds, decided, cost, cheapest] = words;
     let verdicts = verdicts.map(|number| Verdict::from_number(number).expect("a verdict of document 01"));
-    accepted(number, 0).map(|()| Answer { formulas, verdicts, minimal, listed: listed as usize, rounds, decided })
+    let listed = listed as usize;
+    accepted(number, 0).map(|()| Answer { formulas, verdicts, minimal, listed, rounds, decided, cost, cheapest })
 }
 
 /// Numbers the atoms of a case by layers, or finds a ring where it isn't layered. Refuses with 13.

@@ -1,8 +1,9 @@
 //! The case record and the lent tables.
 //!
-//! From: document 01, Case tables and sound cases; document 02, [1] and [5].
+//! From: document 01, Case tables and sound cases; document 02, [1], [5] and [7].
 
-use crate::sizes::{CLAUSE_WORDS, CONSTRAINT_WORDS, FORMULA_BYTES, NAMES_BYTES, NAME_BYTES, QUERIES, RECORD_WORDS};
+use crate::sizes::{CLAUSE_WORDS, CONSTRAINT_WORDS, FORMULA_BYTES, NAMES_BYTES, NAME_BYTES};
+use crate::sizes::{PRICES, QUERIES, RECORD_WORDS};
 
 /// Clauses: three words each, head + 64 × kind (0 fact, 1 assumption, 2 rule), plain atoms, negated atoms.
 pub type Clauses = [u64; CLAUSE_WORDS];
@@ -17,7 +18,10 @@ pub type Formula = [u8; FORMULA_BYTES];
 /// Names: 16 bytes an atom, zero-filled at the end.
 pub type Names = [u8; NAMES_BYTES];
 
-/// The four tables of a case.
+/// Prices: one an atom, in cents, the supplement included; any 32-bit numbers may be lent.
+pub type Prices = [u32; PRICES];
+
+/// The five tables of a case.
 #[derive(Clone, Debug, PartialEq, Eq)]
 #[non_exhaustive]
 pub struct Tables {
@@ -29,6 +33,8 @@ pub struct Tables {
     pub formula: Formula,
     /// The names.
     pub names: Names,
+    /// The prices.
+    pub prices: Prices,
 }
 
 impl Tables {
@@ -39,6 +45,7 @@ impl Tables {
             constraints: [0; CONSTRAINT_WORDS],
             formula: [0; FORMULA_BYTES],
             names: [0; NAMES_BYTES],
+            prices: [0; PRICES],
         }
     }
 
