@@ -14,7 +14,7 @@ use Rattle.words.proofs.Tests.{lt-or-le}
 use Rattle.logic.specs.Nodes.{formulaOf}
 use Rattle.table.specs.Filled.{padded}
 use Rattle.table.proofs.Filled.{filled-exact, padded-length, padded-split}
-use Rattle.program.specs.Case.{clauseSize, constraintSize, formulaSize, nameSize, tablesFull, nodesOf}
+use Rattle.program.specs.Case.{clauseSize, constraintSize, formulaSize, nameSize, priceSize, tablesFull, nodesOf}
 use Rattle.program.specs.Cause.{atomsIn}
 use Rattle.program.specs.Sound.{sound}
 use Rattle.program.proofs.Soundness.{sound-full, sound-atoms, sound-formulas, sound-few}
@@ -26,13 +26,14 @@ use Rattle.names.proofs.RowNames.{every-named, table-name}
 use Rattle.names.proofs.Short.{no-zero}
 use Rattle.question.specs.declared.operation.Answer.{Answer}
 use Rattle.question.specs.Operation.{settingsIn, choicesIn, questionRefusal, answerIn, Asked}
-use Rattle.question.proofs.Answers.{refusal-none, asked-answer, asked-list}
+use Rattle.question.proofs.Answers.{lent-full, refusal-none, asked-answer, asked-list}
 use Rattle.walk.proofs.Bounds.{causes-fit, settings-few}
 use Rattle.verdict.specs.Walk.{verdictNumber}
 use Rattle.verdict.proofs.Counting.{minimals-le}
 use Rattle.verdict.proofs.Verdicts.{verdicts-length}
 use Rattle.question.proofs.Theorems.{rounds-bounded, decided-bounded}
 use Rattle.store.specs.Lent.{Lent, lent, filledWith}
+use Rattle.store.specs.Prices.{pricesOf}
 use Rattle.store.specs.Saying.{Said}
 use Rattle.store.specs.Tables.{clauseWords, constraintWords, formulaParts, wordsOf, caseSaid}
 use Rattle.store.specs.Held.{Long}
@@ -42,7 +43,8 @@ use Rattle.reader.specs.Contents.{fileContent}
 use Rattle.reader.proofs.FileSays.{says}
 use Rattle.reader.proofs.Theorems.{accepted-sound, accepted-names}
 use Rattle.wording.specs.Text.{answerText}
-use Rattle.report.specs.Report.{clauseTable, constraintTable, formulaTable, causesIn, judgeIn, minimalsOf}
+use Rattle.report.specs.Report.{clauseTable, constraintTable, formulaTable, priceTable, causesIn, judgeIn}
+use Rattle.report.specs.Report.{minimalsOf}
 use Rattle.report.specs.Report.{totalsOf, shownOf, verdictsIn, verdictNumbers, nameOf, saidText, listLength}
 use Rattle.wording.proofs.Naming.{answer-alike}
 use Rattle.wording.proofs.Lengths.{answer-length, Short}
@@ -73,7 +75,9 @@ module _ (l old : List ℕ) (n : ℕ) where
 
 -- tables of zeros, exactly of their sizes
 zeros : Lent
-zeros = lent (padded clauseSize []) (padded constraintSize []) (padded formulaSize []) (padded nameSize [])
+zeros =
+    lent (padded clauseSize []) (padded constraintSize []) (padded formulaSize []) (padded nameSize [])
+    (padded priceSize [])
 
 zeros-fit : tablesFit zeros ≡ true
 unfolding zeros tablesFit tablesFull padded
@@ -86,6 +90,7 @@ zeros-long = record {
   constraints-long = omega (arith, padded-length constraintSize []);
   formula-long = omega (arith, padded-length formulaSize []);
   names-long = omega (arith, padded-length nameSize []);
+  prices-long = omega (arith, padded-length priceSize []);
 }
 
 numbers-length : (st : Said) → length (verdictNumbers st) ≡ length (st .queries)
@@ -110,7 +115,7 @@ module _ (f : List ℕ) (st : Said) (e : readFile f ≡ Outcome.case st) where
   said-formulas =
       let u = filledWith (wordsOf st) zeros in
       rw (filled-exact formulaSize (formulaParts (st .queries)) (padded formulaSize []) (padded-length formulaSize []))
-      at (says f st e (caseSaid st) zeros u zeros-long refl refl refl refl refl .queries-are)
+      at (says f st e (caseSaid st) zeros u zeros-long refl refl refl refl refl refl .queries-are)
 
   pub said-named : (a : ℕ) → Named (nameOf st a)
   said-named = every-named (st .names) (λ a h.
@@ -150,7 +155,7 @@ module _ (f : List ℕ) (st : Said) (e : readFile f ≡ Outcome.case st) where
     minimal-short = omega (arith, said-minimals);
   }
 
-  pub said-length : length (saidText st) ≤ 264600
+  pub said-length : length (saidText st) ≤ 264640
   unfolding saidText
   said-length =
       let l = minimalsOf st in
@@ -162,16 +167,22 @@ module _ (f : List ℕ) (st : Said) (e : readFile f ≡ Outcome.case st) where
 
 module _ (f : List ℕ) (st : Said) (e : readFile f ≡ Outcome.case st) (list work : List ℕ) (full : length list ≡ 1024)
     (room : length work ≡ 59049) (r : Answer) (listAfter workAfter : List ℕ)
-    (h : Asked (caseSaid st) (clauseTable st) (constraintTable st) (formulaTable st) list work r listAfter workAfter)
+    (h : Asked (caseSaid st) (clauseTable st) (constraintTable st) (formulaTable st) (priceTable st) list work r
+    listAfter workAfter)
   where
-    none : questionRefusal (caseSaid st) (clauseTable st) (constraintTable st) (formulaTable st) (length work) ≡ 0
+    none : questionRefusal (caseSaid st) (clauseTable st) (constraintTable st) (formulaTable st) (priceTable st)
+        (length work) ≡ 0
     none =
         let s = said-sound f st e in
-        refusal-none (caseSaid st) _ _ _ (length work) (sound-full (caseSaid st) _ _ _ s) s
-        (omega (arith, said-settings f st e))
+        let prices = padded-length priceSize (pricesOf (st .costs)) in
+        let full =
+        lent-full (clauseTable st) (constraintTable st) (formulaTable st) (priceTable st)
+        (sound-full (caseSaid st) _ _ _ s) (omega arith) in
+        refusal-none (caseSaid st) _ _ _ (priceTable st) (length work) full s (omega (arith, said-settings f st e))
 
-    answer-is : r ≡ answerIn (caseSaid st) (clauseTable st) (constraintTable st) (formulaTable st) 1024
-    answer-is = rw full at (asked-answer (caseSaid st) _ _ _ list work r listAfter workAfter h none)
+    answer-is : r
+        ≡ answerIn (caseSaid st) (clauseTable st) (constraintTable st) (formulaTable st) (priceTable st) 1024
+    answer-is = rw full at (asked-answer (caseSaid st) _ _ _ _ list work r listAfter workAfter h none)
 
     pub asked-queries : length (st .queries) ≤ length (r .verdicts)
     asked-queries =
@@ -190,7 +201,7 @@ module _ (f : List ℕ) (st : Said) (e : readFile f ≡ Outcome.case st) (list w
         ≡ take (min (length (minimalsOf st)) 1024) (minimalsOf st) ++ drop (min (length (minimalsOf st)) 1024) list
     list-is =
         let w = min (length (minimalsOf st)) 1024 in
-        let l = rw full at (asked-list (caseSaid st) _ _ _ list work r listAfter workAfter h none) in
+        let l = rw full at (asked-list (caseSaid st) _ _ _ _ list work r listAfter workAfter h none) in
         l ∙ ap (λ (k : ℕ). take w (minimalsOf st) ++ drop k list) (front-length (minimalsOf st) list 1024)
 
     pub asked-fits : r .written ≤ length listAfter

@@ -10,7 +10,7 @@ use lib.ListN.{length, take}
 use Rattle.words.proofs.Tests.{lt-or-le}
 use Rattle.table.specs.Filled.{padded}
 use Rattle.table.proofs.Filled.{filled-exact, padded-length}
-use Rattle.program.specs.Case.{clauseSize, constraintSize, formulaSize, nameSize, tablesFull}
+use Rattle.program.specs.Case.{clauseSize, constraintSize, formulaSize, nameSize, priceSize, tablesFull}
 use Rattle.program.specs.Program.{headsOf}
 use Rattle.program.specs.Cause.{causesAmong}
 use Rattle.program.specs.Sound.{sound}
@@ -23,6 +23,7 @@ use Rattle.question.specs.declared.operation.Answer as question
 use Rattle.question.specs.Operation.{Asked}
 use Rattle.reader.specs.declared.read.Answer.{Answer}
 use Rattle.store.specs.Lent.{Lent}
+use Rattle.store.specs.Prices.{pricesOf}
 use Rattle.store.specs.Saying.{Said}
 use Rattle.store.specs.Tables.{clauseWords, constraintWords, formulaParts, caseSaid}
 use Rattle.reader.specs.Reading.{Outcome, refusalOf, lineOfRefusal, readFile}
@@ -32,8 +33,8 @@ use Rattle.reader.proofs.RefusalNumbers.{Numbered, file-numbered}
 use Rattle.output.specs.declared.Answer as output
 use Rattle.output.specs.Writing.{Room}
 use Rattle.wording.specs.Text.{answerText, refusalText}
-use Rattle.report.specs.Report.{clauseTable, constraintTable, formulaTable, causesIn, saidText, outcomeText}
-use Rattle.report.specs.Report.{shownOf, fileRefusal, fileText, reportText}
+use Rattle.report.specs.Report.{clauseTable, constraintTable, formulaTable, priceTable, causesIn, saidText}
+use Rattle.report.specs.Report.{outcomeText, shownOf, fileRefusal, fileText, reportText}
 use Rattle.report.specs.Operation.{ReportShown}
 use Rattle.report.specs.Sizes.{FullTables}
 use Rattle.report.proofs.FileTexts.{file-short, file-long, file-read, outcome-refused}
@@ -49,20 +50,21 @@ pub record Accepted (f : List ℕ) (u : Lent) (r : Answer) : Type 0 where
   pub constraints-are : u .constraints ≡ constraintTable said
   pub formula-is : u .formula ≡ formulaTable said
   pub names-are : u .names ≡ padded nameSize (rowsOf (said .names))
+  pub prices-are : u .prices ≡ priceTable said
 
 -- the file f was read into the tables t of their sizes, which became u, with the answer r
-module _ {f : List ℕ} {t u : Lent} {r : Answer}
-    (x : FullTables (t .clauses) (t .constraints) (t .formula) (t .names)) (h : ReadAs f t u r) where
+module _ {f : List ℕ} {t u : Lent} {r : Answer} (x : FullTables t) (h : ReadAs f t u r) where
   is-full : true ≡ tablesFull (t .clauses) (t .constraints) (t .formula)
   is-full =
       sym (tables-full (t .clauses) (t .constraints) (t .formula) (omega (arith, x .clauses-full))
       (omega (arith, x .constraints-full)) (omega (arith, x .formula-full)))
 
   is-early : 32768 < length f → earlyRefusal f t ≡ 2
-  is-early l = sym (early-file-long f t is-full refl (omega (arith, x .names-full)) l)
+  is-early l =
+      sym (early-file-long f t is-full refl (omega (arith, x .names-full)) (omega (arith, x .prices-full)) l)
 
   not-early : length f ≤ 32768 → earlyRefusal f t ≡ 0
-  not-early l = sym (early-none f t is-full refl (omega (arith, x .names-full)) l)
+  not-early l = sym (early-none f t is-full refl (omega (arith, x .names-full)) (omega (arith, x .prices-full)) l)
 
   refusal-read : length f ≤ 32768 → r .refusal ≡ refusalOf (readFile f)
   refusal-read l = rw (not-early l) at (h .refusal-is)
@@ -103,6 +105,7 @@ module _ {f : List ℕ} {t u : Lent} {r : Answer}
             rw (n, e) at (h .constraints-are) ∙ filled-exact constraintSize _ (t .constraints) (x .constraints-full);
         formula-is = rw (n, e) at (h .formula-is) ∙ filled-exact formulaSize _ (t .formula) (x .formula-full);
         names-are = rw (n, e) at (h .names-are) ∙ filled-exact nameSize _ (t .names) (x .names-full);
+        prices-are = rw (n, e) at (h .prices-are) ∙ filled-exact priceSize _ (t .prices) (x .prices-full);
       }
 
   accepted-by : (o : Outcome) → readFile f ≡ o → Numbered o → refusalOf o ≡ 0 → length f ≤ 32768 → Accepted f u r
@@ -156,12 +159,20 @@ module _ {f : List ℕ} {u : Lent} {r : Answer} (a : Accepted f u r) where
   pub accepted-formula : length (u .formula) ≡ formulaSize
   accepted-formula = ap length (a .formula-is) ∙ padded-length formulaSize (formulaParts (a .said .queries))
 
+  pub accepted-names : length (u .names) ≡ nameSize
+  accepted-names = ap length (a .names-are) ∙ padded-length nameSize (rowsOf (a .said .names))
+
+  pub accepted-prices : length (u .prices) ≡ priceSize
+  accepted-prices = ap length (a .prices-are) ∙ padded-length priceSize (pricesOf (a .said .costs))
+
   module _ {list work listAfter workAfter : List ℕ} {q : question.Answer} (full : length list ≡ 1024)
       (room : length work ≡ 59049)
-      (h : Asked (r .found) (u .clauses) (u .constraints) (u .formula) list work q listAfter workAfter) where
+      (h : Asked (r .found) (u .clauses) (u .constraints) (u .formula) (u .prices) list work q listAfter workAfter)
+    where
     asked-said : let st = a .said in
-        Asked (caseSaid st) (clauseTable st) (constraintTable st) (formulaTable st) list work q listAfter workAfter
-    asked-said = rw (a .case-is, a .clauses-are, a .constraints-are, a .formula-is) at h
+        Asked (caseSaid st) (clauseTable st) (constraintTable st) (formulaTable st) (priceTable st) list work q
+        listAfter workAfter
+    asked-said = rw (a .case-is, a .clauses-are, a .constraints-are, a .formula-is, a .prices-are) at h
 
     pub accepted-answered : {heads causes : ℕ} → heads ≡ headsOf (u .clauses) (r .found .clauses)
         → causes ≡ causesAmong (r .found .atoms) heads → Answered f r u causes q listAfter
@@ -174,7 +185,7 @@ module _ {f : List ℕ} {u : Lent} {r : Answer} (a : Accepted f u r) where
         (asked-text f st (a .read-is) list work full room q listAfter workAfter asked-said (u .names) causes
         (a .names-are) e) in
         record {
-          names-fit = omega (arith, ap length (a .names-are), padded-length nameSize (rowsOf (st .names)));
+          names-fit = omega (arith, accepted-names);
           queries-fit = rw (a .case-is)
               (asked-queries f st (a .read-is) list work full room q listAfter workAfter asked-said);
           list-fits = asked-fits f st (a .read-is) list work full room q listAfter workAfter asked-said;

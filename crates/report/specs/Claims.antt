@@ -1,5 +1,6 @@
 -- What is claimed of reports beyond the contract of *report*. Proved in proofs/Theorems.antt.
--- From: document 01, "The program `causes`"; document 02, [6] (the decided total).
+-- From: document 01, "The program `causes`"; document 02, [6] (the decided total), [7] (the lowest
+-- cost).
 --
 --   ReportFits           how long a report can be
 --   ReportCut            a file that is too long, cut behind the limit
@@ -20,14 +21,14 @@ use Rattle.store.specs.Saying.{Said}
 use Rattle.store.specs.Tables.{caseSaid}
 use Rattle.reader.specs.Reading.{Outcome, readFile}
 use Rattle.reader.specs.Contents.{fileContent}
-use Rattle.wording.specs.Text.{verdictLine, roundsLine, decidedLine, minimalLine, causeLines}
+use Rattle.wording.specs.Text.{verdictLine, roundsLine, decidedLine, minimalLine, causeLines, cheapestLines}
 use Rattle.report.specs.Report.{listLength, clauseTable, causesIn, judgeIn, minimalsOf, roundsOf, decidedOf}
-use Rattle.report.specs.Report.{verdictsIn, nameOf, reportText}
+use Rattle.report.specs.Report.{lowestOf, verdictsIn, nameOf, reportText}
 
--- a bound on the length of any report: 16 verdicts, the three lines behind them, and 1,024 settings of ten causes with
--- names of 16 bytes
+-- a bound on the length of any report: 16 verdicts, the three lines behind them, 1,024 settings of ten causes with names
+-- of 16 bytes, and the line of the lowest cost
 abbrev pub reportLimit : ℕ
-reportLimit = 264600
+reportLimit = 264640
 
 -- an output of that many bytes is long enough for the report of any file
 abbrev pub ReportFits : Type 0
@@ -57,7 +58,7 @@ VerdictsOnQueries = (f : List ℕ) (st : Said) → readFile f ≡ Outcome.case s
     → verdictsIn st ≡ map (verdictOn st) (fileContent f .queries)
 
 -- the report of an accepted file with one query line, whose formula is g: one verdict, the rounds, the decided atoms,
--- how many minimal settings there are and are listed, and the listed ones
+-- how many minimal settings there are and are listed, the listed ones, and the lowest cost, if there are any
 abbrev pub OneQuery : Type 0
 OneQuery = (f : List ℕ) (st : Said) (g : Formula) → length f ≤ 32768 → readFile f ≡ Outcome.case st
     → fileContent f .queries ≡ (g ∷ [])
@@ -65,4 +66,5 @@ OneQuery = (f : List ℕ) (st : Said) (g : Formula) → length f ≤ 32768 → r
     reportText f ≡ verdictLine (verdictNumber (verdictOn st g))
     ++ (roundsLine (roundsOf st)
     ++ (decidedLine (decidedOf st)
-    ++ (minimalLine (length l) (length listed) ++ causeLines (nameOf st) (causesIn st) listed)))
+    ++ (minimalLine (length l) (length listed)
+    ++ (causeLines (nameOf st) (causesIn st) listed ++ cheapestLines (length l) (lowestOf st)))))

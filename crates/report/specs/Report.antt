@@ -1,11 +1,12 @@
 -- From the bytes of a file to the bytes of its report.
--- From: document 01, "The program `causes`"; document 02, [6] (the decided total).
+-- From: document 01, "The program `causes`"; document 02, [6] (the decided total), [7] (the lowest cost).
 --
 --   listLength             the slots of the program's list
 --   judgeIn st             the judge of what a file says
 --   causesIn st            its causes; minimalsOf st its minimal settings
 --   roundsOf st            the rounds over all settings; decidedOf st the decided atoms
---   totalsOf st            both, and the number of minimal settings
+--   lowestOf st            the lowest cost among its minimal settings
+--   totalsOf st            these three, and the number of minimal settings
 --   shownOf a              those numbers of an answer of the question
 --   verdictsIn st          its verdicts, in file order; verdictNumbers st their numbers
 --   outcomeText said o     the text of an outcome of reading, where said gives that of what a file says
@@ -18,13 +19,15 @@ use lib.Dec.{leb}
 use lib.ListN.{length, getD, take}
 use Rattle.words.specs.Choice.{unlessRefused, check, firstFailed}
 use Rattle.table.specs.Filled.{padded}
-use Rattle.program.specs.Case.{clauseSize, constraintSize, formulaSize}
+use Rattle.program.specs.Case.{clauseSize, constraintSize, formulaSize, priceSize}
 use Rattle.program.specs.Cause.{causesOf}
 use Rattle.verdict.specs.declared.verdict.Verdict.{Verdict}
 use Rattle.explanation.specs.Judge.{Judge, judgeOf}
 use Rattle.verdict.specs.Walk.{roundsBelow, decidedBelow, verdictsOf, verdictNumber}
 use Rattle.question.specs.declared.operation.Answer.{Answer}
-use Rattle.question.specs.Operation.{settingsIn, minimalsIn}
+use Rattle.cost.specs.Cheapest.{lowestCost}
+use Rattle.question.specs.Operation.{settingsIn, minimalsIn, costIn}
+use Rattle.store.specs.Prices.{pricesOf}
 use Rattle.store.specs.Saying.{Said}
 use Rattle.store.specs.Tables.{clauseWords, constraintWords, formulaParts, caseSaid}
 use Rattle.reader.specs.Reading.{Outcome, readFile}
@@ -45,6 +48,9 @@ constraintTable st = padded constraintSize (constraintWords (st .constraints))
 abbrev pub formulaTable : Said → List ℕ
 formulaTable st = padded formulaSize (formulaParts (st .queries))
 
+abbrev pub priceTable : Said → List ℕ
+priceTable st = padded priceSize (pricesOf (st .costs))
+
 abbrev pub causesIn : Said → ℕ
 causesIn st = causesOf (caseSaid st) (clauseTable st)
 
@@ -60,11 +66,19 @@ roundsOf st = roundsBelow (judgeIn st) (settingsIn (caseSaid st) (clauseTable st
 abbrev pub decidedOf : Said → ℕ
 decidedOf st = decidedBelow (judgeIn st) (settingsIn (caseSaid st) (clauseTable st))
 
+abbrev pub lowestOf : Said → ℕ
+lowestOf st = lowestCost (costIn (caseSaid st) (clauseTable st) (priceTable st)) (minimalsOf st)
+
 abbrev pub totalsOf : Said → Totals
-totalsOf st = record { rounds = roundsOf st; decided = decidedOf st; minimal = length (minimalsOf st) }
+totalsOf st = record {
+  rounds = roundsOf st;
+  decided = decidedOf st;
+  minimal = length (minimalsOf st);
+  cost = lowestOf st;
+}
 
 abbrev pub shownOf : Answer → Totals
-shownOf a = record { rounds = a .rounds; decided = a .decided; minimal = a .minimal }
+shownOf a = record { rounds = a .rounds; decided = a .decided; minimal = a .minimal; cost = a .cost }
 
 abbrev pub verdictsIn : Said → List Verdict
 verdictsIn st = verdictsOf (judgeIn st) (minimalsOf st)

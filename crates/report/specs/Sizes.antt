@@ -1,20 +1,22 @@
 -- What the inner function of the report asks of what it is lent.
 --
---   FullTables ..       the lent tables have exactly their sizes
---   FullSizes ..        the lent tables, the list and the work area have exactly their sizes
+--   FullTables t        the lent tables have exactly their sizes
+--   FullSizes t ..      the lent tables, the list and the work area have exactly their sizes
 use mathlib.Core.Path.{_≡_}
 use mathlib.Core.List.{List}
 use Prim.Native.Nat.{ℕ}
 use lib.ListN.{length}
-use Rattle.program.specs.Case.{clauseSize, constraintSize, formulaSize, nameSize}
+use Rattle.store.specs.Lent.{Lent}
+use Rattle.program.specs.Case.{clauseSize, constraintSize, formulaSize, nameSize, priceSize}
 
-pub record FullTables (clauses constraints formula names : List ℕ) : Type 0 where
-  pub clauses-full : length clauses ≡ clauseSize
-  pub constraints-full : length constraints ≡ constraintSize
-  pub formula-full : length formula ≡ formulaSize
-  pub names-full : length names ≡ nameSize
+pub record FullTables (t : Lent) : Type 0 where
+  pub clauses-full : length (t .clauses) ≡ clauseSize
+  pub constraints-full : length (t .constraints) ≡ constraintSize
+  pub formula-full : length (t .formula) ≡ formulaSize
+  pub names-full : length (t .names) ≡ nameSize
+  pub prices-full : length (t .prices) ≡ priceSize
 
-pub record FullSizes (clauses constraints formula names list work : List ℕ) : Type 0 where
-  pub tables-full : FullTables clauses constraints formula names
+pub record FullSizes (t : Lent) (list work : List ℕ) : Type 0 where
+  pub tables-full : FullTables t
   pub list-full : length list ≡ 1024
   pub work-full : length work ≡ 59049

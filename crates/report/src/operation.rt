@@ -2,6 +2,7 @@
 ghost use Prim.Native.Nat.{_≤_};
 ghost use lib.ListN.{length, take};
 ghost use Rattle.program.specs.Case.{nameSize};
+ghost use Rattle.store.specs.Lent.{lent};
 ghost use Rattle.wording.specs.Text.{answerText, refusalText};
 ghost use Rattle.report.specs.Report.{shownOf};
 ghost use Rattle.report.specs.Operation.{ReportShown, Reported};
@@ -51,6 +52,7 @@ fn show_answer(
         rounds: a.rounds,
         decided: a.decided,
         minimal: a.minimal,
+        cost: a.cost,
     };
     let mut spare = [0u8; 1];
     let length = answer_text(&mut spare, shown, totals, names, causes, list);
@@ -72,19 +74,21 @@ fn report_in(
     constraints: &mut [u64],
     formula: &mut [u8],
     names: &mut [u8],
+    prices: &mut [u32],
     list: &mut [u16],
     work: &mut [u8],
     out: &mut [u8],
 ) -> Answer
-    requires { ⌜ FullSizes (now clauses) (now constraints) (now formula) (now names) (now list) (now work) ⌝ }
+    requires { ⌜ FullSizes (lent (now clauses) (now constraints) (now formula) (now names) (now prices)) (now list)
+        (now work) ⌝ }
     ensures { λ r. ⌜ Reported (now (file .entry)) (now (out .entry)) r (now (out .exit)) ⌝ }
 {
-    let found = reader::read::read(file, clauses, constraints, formula, names);
+    let found = reader::read::read(file, clauses, constraints, formula, names, prices);
     if found.refusal != 0 {
         return show_refusal(found.refusal, found.line, out);
     }
     let c = found.found;
-    let a = question::operation::ask(c, clauses, constraints, formula, list, work);
+    let a = question::operation::ask(c, clauses, constraints, formula, prices, list, work);
     let heads = program::cause::heads(clauses, c.clauses);
     let causes = program::cause::causes(c.atoms, heads);
     let n = a.written;
@@ -100,6 +104,7 @@ pub fn report(file: &[u8], out: &mut [u8]) -> Answer
     let mut constraints = [0u64; Case::CONSTRAINT_WORDS];
     let mut formula = [0u8; Case::FORMULA_BYTES];
     let mut names = [0u8; Case::NAME_BYTES];
+    let mut prices = [0u32; Case::PRICES];
     let mut list = [0u16; 1024];
     let mut work = [0u8; 59049];
     report_in(
@@ -108,6 +113,7 @@ pub fn report(file: &[u8], out: &mut [u8]) -> Answer
         &mut constraints,
         &mut formula,
         &mut names,
+        &mut prices,
         &mut list,
         &mut work,
         out,

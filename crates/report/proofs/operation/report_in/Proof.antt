@@ -6,25 +6,26 @@ use borrow.Author.Needs.{needs}
 use Rattle.store.specs.Lent.{Lent, lent}
 use Rattle.report.specs.Report.{saidText}
 use Rattle.report.proofs.Reported.{Accepted, Answered, refused-shown, accepted-report, accepted-held}
-use Rattle.report.proofs.Reported.{accepted-clauses, accepted-constraints, accepted-formula, accepted-answered}
+use Rattle.report.proofs.Reported.{accepted-clauses, accepted-constraints, accepted-formula, accepted-prices}
+use Rattle.report.proofs.Reported.{accepted-names, accepted-answered}
 use Rattle.report.proofs.operation.report_in.Statement.{statement}
 use Rattle.report.proofs.operation.report_in.Tie as tie
 
 -- the places before: the entry, the end of reading, its test passed, the end of the question, and of the answer
-abbrev tables-known : tie.After-read → tie.After-slice-known5
-tables-known c = c .before .before .before .before .before .before .before
+abbrev tables-known : tie.After-read → tie.After-slice-known6
+tables-known c = c .before .before .before .before .before .before .before .before
 
 abbrev entry : tie.After-read → tie.Start
-entry c = tables-known c .before .before .before .before .before .before
+entry c = tables-known c .before .before .before .before .before .before .before
 
-abbrev clauses-read : tie.After-struct-known → tie.After-slice-known9
-clauses-read c = c .before .before .before .before .before
+abbrev clauses-read : tie.After-struct-known → tie.After-slice-known10
+clauses-read c = c .before .before .before .before .before .before .before
 
 abbrev reading : tie.After-struct-known → tie.After-read
 reading c = clauses-read c .before .before .before .before
 
 abbrev passed : tie.After-ask → tie.Else1
-passed c = c .before .before .before .before .before .before .before
+passed c = c .before .before .before .before .before .before .before .before
 
 abbrev asked : tie.After-heads-arg → tie.After-ask
 asked c = c .before .before .before .before .before
@@ -32,12 +33,13 @@ asked c = c .before .before .before .before .before
 abbrev asking : tie.After-causes → tie.After-ask
 asking c = asked (c .before .before)
 
-abbrev showing : tie.After-slice-known15 → tie.After-show-answer
+abbrev showing : tie.After-slice-known17 → tie.After-show-answer
 showing c = c .before .before
 
 -- the tables as reading leaves them
 abbrev filled : tie.After-read → Lent
-filled c = let p = c .read .last .1 in lent (p .0) (p .1 .0) (p .1 .1 .0) (p .1 .1 .1 .0)
+filled c = let p = c .read .last .1 in
+    lent (p .0) (p .1 .0) (p .1 .1 .0) (p .1 .1 .1 .0) (p .1 .1 .1 .1 .0)
 
 accepted : (c : tie.Else1) → let q = reading (c .before) in
     Accepted (entry q .args .file .now) (filled q) (q .read .result)
@@ -46,7 +48,7 @@ accepted c = let q = reading (c .before) in
 
 answered : (c : tie.After-causes) → let k = asking c in let q = reading (passed k .before) in
     Answered (entry q .args .file .now) (q .read .result) (filled q) (c .causes .result) (k .ask .result)
-    (k .ask .last .1 .1 .1 .1 .0)
+    (k .ask .last .1 .1 .1 .1 .1 .0)
 answered c =
     let k = asking c in
     let s = entry (reading (passed k .before)) .pre in
@@ -54,7 +56,7 @@ answered c =
     (c .causes .ensures)
 
 -- where the test of reading was passed, before the end
-abbrev read-before : tie.After-slice-known15 → tie.Else1
+abbrev read-before : tie.After-slice-known17 → tie.Else1
 read-before c = passed (asking (showing c .before .before .before .before))
 
 read-requires : tie.Need-read-requires
@@ -77,6 +79,9 @@ same-length-4 c = search needs
 
 same-length-5 : tie.Need-same-length-5
 same-length-5 c = search needs
+
+same-length-6 : tie.Need-same-length-6
+same-length-6 c = search needs
 
 returns : tie.Need-returns
 returns c =
@@ -104,32 +109,39 @@ slice-aggregate-show-answer c = sym (length-take-le _ _ (answered (c .before .be
 show-answer-requires : tie.Need-show-answer-requires
 show-answer-requires c κs = let a = answered (c .before .before .before) in (a .queries-fit, a .names-fit, a .text-fits)
 
-same-length-6 : tie.Need-same-length-6
-same-length-6 c =
-    let k = read-before c in
-    accepted-clauses (accepted k) ∙ sym (entry (reading (k .before)) .pre .tables-full .clauses-full)
-
 same-length-7 : tie.Need-same-length-7
 same-length-7 c =
     let k = read-before c in
-    accepted-constraints (accepted k) ∙ sym (entry (reading (k .before)) .pre .tables-full .constraints-full)
+    accepted-clauses (accepted k) ∙ sym (entry (reading (k .before)) .pre .tables-full .clauses-full)
 
 same-length-8 : tie.Need-same-length-8
 same-length-8 c =
     let k = read-before c in
-    accepted-formula (accepted k) ∙ sym (entry (reading (k .before)) .pre .tables-full .formula-full)
+    accepted-constraints (accepted k) ∙ sym (entry (reading (k .before)) .pre .tables-full .constraints-full)
 
 same-length-9 : tie.Need-same-length-9
-same-length-9 c = search needs
+same-length-9 c =
+    let k = read-before c in
+    accepted-formula (accepted k) ∙ sym (entry (reading (k .before)) .pre .tables-full .formula-full)
 
 same-length-10 : tie.Need-same-length-10
-same-length-10 c = search needs
+same-length-10 c =
+    let k = read-before c in
+    accepted-names (accepted k) ∙ sym (entry (reading (k .before)) .pre .tables-full .names-full)
 
 same-length-11 : tie.Need-same-length-11
-same-length-11 c = search needs
+same-length-11 c =
+    let k = read-before c in
+    accepted-prices (accepted k) ∙ sym (entry (reading (k .before)) .pre .tables-full .prices-full)
 
 same-length-12 : tie.Need-same-length-12
 same-length-12 c = search needs
+
+same-length-13 : tie.Need-same-length-13
+same-length-13 c = search needs
+
+same-length-14 : tie.Need-same-length-14
+same-length-14 c = search needs
 
 returns-2 : tie.Need-returns-2
 returns-2 c = rw (answered (showing c .before .before .before .before) .text-is) at (showing c .show-answer .ensures)
@@ -144,6 +156,7 @@ report-in-spec =
     same-length-3
     same-length-4
     same-length-5
+    same-length-6
     returns
     ask-requires
     heads-requires
@@ -151,11 +164,12 @@ report-in-spec =
     slice-reshare-prefix-show-answer
     slice-aggregate-show-answer
     show-answer-requires
-    same-length-6
     same-length-7
     same-length-8
     same-length-9
     same-length-10
     same-length-11
     same-length-12
+    same-length-13
+    same-length-14
     returns-2)
