@@ -32,7 +32,8 @@ found-put a old = over-behind (frontWords a) (a .found .nodes) old refl
 
 pub asked-put : (a : asked.Answer) (old : List ℕ) {mid back : List ℕ} → 16 ≡ length (a .verdicts)
     → mid ≡ over (a .verdicts) old
-    → back ≡ over (a .minimal ∷ a .written ∷ a .rounds ∷ a .decided ∷ []) (midOf 16 (length mid - 16) mid)
+    → back ≡ over (a .minimal ∷ a .written ∷ a .rounds ∷ a .decided ∷ a .cost ∷ a .cheapest ∷ [])
+    (midOf 16 (length mid - 16) mid)
     → putMid 16 (length mid - 16) mid back ≡ over (askedWords a) old
 asked-put a old = over-behind (a .verdicts) _ old
 
@@ -48,10 +49,10 @@ module _ {c cl co fo : List ℕ} {k : Case} (e : k ≡ caseIn c) (l : 22 ≤ len
       → SettleOut c cl co fo s words (a .refusal) wordsAfter
   settle-done m h o = SettleOut.done l m _ (rw e at h) refl o
 
-  pub question-done : {list work listAfter workAfter : List ℕ} {a : asked.Answer} → 20 ≤ length words
-      → Asked k cl co fo list work a listAfter workAfter
+  pub question-done : {pr list work listAfter workAfter : List ℕ} {a : asked.Answer} → 22 ≤ length words
+      → Asked k cl co fo pr list work a listAfter workAfter
       → wordsAfter ≡ over (askedWords a) words
-      → QuestionOut c cl co fo list work words (a .refusal) listAfter workAfter wordsAfter
+      → QuestionOut c cl co fo pr list work words (a .refusal) listAfter workAfter wordsAfter
   question-done m h o = QuestionOut.done l m _ (rw e at h) refl o
 
   pub layers-done : {a : layered.Answer} → 66 ≤ length words → Layering k cl co fo a

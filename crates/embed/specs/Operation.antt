@@ -1,14 +1,15 @@
 -- What the exported functions answer and leave in lent memory, on every input.
 -- From: document 01, "What each operation refuses" ("a new table is held to 1 wherever it is lent"); document 02, [6]
--- (the decided atoms).
+-- (the decided atoms), [7] (prices, the lowest cost and its setting).
 --
 -- Each answers the number of the refusal, 0 for none, and writes the rest of its answer to lent words. Where those
 -- words, or those of a lent case record, are too few, the answer is 1 and nothing is touched. Otherwise a is what the
 -- operation of the crate below answers, determined by its own contract.
 --
---   ReadOut       line and the 22 words of the record, 23 words, and the four tables
+--   ReadOut       line and the 22 words of the record, 23 words, and the five tables
 --   SettleOut     the true atoms, the false atoms, the rounds and the number of decided atoms, four words
---   QuestionOut   16 verdict numbers, m, w, rounds and decided atoms, 20 words, and the list and the work area
+--   QuestionOut   16 verdict numbers, m, w, rounds, decided atoms, the lowest cost and its setting, 22 words, and the
+--                 list and the work area
 --   LayersOut     whether the case is layered, the number of entries and the 64 entries, 66 words
 --   ReportOut     the length of the text, one word, and the output
 use mathlib.Core.Path.{_≡_}
@@ -44,16 +45,16 @@ pub data SettleOut (c cl co fo : List ℕ) (s : ℕ) (words : List ℕ) (r : ℕ
       → wordsAfter ≡ over (settledWords a) words → SettleOut c cl co fo s words r wordsAfter
 
 -- the case record's words, the tables, and at entry and at exit the list, the work area and the answer's words
-pub data QuestionOut (c cl co fo list work words : List ℕ) (r : ℕ) (listAfter workAfter wordsAfter : List ℕ)
+pub data QuestionOut (c cl co fo pr list work words : List ℕ) (r : ℕ) (listAfter workAfter wordsAfter : List ℕ)
     : Type 0 where
   short-record : length c < 22 → r ≡ 1 → listAfter ≡ list → workAfter ≡ work → wordsAfter ≡ words
-      → QuestionOut c cl co fo list work words r listAfter workAfter wordsAfter
-  short : length words < 20 → r ≡ 1 → listAfter ≡ list → workAfter ≡ work → wordsAfter ≡ words
-      → QuestionOut c cl co fo list work words r listAfter workAfter wordsAfter
-  done : 22 ≤ length c → 20 ≤ length words → (a : asked.Answer)
-      → Asked (caseIn c) cl co fo list work a listAfter workAfter → r ≡ a .refusal
+      → QuestionOut c cl co fo pr list work words r listAfter workAfter wordsAfter
+  short : length words < 22 → r ≡ 1 → listAfter ≡ list → workAfter ≡ work → wordsAfter ≡ words
+      → QuestionOut c cl co fo pr list work words r listAfter workAfter wordsAfter
+  done : 22 ≤ length c → 22 ≤ length words → (a : asked.Answer)
+      → Asked (caseIn c) cl co fo pr list work a listAfter workAfter → r ≡ a .refusal
       → wordsAfter ≡ over (askedWords a) words
-      → QuestionOut c cl co fo list work words r listAfter workAfter wordsAfter
+      → QuestionOut c cl co fo pr list work words r listAfter workAfter wordsAfter
 
 -- the case record's words, the tables, the answer's words at entry and at exit
 pub data LayersOut (c cl co fo words : List ℕ) (r : ℕ) (wordsAfter : List ℕ) : Type 0 where

@@ -1,11 +1,11 @@
 -- Records and answers as words, for callers in C and Rust.
 -- From: document 01, "Case tables and sound cases" ("A case record, by value, holds the counts"); document 02, [6] (the
--- decided atoms).
+-- decided atoms), [7] (the lowest cost).
 --
 --   caseWords c       the 22 words of a case record
 --   caseIn w          the case record in the first 22 of the words w
 --   settledWords a    the four words of what settling answers
---   askedWords a      the 20 words of what the question answers
+--   askedWords a      the 22 words of what the question answers
 use mathlib.Core.List.{List, [], _∷_, _++_}
 use Prim.Native.Nat.{ℕ}
 use lib.ListN.{getD, take, drop}
@@ -31,4 +31,5 @@ abbrev pub settledWords : settled.Answer → List ℕ
 settledWords a = a .trues ∷ a .falses ∷ a .rounds ∷ a .decided ∷ []
 
 abbrev pub askedWords : asked.Answer → List ℕ
-askedWords a = a .verdicts ++ (a .minimal ∷ a .written ∷ a .rounds ∷ a .decided ∷ [])
+askedWords a =
+    a .verdicts ++ (a .minimal ∷ a .written ∷ a .rounds ∷ a .decided ∷ a .cost ∷ a .cheapest ∷ [])

@@ -99,13 +99,14 @@ fn put_settled(answer: &mut [u64], a: settle::operation::Answer)
 }
 
 // Puts what the question answers to words: the 16 verdict numbers, the number of minimal explanations, how many are
-// listed, the rounds and the decided atoms over all settings.
+// listed, the rounds and the decided atoms over all settings, the lowest cost and the setting that has it.
 fn put_asked(answer: &mut [u64], a: question::operation::Answer)
-    requires { ⌜ 20 ≤ length (now answer) ⌝ }
+    requires { ⌜ 22 ≤ length (now answer) ⌝ }
     ensures { λ _. ⌜ now (answer .exit) ≡ over (askedWords a) (now (answer .entry)) ⌝ }
 {
     let verdicts = a.verdicts;
-    let counts = [a.minimal, a.written as u64, a.rounds, a.decided];
+    let written = a.written as u64;
+    let counts = [a.minimal, written, a.rounds, a.decided, a.cost, a.cheapest];
     put_words(answer, &verdicts);
     put_words(&mut answer[16..], &counts);
 }
@@ -125,7 +126,7 @@ fn put_layers(answer: &mut [u64], a: layering::operation::Answer)
     put_words(&mut answer[2..], &entries);
 }
 
-// Reads a case file into four lent tables. Answer: the line of a refusal, then the 22 words of the case record.
+// Reads a case file into five lent tables. Answer: the line of a refusal, then the 22 words of the case record.
 #[no_mangle]
 pub extern "C" fn causes_read(
     file: &[u8],
@@ -133,17 +134,20 @@ pub extern "C" fn causes_read(
     constraints: &mut [u64],
     formula: &mut [u8],
     names: &mut [u8],
+    prices: &mut [u32],
     answer: &mut [u64],
 ) -> u32
     ensures { λ r. ⌜ ReadOut (now (file .entry))
-        (lent (now (clauses .entry)) (now (constraints .entry)) (now (formula .entry)) (now (names .entry)))
-        (lent (now (clauses .exit)) (now (constraints .exit)) (now (formula .exit)) (now (names .exit)))
+        (lent (now (clauses .entry)) (now (constraints .entry)) (now (formula .entry)) (now (names .entry))
+        (now (prices .entry)))
+        (lent (now (clauses .exit)) (now (constraints .exit)) (now (formula .exit)) (now (names .exit))
+        (now (prices .exit)))
         (now (answer .entry)) r (now (answer .exit)) ⌝ }
 {
     if answer.len() < 23 {
         return 1;
     }
-    let a = reader::read::read(file, clauses, constraints, formula, names);
+    let a = reader::read::read(file, clauses, constraints, formula, names, prices);
     put_found(answer, a);
     a.refusal
 }
@@ -175,30 +179,32 @@ pub extern "C" fn causes_settle(
 }
 
 // Answers the question of a case, with a lent list and work area. Answer: the 16 verdict numbers, the number of minimal
-// explanations, how many are listed, the rounds and the decided atoms over all settings.
+// explanations, how many are listed, the rounds and the decided atoms over all settings, the lowest cost among the
+// minimal explanations and the lowest-numbered minimal setting that has it.
 #[no_mangle]
 pub extern "C" fn causes_question(
     fields: &[u64],
     clauses: &[u64],
     constraints: &[u64],
     formula: &[u8],
+    prices: &[u32],
     list: &mut [u16],
     work: &mut [u8],
     answer: &mut [u64],
 ) -> u32
     ensures { λ r. ⌜ QuestionOut (now (fields .entry)) (now (clauses .entry)) (now (constraints .entry))
-        (now (formula .entry))
+        (now (formula .entry)) (now (prices .entry))
         (now (list .entry)) (now (work .entry)) (now (answer .entry)) r (now (list .exit)) (now (work .exit))
         (now (answer .exit)) ⌝ }
 {
     if fields.len() < 22 {
         return 1;
     }
-    if answer.len() < 20 {
+    if answer.len() < 22 {
         return 1;
     }
     let c = case_in(fields);
-    let a = question::operation::ask(c, clauses, constraints, formula, list, work);
+    let a = question::operation::ask(c, clauses, constraints, formula, prices, list, work);
     put_asked(answer, a);
     a.refusal
 }

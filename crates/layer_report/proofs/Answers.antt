@@ -36,7 +36,7 @@ use Rattle.layer_report.proofs.Sayings.{entriesSaid, layers-told, numbe
 
 -- a file that is refused
 pub refused-reported : {f : List ℕ} {t u : Lent} {r : reader.Answer} {out outAfter : List ℕ} {q : output.Answer}
-    → FullTables (t .clauses) (t .constraints) (t .formula) (t .names) → ReadAs f t u r → (r .refusal ≡ 0 → ⊥)
+    → FullTables t → ReadAs f t u r → (r .refusal ≡ 0 → ⊥)
     → ReportShown (refusalText (r .refusal) (r .line)) out q outAfter → LayersReported f out q outAfter
 refused-reported {f} x h k s = record {
   text = layersText [] f;

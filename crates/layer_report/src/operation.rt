@@ -1,6 +1,7 @@
 // The operation *layer report*.
 ghost use Rattle.names.specs.Row.{nameIn};
 ghost use Rattle.report.specs.Operation.{ReportShown};
+ghost use Rattle.store.specs.Lent.{lent};
 ghost use Rattle.report.specs.Sizes.{FullTables};
 ghost use Rattle.layer_report.specs.Entries.{entriesText, Told};
 ghost use Rattle.layer_report.specs.Operation.{LayersReported};
@@ -34,12 +35,13 @@ fn report_in(
     constraints: &mut [u64],
     formula: &mut [u8],
     names: &mut [u8],
+    prices: &mut [u32],
     out: &mut [u8],
 ) -> Answer
-    requires { ⌜ FullTables (now clauses) (now constraints) (now formula) (now names) ⌝ }
+    requires { ⌜ FullTables (lent (now clauses) (now constraints) (now formula) (now names) (now prices)) ⌝ }
     ensures { λ r. ⌜ LayersReported (now (file .entry)) (now (out .entry)) r (now (out .exit)) ⌝ }
 {
-    let found = reader::read::read(file, clauses, constraints, formula, names);
+    let found = reader::read::read(file, clauses, constraints, formula, names, prices);
     if found.refusal != 0 {
         return show_refusal(found.refusal, found.line, out);
     }
@@ -58,12 +60,14 @@ pub fn layer_report(file: &[u8], out: &mut [u8]) -> Answer
     let mut constraints = [0u64; Case::CONSTRAINT_WORDS];
     let mut formula = [0u8; Case::FORMULA_BYTES];
     let mut names = [0u8; Case::NAME_BYTES];
+    let mut prices = [0u32; Case::PRICES];
     report_in(
         file,
         &mut clauses,
         &mut constraints,
         &mut formula,
         &mut names,
+        &mut prices,
         out,
     )
 }

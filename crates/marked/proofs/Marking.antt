@@ -1,4 +1,4 @@
--- The ten marked files, by computation. Assumes nothing.
+-- The marked files, by computation. Assumes nothing.
 use mathlib.Core.Path.{refl}
 use lib.Count.{ones, onesIn}
 use Rattle.words.specs.Below.{sum}
@@ -13,6 +13,8 @@ use Rattle.program.specs.Setting.{choicesFor, product, digits, digitOf, setting
 use Rattle.program.specs.Sound.{fewCauses}
 use Rattle.settle.specs.Step.{bodiesOf, someTrue, allFalse, nextValue, step}
 use Rattle.settle.specs.Rounds.{rounds, roundCount, settled}
+use Rattle.cost.specs.Cost.{costOf}
+use Rattle.cost.specs.Cheapest.{cheaper, cheapestOf, lowestCost}
 use Rattle.explanation.specs.Explanation.{observedTrue, allMet, explainsUnder, setExplains}
 use Rattle.explanation.specs.Subset.{subsetOf, properOf, someProper, minimal}
 use Rattle.verdict.specs.Walk.{minimalsBelow, trueInAll, falseInAll, verdictOf, verdictsOf}
@@ -23,12 +25,14 @@ use Rattle.table.specs.Filled.{padded}
 use Rattle.names.specs.Names.{someLong, withName, withNames, rowsOf}
 use Rattle.formulas.specs.Sentence.{depthOf}
 use Rattle.formulas.specs.Keyword.{nodeOf}
+use Rattle.text.specs.Numbers.{numberFrom, isNumber}
 use Rattle.text.specs.Words.{beginsWithLetter, namesFrom, placeOf}
 use Rattle.formulas.specs.Sentence.{isSentence}
 use Rattle.formulas.specs.Items.{withForm, itemsOf}
 use Rattle.grammar.specs.Line.{areNamed, isLine}
-use Rattle.grammar.specs.LineOf.{literalsOf, lineOf}
-use Rattle.store.specs.Saying.{someOn, atomsBy, encodedBy, saidBy}
+use Rattle.grammar.specs.LineOf.{literalsOf, flatWords, lineOf}
+use Rattle.store.specs.Prices.{supplement, hasCost, priceIn, pricesOf}
+use Rattle.store.specs.Saying.{someOn, atomsBy, encodedBy, saidBy, isSecondCost}
 use Rattle.store.specs.Tables.{clauseWords, constraintWords, formulaParts}
 use Rattle.checks.specs.Checks.{lookRefusal, formRefusal, lineRefusal, saidAfter}
 use Rattle.reader.specs.Reading.{ending, readLines, readFile}
@@ -42,5 +46,6 @@ unfolding ones onesIn has word valueOf literalsBelow nodes withNode spelled form
     nodesOf isWordByte isAllowed allOf sameBytes linesFrom isComment tokensFrom padded namesFrom someLong placeOf
     withName withNames rowsOf nodeOf beginsWithLetter depthOf withForm itemsOf literalsOf lineOf someOn atomsBy
     encodedBy saidBy lookRefusal formRefusal lineRefusal saidAfter clauseWords ending readLines readFile constraintWords
-    formulaParts isSentence areNamed isLine
+    formulaParts isSentence areNamed isLine numberFrom isNumber flatWords supplement hasCost priceIn pricesOf isSecondCost
+    costOf cheaper cheapestOf lowestCost
 marked-rows = refl

@@ -31,6 +31,9 @@ same-length-4 c = search needs
 same-length-5 : tie.Need-same-length-5
 same-length-5 c = search needs
 
+same-length-6 : tie.Need-same-length-6
+same-length-6 c = search needs
+
 returns-2 : tie.Need-returns-2
 returns-2 c = search ReadOut.done
 
@@ -46,4 +49,5 @@ causes-read-spec =
     same-length-3
     same-length-4
     same-length-5
+    same-length-6
     returns-2)

@@ -1,4 +1,4 @@
--- `embed::put_asked` meets its contract: the verdict numbers, and four words behind them. Assumes nothing.
+-- `embed::put_asked` meets its contract: the verdict numbers, and six words behind them. Assumes nothing.
 use borrow.Author.Needs.{needs}
 use native.Mathlib.Omega.{arith}
 use Rattle.embed.proofs.Exports.{asked-put}

@@ -10,17 +10,17 @@ use Rattle.layer_report.proofs.operation.report_in.Statement.{statement
 use Rattle.layer_report.proofs.operation.report_in.Tie as tie
 
 -- the places before: the entry, the end of reading, its test passed, and the end of *layers*
-abbrev tables-known : tie.After-read → tie.After-slice-known5
-tables-known c = c .before .before .before .before .before
+abbrev tables-known : tie.After-read → tie.After-slice-known6
+tables-known c = c .before .before .before .before .before .before
 
 abbrev entry : tie.After-read → tie.Start
-entry c = tables-known c .before .before .before .before .before .before
+entry c = tables-known c .before .before .before .before .before .before .before
 
-abbrev clauses-read : tie.After-struct-known → tie.After-slice-known9
+abbrev clauses-read : tie.After-struct-known → tie.After-slice-known11
 clauses-read c = c .before
 
 abbrev tables-read : tie.After-struct-known → tie.After-formula
-tables-read c = clauses-read c .before .before .before
+tables-read c = clauses-read c .before .before .before .before .before
 
 abbrev reading : tie.After-struct-known → tie.After-read
 reading c = tables-read c .before .before .before .before .before
@@ -30,7 +30,8 @@ passed c = c .before .before .before .before
 
 -- the tables as reading leaves them
 abbrev filled : tie.After-read → Lent
-filled c = let p = c .read .last .1 in lent (p .0) (p .1 .0) (p .1 .1 .0) (p .1 .1 .1 .0)
+filled c = let p = c .read .last .1 in
+    lent (p .0) (p .1 .0) (p .1 .1 .0) (p .1 .1 .1 .0) (p .1 .1 .1 .1 .0)
 
 accepted : (c : tie.Else1) → let q = reading (c .before) in
     Accepted (entry q .args .file .now) (filled q) (q .read .result)
@@ -42,7 +43,7 @@ shows : (c : tie.After-layers) → let q = reading (passed c .before) in
 shows c = accepted-shows (accepted (passed c)) (c .layers .ensures)
 
 -- where *layers* has answered, before the end
-abbrev answered : tie.After-slice-known11 → tie.After-layers
+abbrev answered : tie.After-slice-known13 → tie.After-layers
 answered c = c .before .before .before .before .before .before .before
 
 read-requires : tie.Need-read-requires
@@ -66,6 +67,9 @@ same-length-4 c = search needs
 same-length-5 : tie.Need-same-length-5
 same-length-5 c = search needs
 
+same-length-6 : tie.Need-same-length-6
+same-length-6 c = search needs
+
 returns : tie.Need-returns
 returns c =
     let b = c .before .before in
@@ -85,9 +89,6 @@ slice-aggregate-show-entries c = sym (length-take-le _ _ (array-share-prefix-ent
 show-entries-requires : tie.Need-show-entries-requires
 show-entries-requires c κs = shows (c .before .before .before .before) .told
 
-same-length-6 : tie.Need-same-length-6
-same-length-6 c = search needs
-
 same-length-7 : tie.Need-same-length-7
 same-length-7 c = search needs
 
@@ -99,6 +100,12 @@ same-length-9 c = search needs
 
 same-length-10 : tie.Need-same-length-10
 same-length-10 c = search needs
+
+same-length-11 : tie.Need-same-length-11
+same-length-11 c = search needs
+
+same-length-12 : tie.Need-same-length-12
+same-length-12 c = search needs
 
 returns-2 : tie.Need-returns-2
 returns-2 c = record {
@@ -118,14 +125,16 @@ report-in-spec =
     same-length-3
     same-length-4
     same-length-5
+    same-length-6
     returns
     layers-requires
     array-share-prefix-entries
     slice-aggregate-show-entries
     show-entries-requires
-    same-length-6
     same-length-7
     same-length-8
     same-length-9
     same-length-10
+    same-length-11
+    same-length-12
     returns-2)
