@@ -46,7 +46,9 @@ costed-push : (cs : List CostRow) (r : CostRow) → costedIn (cs ++ (r ∷ [])) 
 costed-push cs r =
     let w = costedIn cs in
     sym (is-word 64 (withAtom w (r .atom)) _ (with-atom-lt w (r .atom) (word-lt 64 (hasCost cs)))
-    (λ i h. with-atom-has w (r .atom) i h ∙ rw (has-word 64 (hasCost cs) i h) (sym (cost-push (r .atom) (r .price) cs i))))
+    (λ i h.
+    with-atom-has w (r .atom) i h
+    ∙ rw (has-word 64 (hasCost cs) i h) (sym (cost-push (r .atom) (r .price) cs i))))
 
 costed-after : (st : Said) (y : Line)
     → costedIn (saidBy st y .costs) ≡ withAtom (costedIn (st .costs)) (costAtom (atomOf (st .names)) y)

@@ -88,7 +88,8 @@ roomOf st ts =
 abbrev pub roomNumber : Said → List Token → ℕ
 roomNumber st ts = firstFailed (roomOf st ts)
 
-pub many-refused : (st : Said) (ts : List Token) → 64 < length (withNames (st .names) (namesIn ts)) → 8 ≡ roomNumber st ts
+pub many-refused : (st : Said) (ts : List Token) → 64 < length (withNames (st .names) (namesIn ts))
+    → 8 ≡ roomNumber st ts
 many-refused st ts h =
     names-refused (length (withNames (st .names) (namesIn ts))) (length (st .clauses)) (length (st .constraints))
     (length (st .queries)) (isSecondCost (namedWith st ts) (lineOf ts)) (brings (lineOf ts)) h

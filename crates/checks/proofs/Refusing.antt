@@ -51,8 +51,11 @@ module _ (n cl co q : ℕ) (s : Bool) (b : Brings) where
       module _ (o : co ≤ 32) (j : b .constraints ≤ 32 - co) where
         -- what is left where there is room for names, clauses and constraints
         rest-is : firstFailed (roomChecks n cl co q s b) ≡ firstFailed (costChecks q s b)
-        rest-is =
-            rw (le-leb n 64 h, le-leb (cl + b .clauses) 256 (omega arith), le-leb (co + b .constraints) 32 (omega arith))
+        rest-is = rw (
+          le-leb n 64 h,
+          le-leb (cl + b .clauses) 256 (omega arith),
+          le-leb (co + b .constraints) 32 (omega arith),
+        )
 
         pub price-refused : 1000000 < b .price → 16 ≡ firstFailed (roomChecks n cl co q s b)
         price-refused k = sym (rest-is ∙ rw (lt-leb (b .price) 1000000 k))

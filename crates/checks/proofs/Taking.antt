@@ -89,7 +89,8 @@ module _ {l : List ℕ} {x : Form} (f : Formed l x) {b : Brings} (g : Brought x 
 
       names-kept : Kept (lent cl co fo na pr) (lent cl co fo u pr)
       names-kept =
-          lent-same (kept-refl _ cl) (kept-refl _ co) (kept-refl _ fo) (rows-kept (c .atoms) na _ n u i) (kept-refl _ pr)
+          lent-same (kept-refl _ cl) (kept-refl _ co) (kept-refl _ fo) (rows-kept (c .atoms) na _ n u i)
+          (kept-refl _ pr)
 
       names-long-kept : Long (lent cl co fo u pr)
       names-long-kept = kept-long _ _ names-kept long

@@ -1,6 +1,6 @@
 -- The checks of a line, each over the whole line and what was read before it; the first that fails decides.
--- From: document 01, "What each operation refuses", 3 to 10; document 02, [1], [2], [7] (16 and 17 "both checked after 9
--- and before 10").
+-- From: document 01, "What each operation refuses", 3 to 10; document 02, [1], [2], [7] (16 and 17, "both checked after
+-- 9 and before 10").
 --
 --   lookChecks l       the checks 3 to 5 of the line l, which need nothing of what was read
 --   lookRefusal l      the number of the first of them that fails, 0 where all pass

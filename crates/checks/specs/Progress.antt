@@ -1,5 +1,5 @@
--- What the reader knows between two lines: the record, the tables, and which atoms have a cost line, for which neither has
--- a place.
+-- What the reader knows between two lines: the record, the tables, and which atoms have a cost line, for which neither
+-- has a place.
 -- From: document 02, [7] ("when a name has a second cost line", also behind a price of 0).
 --
 --   costedIn cs         the atoms of the rows cs of costs, bit i for atom i

@@ -191,7 +191,8 @@ module _ {l : List ℕ} {at : ℕ} {r : Next} (t : Found l at r) where
     pub numeral-none : n ≡ NoNumber → NumeralFound l at NoNumeral
     numeral-none h = record {
       numeral-is = rw (flat-word t w)
-          (word-unnumbered (slice a e l) (flatWords (tokens (drop e l))) (subst (NumberIs (slice a e l)) h (d .number-is)));
+          (word-unnumbered (slice a e l) (flatWords (tokens (drop e l)))
+          (subst (NumberIs (slice a e l)) h (d .number-is)));
     }
 
     pub numeral-found : {v : ℕ} → n ≡ Value v → NumeralFound l at (Numeral v e)

@@ -217,7 +217,8 @@ module _ {l : List ℕ} {at k : ℕ} where
   unfolding hasBody
   form-seen e h =
       let o = one-literal (bodyIn (tokens (drop at l))) (rw e at h) in
-      let f = literals-line l at 5 (omega arith) (λ z. omega arith) (λ z. omega arith) ∙ ap (withBody 5 seenOf) (o .1) in
+      let f =
+      literals-line l at 5 (omega arith) (λ z. omega arith) (λ z. omega arith) ∙ ap (withBody 5 seenOf) (o .1) in
       form-as e (record { form-is = record { reading = o .0; literals-are = o .1; line-is = f } })
 
   pub form-other : 5 ≤ k → (k ≡ 6 → ⊥) → (k ≡ 7 → ⊥) → hasBody l at k ≡ true → (k ≡ 5 → ⊥) → FormAfter l at k NoForm

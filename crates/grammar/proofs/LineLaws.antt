@@ -68,7 +68,11 @@ cost-names : (w p s : List ℕ) → isCost w p s ≡ true
 cost-names w p s h =
     let a = and-true-both _ _ h in
     let b = and-true-both _ _ (a .0) in
-    rw (names-name _ w (b .0), names-other _ p (number-unlettered p (b .1)), names-other _ s (number-unlettered s (a .1)))
+    rw (
+      names-name _ w (b .0),
+      names-other _ p (number-unlettered p (b .1)),
+      names-other _ s (number-unlettered s (a .1)),
+    )
 
 pub names-are : (x : Line) → isLine x ≡ true → namesIn (lineTokens x) ≡ lineNames x
 unfolding lineTokens isLine

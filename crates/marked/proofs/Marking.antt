@@ -46,6 +46,6 @@ unfolding ones onesIn has word valueOf literalsBelow nodes withNode spelled form
     nodesOf isWordByte isAllowed allOf sameBytes linesFrom isComment tokensFrom padded namesFrom someLong placeOf
     withName withNames rowsOf nodeOf beginsWithLetter depthOf withForm itemsOf literalsOf lineOf someOn atomsBy
     encodedBy saidBy lookRefusal formRefusal lineRefusal saidAfter clauseWords ending readLines readFile constraintWords
-    formulaParts isSentence areNamed isLine numberFrom isNumber flatWords supplement hasCost priceIn pricesOf isSecondCost
-    costOf cheaper cheapestOf lowestCost
+    formulaParts isSentence areNamed isLine numberFrom isNumber flatWords supplement hasCost priceIn pricesOf
+    isSecondCost costOf cheaper cheapestOf lowestCost
 marked-rows = refl

@@ -70,7 +70,9 @@ m4Priced =
     (Result.accepted (1 ∷ (3 ∷ [])) 15 36 1396 3 (Open ∷ []))
 
 abbrev pub m5 : Row
-m5 = row (shutOrStopped ++ bytes "(seen (not low))\n(query (not shut))") (Result.accepted (8 ∷ []) 15 36 0 8 (Follows ∷ []))
+m5 =
+    row (shutOrStopped ++ bytes "(seen (not low))\n(query (not shut))")
+    (Result.accepted (8 ∷ []) 15 36 0 8 (Follows ∷ []))
 
 abbrev pub m6 : Row
 m6 =

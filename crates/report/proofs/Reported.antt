@@ -167,28 +167,28 @@ module _ {f : List ℕ} {u : Lent} {r : Answer} (a : Accepted f u r) where
 
   module _ {list work listAfter workAfter : List ℕ} {q : question.Answer} (full : length list ≡ 1024)
       (room : length work ≡ 59049)
-      (h : Asked (r .found) (u .clauses) (u .constraints) (u .formula) (u .prices) list work q listAfter workAfter)
-    where
-      asked-said : let st = a .said in
-          Asked (caseSaid st) (clauseTable st) (constraintTable st) (formulaTable st) (priceTable st) list work q
-          listAfter workAfter
-      asked-said = rw (a .case-is, a .clauses-are, a .constraints-are, a .formula-is, a .prices-are) at h
+      (h : Asked (r .found) (u .clauses) (u .constraints) (u .formula) (u .prices) list work q listAfter
+      workAfter) where
+    asked-said : let st = a .said in
+        Asked (caseSaid st) (clauseTable st) (constraintTable st) (formulaTable st) (priceTable st) list work q
+        listAfter workAfter
+    asked-said = rw (a .case-is, a .clauses-are, a .constraints-are, a .formula-is, a .prices-are) at h
 
-      pub accepted-answered : {heads causes : ℕ} → heads ≡ headsOf (u .clauses) (r .found .clauses)
-          → causes ≡ causesAmong (r .found .atoms) heads → Answered f r u causes q listAfter
-      accepted-answered {heads} {causes} d c =
-          let st = a .said in
-          let e : causes ≡ causesIn st =
-          rw (a .case-is, a .clauses-are) at (c ∙ ap (causesAmong (r .found .atoms)) d ∙ sym (causes-of (r .found) _)) in
-          let t : textOf r u causes q listAfter ≡ saidText st =
-          rw (a .case-is)
-          (asked-text f st (a .read-is) list work full room q listAfter workAfter asked-said (u .names) causes
-          (a .names-are) e) in
-          record {
-            names-fit = omega (arith, accepted-names);
-            queries-fit = rw (a .case-is)
-                (asked-queries f st (a .read-is) list work full room q listAfter workAfter asked-said);
-            list-fits = asked-fits f st (a .read-is) list work full room q listAfter workAfter asked-said;
-            text-fits = rw t (omega (arith, said-length f st (a .read-is)));
-            text-is = t ∙ sym (a .text-is saidText);
-          }
+    pub accepted-answered : {heads causes : ℕ} → heads ≡ headsOf (u .clauses) (r .found .clauses)
+        → causes ≡ causesAmong (r .found .atoms) heads → Answered f r u causes q listAfter
+    accepted-answered {heads} {causes} d c =
+        let st = a .said in
+        let e : causes ≡ causesIn st =
+        rw (a .case-is, a .clauses-are) at (c ∙ ap (causesAmong (r .found .atoms)) d ∙ sym (causes-of (r .found) _)) in
+        let t : textOf r u causes q listAfter ≡ saidText st =
+        rw (a .case-is)
+        (asked-text f st (a .read-is) list work full room q listAfter workAfter asked-said (u .names) causes
+        (a .names-are) e) in
+        record {
+          names-fit = omega (arith, accepted-names);
+          queries-fit = rw (a .case-is)
+              (asked-queries f st (a .read-is) list work full room q listAfter workAfter asked-said);
+          list-fits = asked-fits f st (a .read-is) list work full room q listAfter workAfter asked-said;
+          text-fits = rw t (omega (arith, said-length f st (a .read-is)));
+          text-is = t ∙ sym (a .text-is saidText);
+        }

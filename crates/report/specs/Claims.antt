@@ -25,8 +25,8 @@ use Rattle.wording.specs.Text.{verdictLine, roundsLine, decidedLine, minimalLin
 use Rattle.report.specs.Report.{listLength, clauseTable, causesIn, judgeIn, minimalsOf, roundsOf, decidedOf}
 use Rattle.report.specs.Report.{lowestOf, verdictsIn, nameOf, reportText}
 
--- a bound on the length of any report: 16 verdicts, the three lines behind them, 1,024 settings of ten causes with names
--- of 16 bytes, and the line of the lowest cost
+-- a bound on the length of any report: 16 verdicts, the three lines behind them, 1,024 settings of ten causes with
+-- names of 16 bytes, and the line of the lowest cost
 abbrev pub reportLimit : ℕ
 reportLimit = 264640
 

@@ -59,7 +59,8 @@ sets-filled n l vs t h k e =
     filled-has n (l ++ vs) t (ap (λ m. sets m (length l) vs) e ∙ filled-pushes n l vs t h k)
 
 -- fillings that agree up to the size are one
-pub filled-ext : (n : ℕ) (l m old : List ℕ) → ((i : ℕ) → i < n → getD l i 0 ≡ getD m i 0) → filled n l old ≡ filled n m old
+pub filled-ext : (n : ℕ) (l m old : List ℕ) → ((i : ℕ) → i < n → getD l i 0 ≡ getD m i 0)
+    → filled n l old ≡ filled n m old
 unfolding filled
 filled-ext zero l m old h = refl
 filled-ext (suc n) l m [] h = refl

@@ -44,7 +44,8 @@ module _ (P : List ℕ → Type 0) where
   names-each b [] h = tt
   names-each b (Token.opening ∷ ts) h = names-each true ts h
   names-each b (Token.closing ∷ ts) h = names-each false ts h
-  names-each b (Token.word w ∷ ts) h = kept-each (isNameBehind b w) w (namesFrom false ts) (h .0) (names-each false ts (h .1))
+  names-each b (Token.word w ∷ ts) h =
+      kept-each (isNameBehind b w) w (namesFrom false ts) (h .0) (names-each false ts (h .1))
 
 -- ---- the bytes of words
 ended-bytes : (w : List ℕ) (ts : List Token) → allOf isWordByte w ≡ true → EachWord IsWord ts

@@ -33,4 +33,14 @@ returns-5 c = brought-nothing (c .before .args .x) (c .match .keys5)
 
 pub brings-spec : {M : Type 1} → statement M
 brings-spec =
-    tie.close (tie.spec enum-told enum-told-2 enum-known-x enum-known-x-2 returns returns-2 returns-3 returns-4 returns-5)
+    tie.close
+    (tie.spec
+    enum-told
+    enum-told-2
+    enum-known-x
+    enum-known-x-2
+    returns
+    returns-2
+    returns-3
+    returns-4
+    returns-5)

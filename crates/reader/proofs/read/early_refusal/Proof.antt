@@ -1,7 +1,7 @@
 -- `read::early_refusal` meets its contract: a law for each way through the tests. Assumes nothing.
 use borrow.Author.Needs.{needs}
-use Rattle.reader.proofs.EarlyRefusals.{early-table-short, early-names-short, early-prices-short, early-file-long}
-use Rattle.reader.proofs.EarlyRefusals.{early-none}
+use Rattle.reader.proofs.EarlyRefusals.{early-table-short, early-names-short, early-prices-short}
+use Rattle.reader.proofs.EarlyRefusals.{early-file-long, early-none}
 use Rattle.reader.proofs.read.early_refusal.Statement.{statement}
 use Rattle.reader.proofs.read.early_refusal.Tie as tie
 

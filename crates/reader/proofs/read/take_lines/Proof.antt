@@ -11,12 +11,11 @@ use Rattle.reader.proofs.read.take_lines.Statement.{statement}
 use Rattle.reader.proofs.read.take_lines.Tie as tie
 
 abbrev Inv-loop : tie.InvT-loop
-Inv-loop file clauses₀ constraints₀ formula₀ names₀ prices₀ p₀ at₀ line₀ clauses constraints formula names prices p at line =
-    LinesTaken file (lent clauses₀ constraints₀ formula₀ names₀ prices₀)
-    (lent clauses constraints formula names prices) p at line
+Inv-loop file cl₀ co₀ fo₀ na₀ pr₀ p₀ at₀ line₀ cl co fo na pr p at line =
+    LinesTaken file (lent cl₀ co₀ fo₀ na₀ pr₀) (lent cl co fo na pr) p at line
 
 abbrev μ-loop : tie.MeasureT-loop
-μ-loop file clauses₀ constraints₀ formula₀ names₀ prices₀ p₀ at₀ line₀ clauses constraints formula names prices p at line =
+μ-loop file cl₀ co₀ fo₀ na₀ pr₀ p₀ at₀ line₀ cl co fo na pr p at line =
     length file + 1 - at
 
 loop-holds : tie.Need-loop-holds Inv-loop μ-loop
