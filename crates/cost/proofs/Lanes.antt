@@ -7,11 +7,10 @@ use Prim.Native.Nat.{ℕ, zero, suc, _+_, _-_, _^_, _≤_, _<_}
 use native.Mathlib.Nat.{eq-or-lt-of-le, le-of-suc-le-suc}
 use native.Mathlib.Omega.{arith}
 use lib.Bits.{bitAnd}
-use lib.Dec.{ltb}
 use Rattle.words.specs.Choice.{consIf}
 use Rattle.words.specs.Bits.{has}
 use Rattle.words.specs.OneBit.{withoutBit, LowestOf}
-use Rattle.words.proofs.Bits.{has-and, has-not, has-zero}
+use Rattle.words.proofs.Bits.{has-and, has-not}
 use Rattle.words.proofs.Words.{has-lowest}
 use Rattle.words.proofs.BitWalks.{without-here, without-other}
 use Rattle.cost.specs.Block.{settingsAt, MinimalIn}

@@ -74,14 +74,18 @@ cost-names w p s h =
       names-other _ s (number-unlettered s (a .1)),
     )
 
+clause-names : (k : ℕ) (w : List ℕ) (ls : List Literal) → isLine (Line.clause k w ls) ≡ true
+    → namesIn (formTokens (getD lineWords k []) (Token.word w ∷ bodyTokens ls)) ≡ w ∷ bodyNames ls
+clause-names k w ls h =
+    let p = clause-parts {k = k} {w = w} {ls = ls} h in
+    form-names (getD lineWords k []) (Token.word w ∷ bodyTokens ls)
+    (rw (names-name _ w (p .head), body-names ls _ (p .body)))
+
 pub names-are : (x : Line) → isLine x ≡ true → namesIn (lineTokens x) ≡ lineNames x
 unfolding lineTokens isLine
 names-are Line.skipped h = names-end
 names-are Line.noForm h = names-end
-names-are (Line.clause k w ls) h =
-    let p = clause-parts {k = k} {w = w} {ls = ls} h in
-    form-names (getD lineWords k []) (Token.word w ∷ bodyTokens ls)
-    (rw (names-name _ w (p .head), body-names ls _ (p .body)))
+names-are (Line.clause k w ls) h = clause-names k w ls h
 names-are (Line.constraint k ls) h =
     form-names (getD lineWords (3 + k) []) (bodyTokens ls)
     (body-names ls _ (constraint-parts {k = k} {ls = ls} h .body))

@@ -22,21 +22,22 @@ unless-refused : {A : Type 0} (n : ℕ) (x y : A) → (n ≡ 0 → ⊥) → y �
 unless-refused zero x y h = absurd (h refl)
 unless-refused (suc n) x y h = refl
 
+both-true : (a b d : Bool) → ((a && b) && d) ≡ true → (a ≡ true) × (b ≡ true) × (d ≡ true)
+both-true a b d h =
+    let front = and-true-l (a && b) d h in
+    (and-true-l a b front, and-true-r a b front, and-true-r (a && b) d h)
+
 -- the five tables fit where they have their full sizes
 pub fit-long : (t : Lent) → tablesFit t ≡ true → Long t
 unfolding tablesFit
 fit-long t h =
-    let a = tablesFull (t .clauses) (t .constraints) (t .formula) in
-    let b = leb nameSize (length (t .names)) in
-    let d = leb priceSize (length (t .prices)) in
-    let front = and-true-l (a && b) d h in
-    let full = and-true-l a b front in
+    let p = both-true _ (leb nameSize (length (t .names))) (leb priceSize (length (t .prices))) h in
     record {
-      clauses-long = full-clauses _ _ _ full;
-      constraints-long = full-constraints _ _ _ full;
-      formula-long = full-formula _ _ _ full;
-      names-long = leb-true nameSize (length (t .names)) (and-true-r a b front);
-      prices-long = leb-true priceSize (length (t .prices)) (and-true-r (a && b) d h);
+      clauses-long = full-clauses _ _ _ (p .0);
+      constraints-long = full-constraints _ _ _ (p .0);
+      formula-long = full-formula _ _ _ (p .0);
+      names-long = leb-true nameSize _ (p .1);
+      prices-long = leb-true priceSize _ (p .2);
     }
 
 -- the tests one after the other

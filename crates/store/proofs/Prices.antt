@@ -16,7 +16,7 @@ use Rattle.program.specs.Case.{priceSize}
 use Rattle.table.specs.Filled.{filled}
 use Rattle.table.proofs.Filled.{filled-at}
 use Rattle.table.proofs.Kept.{kept-refl, set-kept, filled-ext, filled-as}
-use Rattle.store.specs.Prices.{supplement, priceOf, CostRow, hasCost, priceIn, pricesOf}
+use Rattle.store.specs.Prices.{supplement, CostRow, hasCost, priceIn, pricesOf}
 use Rattle.store.specs.Stored.{withPrice}
 
 -- supplement

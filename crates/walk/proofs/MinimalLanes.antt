@@ -9,7 +9,7 @@ use borrow.Author.Tests.{lt-ltb, le-ltb}
 use Rattle.words.specs.Choice.{consIf}
 use Rattle.words.specs.Bits.{has}
 use Rattle.explanation.specs.Judge.{Judge}
-use Rattle.explanation.specs.Subset.{someProper, minimal}
+use Rattle.explanation.specs.Subset.{minimal}
 use Rattle.explanation.proofs.Minimal.{minimal-is}
 use Rattle.cost.specs.declared.cheapest.Minimals.{Minimals}
 use Rattle.cost.specs.Block.{settingsAt, laneSettings, MinimalIn}

@@ -8,7 +8,9 @@ use Rattle.checks.proofs.take.take_form.Tie as tie
 -- the places before: of the entry, of the names, of the checks 6 and 7 passed, of the line stored, and of all checks
 -- passed
 abbrev entry : tie.After-text-refusal → tie.Start
-entry c = c .before .before .before .before .before .before .before .before
+entry c =
+    let d = c .before .before .before .before in
+    d .before .before .before .before
 
 abbrev named : tie.After-room-refusal → tie.After-intern-line
 named c = c .before .before .before .before .before .before
@@ -17,7 +19,9 @@ abbrev passed : tie.After-intern-line → tie.Else1
 passed c = c .before .before .before
 
 abbrev stored : tie.After-with-atom → tie.After-store-form
-stored c = c .before .before .before .before .before .before .before .before .before
+stored c =
+    let d = c .before .before .before .before .before in
+    d .before .before .before .before
 
 abbrev allowed : tie.After-store-form-arg5 → tie.Else2
 allowed c = c .before .before .before .before .before

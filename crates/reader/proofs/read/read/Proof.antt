@@ -8,7 +8,9 @@ use Rattle.reader.proofs.read.read.Tie as tie
 
 -- the lines are read
 abbrev lines : tie.After-prices → tie.After-read-lines
-lines c = c .before .before .before .before .before .before .before .before .before
+lines c =
+    let d = c .before .before .before .before .before in
+    d .before .before .before .before
 
 returns : tie.Need-returns
 returns c = search (needs, read-refused)

@@ -14,8 +14,9 @@ entry c =
 
 abbrev zeroing : tie.After-take-lines-arg5 → tie.After-zero
 zeroing c =
-    let d = c .before .before .before .before .before .before .before .before in
-    d .before .before .before .before .before .before .before
+    let d = c .before .before .before .before .before in
+    let e = d .before .before .before .before .before in
+    e .before .before .before .before .before
 
 abbrev taken : tie.Then1 → tie.After-take-lines
 taken c =

@@ -13,7 +13,9 @@ use Rattle.report.proofs.operation.report_in.Tie as tie
 
 -- the places before: the entry, the end of reading, its test passed, the end of the question, and of the answer
 abbrev tables-known : tie.After-read → tie.After-slice-known6
-tables-known c = c .before .before .before .before .before .before .before .before
+tables-known c =
+    let d = c .before .before .before .before in
+    d .before .before .before .before
 
 abbrev entry : tie.After-read → tie.Start
 entry c = tables-known c .before .before .before .before .before .before .before
@@ -25,7 +27,9 @@ abbrev reading : tie.After-struct-known → tie.After-read
 reading c = clauses-read c .before .before .before .before
 
 abbrev passed : tie.After-ask → tie.Else1
-passed c = c .before .before .before .before .before .before .before .before
+passed c =
+    let d = c .before .before .before .before in
+    d .before .before .before .before
 
 abbrev asked : tie.After-heads-arg → tie.After-ask
 asked c = c .before .before .before .before .before

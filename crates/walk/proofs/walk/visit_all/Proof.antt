@@ -58,7 +58,9 @@ abbrev looped : tie.In-loop Inv-loop μ-loop → tie.At-loop Inv-loop μ-loop
 looped c = c .before
 
 abbrev begun : tie.After-none Inv-loop μ-loop → tie.Start Inv-loop μ-loop
-begun c = c .before .before .before .before .before .before .before .before
+begun c =
+    let d = c .before .before .before .before in
+    d .before .before .before .before
 
 abbrev priced : tie.At-loop Inv-loop μ-loop → tie.After-priced-in Inv-loop μ-loop
 priced c = c .before .before
