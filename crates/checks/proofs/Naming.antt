@@ -4,9 +4,9 @@ use mathlib.Core.Bool.{true, false}
 use mathlib.Core.List.{List}
 use Prim.Native.Nat.{ℕ}
 use Rattle.text.specs.Tokens.{tokens}
-use Rattle.text.specs.Words.{namesIn}
+use Rattle.text.specs.Words.{namesIn, IsWord}
 use Rattle.text.proofs.Each.{Each, each-both, each-gives}
-use Rattle.text.proofs.Words.{IsWord, line-names-are-words}
+use Rattle.text.proofs.Words.{line-names-are-words}
 use Rattle.formulas.proofs.Spelling.{Lettered}
 use Rattle.grammar.specs.Line.{isLine}
 use Rattle.grammar.specs.LineOf.{lineOf}

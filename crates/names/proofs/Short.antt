@@ -11,10 +11,10 @@ use borrow.Author.Tests.{lt-ltb, le-ltb, ltb-true, ltb-false}
 use Rattle.words.proofs.Tests.{by-test}
 use Rattle.text.specs.Bytes.{isWordByte, allOf}
 use Rattle.text.specs.Tokens.{tokens}
-use Rattle.text.specs.Words.{namesIn}
+use Rattle.text.specs.Words.{namesIn, IsWord}
 use Rattle.text.proofs.ByteLaws.{all-head, all-tail, word-byte-not-zero}
 use Rattle.text.proofs.Each.{Each}
-use Rattle.text.proofs.Words.{IsWord, line-names-are-words, line-names-are-short}
+use Rattle.text.proofs.Words.{line-names-are-words, line-names-are-short}
 use Rattle.names.specs.Names.{someLong}
 use Rattle.names.specs.Held.{NoZero, Named}
 

@@ -56,6 +56,14 @@ module _ (b : ℕ) where
   unfolding isAllowed
   allowed-others e s o = simp (e, ne-eqb b 32 s, ne-eqb b 40 o)
 
+  -- LF is not allowed
+  pub allowed-not-feed : isAllowed b ≡ true → b ≡ 10 → ⊥
+  unfolding isAllowed isWordByte
+  allowed-not-feed t e =
+      let f : isAllowed b ≡ false = rw e in
+      let z : _≡_ {A = ℕ} 0 1 = cc in
+      omega arith
+
 -- allOf
 
 pub and-true-both : (x y : Bool) → (x && y) ≡ true → (x ≡ true) × (y ≡ true)
@@ -81,9 +89,20 @@ module _ (p : ℕ → Bool) where
   all-push [] b h k = rw k
   all-push (c ∷ l) b h k = rw (all-head c l h) (all-push l b (all-tail c l h) k)
 
+  pub all-append : (l m : List ℕ) → allOf p l ≡ true → allOf p m ≡ true → allOf p (l ++ m) ≡ true
+  unfolding allOf
+  all-append [] m h k = k
+  all-append (c ∷ l) m h k = rw (all-head c l h) (all-append l m (all-tail c l h) k)
+
   pub all-ends : (l : List ℕ) (i : ℕ) → length l ≤ i → allOf p (drop i l) ≡ true
   unfolding allOf
   all-ends l i h = rw (drop-of-length-le l h)
+
+pub all-gives : (p q : ℕ → Bool) → ((b : ℕ) → p b ≡ true → q b ≡ true) → (l : List ℕ) → allOf p l ≡ true
+    → allOf q l ≡ true
+unfolding allOf
+all-gives p q f [] h = refl
+all-gives p q f (b ∷ l) h = rw (f b (all-head p b l h)) (all-gives p q f l (all-tail p b l h))
 
 -- every entry of l passes p if those from place i on do
 pub record AllFrom (p : ℕ → Bool) (l : List ℕ) (i : ℕ) : Type 0 where

@@ -11,6 +11,8 @@
 -- NumberLaws: the number that digits stand for.
 -- Names: the names of a line.
 -- Each: what holds of each entry of a list.
+-- Spelled: tokens and lines written as text: what is read, which bytes stand there, and lengths.
+-- Theorems: a proof of each claim.
 pub mod Slices
 pub mod ByteLaws
 pub mod Same
@@ -23,3 +25,5 @@ pub mod Words
 pub mod NumberLaws
 pub mod Names
 pub mod Each
+pub mod Spelled
+pub mod Theorems

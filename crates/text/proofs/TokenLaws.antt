@@ -30,7 +30,7 @@ module _ (l w : List ℕ) (i : ℕ) where
   unfolding tokensFrom
   tokens-off h t = rw (add-one, drop-cons l i 0 h) (rw t)
 
-ended-word : (w : List ℕ) (ts : List Token) → 0 < length w → ended w ts ≡ Token.word w ∷ ts
+pub ended-word : (w : List ℕ) (ts : List Token) → 0 < length w → ended w ts ≡ Token.word w ∷ ts
 ended-word [] ts h = absurd (not-suc-le-zero h)
 ended-word (b ∷ w) ts h = refl
 

@@ -11,35 +11,25 @@ use lib.Seq.{slice, slice-cons}
 use Rattle.words.specs.Choice.{pick, consIf}
 use Rattle.text.specs.Bytes.{isLetter, isWordByte, allOf}
 use Rattle.text.specs.Tokens.{Token, ended, bracket, tokensFrom, tokens}
-use Rattle.text.specs.Words.{beginsWithLetter, isNameBehind, namesFrom, namesIn}
+use Rattle.text.specs.Words.{beginsWithLetter, isNameBehind, namesFrom, namesIn, IsWord, EachWord, WordBytes}
 use Rattle.text.proofs.Each.{Each}
 use Rattle.text.proofs.ByteLaws.{all-push}
 
--- a word that holds a byte, and only bytes that stand in words
-abbrev pub IsWord : List ℕ → Type 0
-IsWord w = (0 < length w) × (allOf isWordByte w ≡ true)
-
 -- ---- what holds of each word of a list of tokens
 module _ (P : List ℕ → Type 0) where
-  abbrev EachWord : List Token → Type 0
-  EachWord [] = Unit {0}
-  EachWord (Token.opening ∷ ts) = EachWord ts
-  EachWord (Token.closing ∷ ts) = EachWord ts
-  EachWord (Token.word w ∷ ts) = P w × EachWord ts
-
-  picked-each : (t : Bool) (x y : List Token) → (t ≡ true → EachWord x) → (t ≡ false → EachWord y)
-      → EachWord (pick t x y)
+  picked-each : (t : Bool) (x y : List Token) → (t ≡ true → EachWord P x) → (t ≡ false → EachWord P y)
+      → EachWord P (pick t x y)
   picked-each true x y f g = f refl
   picked-each false x y f g = g refl
 
-  bracket-each : (b : ℕ) (ts : List Token) → EachWord ts → EachWord (bracket b ts)
+  bracket-each : (b : ℕ) (ts : List Token) → EachWord P ts → EachWord P (bracket b ts)
   bracket-each b ts h = picked-each (eqb b 40) _ _ (λ _. h) (λ _. picked-each (eqb b 41) _ _ (λ _. h) (λ _. h))
 
   kept-each : (t : Bool) (w : List ℕ) (ws : List (List ℕ)) → P w → Each P ws → Each P (consIf t w ws)
   kept-each true w ws h k = (h, k)
   kept-each false w ws h k = k
 
-  names-each : (b : Bool) (ts : List Token) → EachWord ts → Each P (namesFrom b ts)
+  names-each : (b : Bool) (ts : List Token) → EachWord P ts → Each P (namesFrom b ts)
   unfolding namesFrom
   names-each b [] h = tt
   names-each b (Token.opening ∷ ts) h = names-each true ts h
@@ -48,12 +38,12 @@ module _ (P : List ℕ → Type 0) where
       kept-each (isNameBehind b w) w (namesFrom false ts) (h .0) (names-each false ts (h .1))
 
 -- ---- the bytes of words
-ended-bytes : (w : List ℕ) (ts : List Token) → allOf isWordByte w ≡ true → EachWord IsWord ts
-    → EachWord IsWord (ended w ts)
+ended-bytes : (w : List ℕ) (ts : List Token) → allOf isWordByte w ≡ true → WordBytes ts
+    → WordBytes (ended w ts)
 ended-bytes [] ts h k = k
 ended-bytes (b ∷ w) ts h k = ((omega arith, h), k)
 
-tokens-from-bytes : (w l : List ℕ) → allOf isWordByte w ≡ true → EachWord IsWord (tokensFrom w l)
+tokens-from-bytes : (w l : List ℕ) → allOf isWordByte w ≡ true → WordBytes (tokensFrom w l)
 unfolding tokensFrom allOf
 tokens-from-bytes w [] h = ended-bytes w [] h tt
 tokens-from-bytes w (b ∷ l) h =
