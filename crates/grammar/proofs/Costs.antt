@@ -1,99 +1,45 @@
--- Laws of costs: the words of a flat line, how they are spelled, and one law for each way out of `numeral_at`
--- and `cost_form`.
---
---   Wordless x         the words x are none, or no word
---   flatTokens ws      the tokens of a flat line from its words ws on
---   FlatSpells ts x    the words x, if any, are spelled by ts
+-- Laws of costs: how they are spelled, and one law for each way out of `numeral_at` and `cost_form`.
 -- Assumes nothing.
-use mathlib.Core.Path.{_≡_, refl, sym, ap, _∙_, subst}
-use mathlib.Core.Bool.{Bool, true, false, true≢false, and-false}
+use mathlib.Core.Path.{_≡_, refl, subst}
+use mathlib.Core.Bool.{Bool, true, false, and-false}
 use mathlib.Core.List.{List, [], _∷_}
-use mathlib.Core.Logic.{_⊎_, inl, inr}
+use mathlib.Core.Logic.{inl, inr}
 use mathlib.Core.Option.{Option}
 use Prim.Native.Nat.{ℕ}
-use lib.ListN.{drop, getD}
+use lib.ListN.{drop}
 use lib.Seq.{slice}
 use denote.Enum.Declared.{tagOf}
-use types.Run.{OneOf, miss}
+use types.Run.{OneOf}
 use Rattle.words.specs.Choice.{pick}
 use Rattle.text.specs.Tokens.{Token, tokens}
 use Rattle.text.specs.Words.{beginsWithLetter}
 use Rattle.text.specs.Numbers.{isNumber}
-use Rattle.text.specs.Scanning.{Found, firstToken, NumberIs, NumberRead}
+use Rattle.text.specs.Scanning.{Found, NumberIs, NumberRead}
 use Rattle.text.specs.declared.tokens.Next.{Next}
-use Rattle.text.specs.declared.tokens.Next.the-variants.{End, Open, Close, Word}
+use Rattle.text.specs.declared.tokens.Next.the-variants.{Word}
 use Rattle.text.specs.declared.number.Number.{Number}
 use Rattle.text.specs.declared.number.Number.the-variants.{NoNumber, Value}
 use Rattle.text.proofs.tokens.Next.{the-type}
-use Rattle.text.proofs.TokenLaws.{found-tokens, word-filled, word-within}
-use Rattle.formulas.specs.Items.{prepend, Item, itemsOf}
-use Rattle.formulas.proofs.Reading.{items-end, items-closing}
-use Rattle.formulas.proofs.Spelling.{spelledItems, Spells, items-spell}
-use Rattle.grammar.specs.Line.{Line, lineWords, lineTokens, isCost, isLine}
+use Rattle.text.proofs.TokenLaws.{word-filled, word-within}
+use Rattle.formulas.specs.Items.{prepend}
+use Rattle.grammar.specs.Line.{Line, lineTokens, isCost, isLine}
 use Rattle.grammar.specs.LineOf.{flatWords, costLine, withWords}
-use Rattle.grammar.specs.Parsing.{endsItems, Unnumbered, NumeralAt, NumeralIs, NumeralFound, endsLine, FormAfter}
+use Rattle.grammar.specs.Parsing.{Unnumbered, NumeralAt, NumeralIs, NumeralFound, endsLine, FormAfter}
 use Rattle.grammar.specs.declared.numeral.Numeral as read
 use Rattle.grammar.specs.declared.numeral.Numeral.the-variants.{NoNumeral, Numeral}
 use Rattle.grammar.specs.declared.line.Form.the-variants.{NoForm, Cost}
-use Rattle.grammar.proofs.Forms.{ends-is}
-
--- the words of a flat line, or none
-abbrev Words : Type 0
-Words = Option (List (List ℕ))
-
-abbrev Wordless : Words → Type 0
-Wordless x = (x ≡ Option.none) ⊎ (x ≡ Option.some [])
-
-closed-wordless : (ts : List Token) → Wordless (flatWords (Token.closing ∷ ts))
-unfolding flatWords
-closed-wordless [] = inr refl
-closed-wordless (t ∷ ts) = inl refl
-
-first-wordless : (l : List ℕ) (r : Next) → OneOf (0 ∷ (1 ∷ (2 ∷ []))) (tagOf the-type r)
-    → Wordless (flatWords (firstToken l r))
-unfolding flatWords
-first-wordless l End h = inl refl
-first-wordless l (Open n) h = inl refl
-first-wordless l (Close n) h = closed-wordless (tokens (drop n l))
-first-wordless l (Word a e) h = absurd (miss (0 ∷ (1 ∷ (2 ∷ []))) 3 tt h)
+use Rattle.grammar.proofs.Flat.{Words, Wordless, Followed, flatTokens, LineSpells, flat-word, flat-other}
+use Rattle.grammar.proofs.Flat.{ended-words, unended-words, wordless-line}
 
 -- What is read is spelled
 
-unfoldable pub flatTokens : List (List ℕ) → List Token
-flatTokens [] = Token.closing ∷ []
-flatTokens (w ∷ ws) = Token.word w ∷ flatTokens ws
-
-abbrev pub FlatSpells : List Token → Words → Type 0
-FlatSpells ts Option.none = Unit {0}
-FlatSpells ts (Option.some ws) = ts ≡ flatTokens ws
-
-word-spells : (w : List ℕ) (ts : List Token) (x : Words) → FlatSpells ts x
-    → FlatSpells (Token.word w ∷ ts) (prepend w x)
-unfolding flatTokens
-word-spells w ts Option.none h = tt
-word-spells w ts (Option.some ws) h = ap (λ us. Token.word w ∷ us) h
-
-pub flat-spells : (ts : List Token) → FlatSpells ts (flatWords ts)
-unfolding flatWords flatTokens
-flat-spells [] = tt
-flat-spells (Token.opening ∷ ts) = tt
-flat-spells (Token.closing ∷ []) = refl
-flat-spells (Token.closing ∷ (t ∷ ts)) = tt
-flat-spells (Token.word w ∷ ts) = word-spells w ts (flatWords ts) (flat-spells ts)
-
--- a cost of these words is no form, or spelled by them
-abbrev CostSpells : List (List ℕ) → Line → Type 0
-CostSpells ws x =
-    (x ≡ Line.noForm)
-    ⊎ ((isLine x ≡ true) × (lineTokens x ≡ Token.opening ∷ (Token.word (getD lineWords 7 []) ∷ flatTokens ws)))
-
 three-spell : (w p s : List ℕ) (b : Bool) → isCost w p s ≡ b
-    → CostSpells (w ∷ (p ∷ (s ∷ []))) (pick b (Line.cost w p s) Line.noForm)
+    → LineSpells 7 (w ∷ (p ∷ (s ∷ []))) (pick b (Line.cost w p s) Line.noForm)
 unfolding flatTokens isLine lineTokens
 three-spell w p s true e = inr (e, refl)
 three-spell w p s false e = inl refl
 
-pub cost-spells : (ws : List (List ℕ)) → CostSpells ws (costLine ws)
+pub cost-spells : (ws : List (List ℕ)) → LineSpells 7 ws (costLine ws)
 cost-spells [] = inl refl
 cost-spells (w ∷ []) = inl refl
 cost-spells (w ∷ (p ∷ [])) = inl refl
@@ -103,7 +49,7 @@ cost-spells (w ∷ (p ∷ (s ∷ (v ∷ ws)))) = inl refl
 -- What is spelled is read
 
 pub cost-words : (w p s : List ℕ) → isCost w p s ≡ true
-    → withWords (flatWords (Token.word w ∷ (Token.word p ∷ (Token.word s ∷ (Token.closing ∷ []))))) ≡ Line.cost w p s
+    → withWords 7 (flatWords (Token.word w ∷ (Token.word p ∷ (Token.word s ∷ (Token.closing ∷ []))))) ≡ Line.cost w p s
 unfolding flatWords
 cost-words w p s h = rw h
 
@@ -112,25 +58,21 @@ cost-words w p s h = rw h
 wrong-cost : (w p s : List ℕ) → isCost w p s ≡ false → costLine (w ∷ (p ∷ (s ∷ []))) ≡ Line.noForm
 wrong-cost w p s h = rw h
 
-wordless-line : (x : Words) → Wordless x → withWords x ≡ Line.noForm
-wordless-line x (inl e) = rw e
-wordless-line x (inr e) = rw e
-
-unnamed-line : (w : List ℕ) → beginsWithLetter w ≡ false → (x : Words) → withWords (prepend w x) ≡ Line.noForm
+unnamed-line : (w : List ℕ) → beginsWithLetter w ≡ false → (x : Words) → withWords 7 (prepend w x) ≡ Line.noForm
 unnamed-line w h Option.none = refl
 unnamed-line w h (Option.some []) = refl
 unnamed-line w h (Option.some (p ∷ [])) = refl
 unnamed-line w h (Option.some (p ∷ (s ∷ []))) = wrong-cost w p s (rw h)
 unnamed-line w h (Option.some (p ∷ (s ∷ (v ∷ ws)))) = refl
 
-unpriced-line : (w : List ℕ) (x : Words) → Unnumbered x → withWords (prepend w x) ≡ Line.noForm
+unpriced-line : (w : List ℕ) (x : Words) → Unnumbered x → withWords 7 (prepend w x) ≡ Line.noForm
 unpriced-line w Option.none h = refl
 unpriced-line w (Option.some []) h = refl
 unpriced-line w (Option.some (p ∷ [])) h = refl
 unpriced-line w (Option.some (p ∷ (s ∷ []))) h = wrong-cost w p s (rw (h, and-false))
 unpriced-line w (Option.some (p ∷ (s ∷ (v ∷ ws)))) h = refl
 
-half-priced-line : (w p : List ℕ) (x : Words) → Unnumbered x → withWords (prepend w (prepend p x)) ≡ Line.noForm
+half-priced-line : (w p : List ℕ) (x : Words) → Unnumbered x → withWords 7 (prepend w (prepend p x)) ≡ Line.noForm
 half-priced-line w p Option.none h = refl
 half-priced-line w p (Option.some []) h = refl
 half-priced-line w p (Option.some (s ∷ [])) h = wrong-cost w p s (rw (h, and-false))
@@ -140,40 +82,14 @@ half-priced-line w p (Option.some (s ∷ (v ∷ ws))) h = refl
 
 module _ (w p s : List ℕ) where
   abbrev behind : Words → Line
-  behind x = withWords (prepend w (prepend p (prepend s x)))
+  behind x = withWords 7 (prepend w (prepend p (prepend s x)))
 
-  more-words : (v : List ℕ) (x : Words) → behind (prepend v x) ≡ Line.noForm
-  more-words v Option.none = refl
-  more-words v (Option.some ws) = refl
-
-  unended : (ts : List Token) → endsItems (itemsOf ts) ≡ false → behind (flatWords ts) ≡ Line.noForm
-  unfolding flatWords
-  unended [] h = refl
-  unended (Token.opening ∷ ts) h = refl
-  unended (Token.closing ∷ []) h = absurd (true≢false (sym (rw (items-closing, items-end)) ∙ h))
-  unended (Token.closing ∷ (t ∷ ts)) h = refl
-  unended (Token.word v ∷ ts) h = more-words v (flatWords ts)
-
--- a closing bracket alone has no words
-ended-tokens : (ts : List Token) → itemsOf ts ≡ Option.some (Item.closing ∷ []) → ts ≡ Token.closing ∷ []
-unfolding spelledItems
-ended-tokens ts e = subst (Spells ts) e (items-spell ts) .0
-
-ended-words : (ts : List Token) → endsItems (itemsOf ts) ≡ true → flatWords ts ≡ Option.some []
-unfolding flatWords
-ended-words ts h = rw (ended-tokens ts (ends-is (itemsOf ts) h))
+  unended : (x : Words) → Followed x → behind x ≡ Line.noForm
+  unended Option.none h = refl
+  unended (Option.some []) h = absurd h
+  unended (Option.some (v ∷ ws)) h = refl
 
 -- The ways out of `numeral_at`
-
--- a word stands next, or none
-flat-word : {l : List ℕ} {at a e : ℕ} {r : Next} → Found l at r → r ≡ Word a e
-    → flatWords (tokens (drop at l)) ≡ prepend (slice a e l) (flatWords (tokens (drop e l)))
-unfolding flatWords
-flat-word t w = rw (found-tokens t w)
-
-flat-other : {l : List ℕ} {at : ℕ} {r : Next} → Found l at r → OneOf (0 ∷ (1 ∷ (2 ∷ []))) (tagOf the-type r)
-    → Wordless (flatWords (tokens (drop at l)))
-flat-other {l} {r = r} t h = rw (t .tokens-are) (first-wordless l r h)
 
 wordless-unnumbered : (x : Words) → Wordless x → Unnumbered x
 wordless-unnumbered x (inl e) = rw e tt
@@ -207,7 +123,7 @@ module _ {l : List ℕ} {at : ℕ} {r : Next} (t : Found l at r) where
 
 module _ {l : List ℕ} {at : ℕ} {r : Next} (t : Found l at r) where
   pub cost-wordless : OneOf (0 ∷ (1 ∷ (2 ∷ []))) (tagOf the-type r) → FormAfter l at 7 NoForm
-  cost-wordless h = record { form-is = wordless-line _ (flat-other t h) }
+  cost-wordless h = record { form-is = wordless-line 7 refl _ (flat-other t h) }
 
   module _ {a e : ℕ} (w : r ≡ Word a e) where
     pub cost-unnamed : beginsWithLetter (slice a e l) ≡ false → FormAfter l at 7 NoForm
@@ -240,14 +156,15 @@ module _ {l : List ℕ} {at : ℕ} {r : Next} (t : Found l at r) where
           abbrev three : List Token → Line
           three ts = behind (slice a e l) (price-at .digits) (supplement-at .digits) (flatWords ts)
 
-          three-words : (z : Line) → three (tokens (drop g l)) ≡ z → withWords (flatWords (tokens (drop at l))) ≡ z
+          three-words : (z : Line) → three (tokens (drop g l)) ≡ z → withWords 7 (flatWords (tokens (drop at l))) ≡ z
           three-words z k = rw (flat-word t w, price-at .words-are, supplement-at .words-are) k
 
           pub cost-unended : endsLine l g ≡ false → FormAfter l at 7 NoForm
           unfolding endsLine
           cost-unended h = record {
             form-is = three-words Line.noForm
-                (unended (slice a e l) (price-at .digits) (supplement-at .digits) (tokens (drop g l)) h);
+                (unended (slice a e l) (price-at .digits) (supplement-at .digits)
+                (flatWords (tokens (drop g l))) (unended-words (tokens (drop g l)) h));
           }
 
           pub cost-found : beginsWithLetter (slice a e l) ≡ true → endsLine l g ≡ true

@@ -12,7 +12,7 @@ use lib.ListN.{length, drop}
 use lib.Seq.{slice}
 use denote.Enum.Declared.{tagOf}
 use types.Run.{OneOf, miss}
-use borrow.Author.Tests.{eqb-true, lt-ltb, le-ltb, ne-eqb}
+use borrow.Author.Tests.{eqb-true, lt-ltb}
 use Rattle.words.specs.Choice.{pick}
 use Rattle.text.specs.Tokens.{Token, tokens}
 use Rattle.text.specs.Words.{beginsWithLetter}
@@ -88,14 +88,14 @@ module _ {l : List ℕ} {at : ℕ} {x : Line} where
         line-is = e ∙ ap (withBody k make) (b .literals-are) ∙ fit-body k make (b .literals) (b .fits);
       }
 
--- Lines of formulas: all but costs
+-- Lines of formulas: all but the flat ones
 
-pub behind-items : (k : ℕ) (ts : List Token) → (k ≡ 7 → ⊥) → behindWord k ts ≡ withItems k (itemsOf ts)
-behind-items k ts n = rw (ne-eqb k 7 n)
+pub behind-items : (k : ℕ) (ts : List Token) → k < 7 → behindWord k ts ≡ withItems k (itemsOf ts)
+behind-items k ts h = rw (lt-ltb k 7 h)
 
-after-items : {l : List ℕ} {at k : ℕ} {r : Form} → (k ≡ 7 → ⊥)
+after-items : {l : List ℕ} {at k : ℕ} {r : Form} → k < 7
     → FormIs l r (withItems k (itemsOf (tokens (drop at l)))) → FormAfter l at k r
-after-items {l} {at} {k} n f = record { form-is = rw (behind-items k (tokens (drop at l)) n) f }
+after-items {l} {at} {k} h f = record { form-is = rw (behind-items k (tokens (drop at l)) h) f }
 
 -- The ways out of `clause_form`
 
@@ -106,26 +106,26 @@ clause-is k {us = us} {w = w} i e n = rw (e, items-name us w n) (kind-named k i 
 module _ {l : List ℕ} {at k : ℕ} {r : Next} where
   pub clause-wordless : Found l at r → k ≤ 2 → OneOf (0 ∷ (1 ∷ (2 ∷ []))) (tagOf the-type r) → FormAfter l at k NoForm
   clause-wordless t i h =
-      after-items (λ z. omega arith) (kind-unnamed k i (itemsOf (tokens (drop at l))) (found-unnamed t h))
+      after-items (omega arith) (kind-unnamed k i (itemsOf (tokens (drop at l))) (found-unnamed t h))
 
   module _ {a e : ℕ} (w : r ≡ Word a e) (t : Found l at r) (i : k ≤ 2) where
     pub clause-word : beginsWithLetter (slice a e l) ≡ false → FormAfter l at k NoForm
     clause-word h =
-        after-items (λ z. omega arith) (kind-unnamed k i (itemsOf (tokens (drop at l)))
+        after-items (omega arith) (kind-unnamed k i (itemsOf (tokens (drop at l)))
         (rw (found-as t w .tokens-are, items-word (tokens (drop e l)) (slice a e l) h)))
 
     module _ (n : beginsWithLetter (slice a e l) ≡ true) where
       pub clause-unfit : hasBody l e k ≡ false → FormAfter l at k NoForm
       unfolding hasBody
       clause-unfit h =
-          after-items (λ z. omega arith)
+          after-items (omega arith)
           (clause-is k i (found-as t w .tokens-are) n ∙ unfit-body k _ (bodyIn (tokens (drop e l))) h)
 
       pub clause-found : hasBody l e k ≡ true → FormAfter l at k (Clause k a e e)
       clause-found h =
           let g = found-as t w in
           let makes = body-makes k (Line.clause k (slice a e l)) (clause-is k i (g .tokens-are) n) h in
-          after-items (λ z. omega arith) (i, (g .inside .1, g .inside .2), makes)
+          after-items (omega arith) (i, (g .inside .1, g .inside .2), makes)
 
 -- The ways out of `query_form`
 
@@ -186,45 +186,38 @@ one-literal (Option.some (a ∷ (b ∷ ls))) h = absurd (omega (arith, eqb-true 
 pub constraint-kind : (k : ℕ) (ls : List Literal) → k < 5 → bodyLine k ls ≡ Line.constraint (k - 3) ls
 constraint-kind k ls h = rw (lt-ltb k 5 h)
 
-other-kind : (k : ℕ) (ls : List Literal) → 5 ≤ k → (k ≡ 5 → ⊥) → bodyLine k ls ≡ Line.noForm
-other-kind k ls h n = rw (le-ltb k 5 h, ne-eqb k 5 n)
-
 -- a line of literals alone
-literals-line : (l : List ℕ) (at k : ℕ) → 3 ≤ k → (k ≡ 6 → ⊥) → (k ≡ 7 → ⊥)
+literals-line : (l : List ℕ) (at k : ℕ) → 3 ≤ k → k < 6
     → behindWord k (tokens (drop at l)) ≡ withBody k (bodyLine k) (bodyIn (tokens (drop at l)))
-literals-line l at k i n m = behind-items k (tokens (drop at l)) m ∙ body-kind k (itemsOf (tokens (drop at l))) i n
+literals-line l at k i j =
+    behind-items k (tokens (drop at l)) (omega arith) ∙ body-kind k (itemsOf (tokens (drop at l))) i j
 
 module _ {l : List ℕ} {at k : ℕ} where
   pub form-as : {j : ℕ} {r : Form} → k ≡ j → FormAfter l at j r → FormAfter l at k r
   form-as {r = r} e f = subst (λ j. FormAfter l at j r) (sym e) f
 
-  pub form-unfit : 3 ≤ k → (k ≡ 6 → ⊥) → (k ≡ 7 → ⊥) → hasBody l at k ≡ false → FormAfter l at k NoForm
+  pub form-unfit : 3 ≤ k → k < 7 → (k ≡ 6 → ⊥) → hasBody l at k ≡ false → FormAfter l at k NoForm
   unfolding hasBody
-  form-unfit i n m h = record {
-    form-is = literals-line l at k i n m ∙ unfit-body k (bodyLine k) (bodyIn (tokens (drop at l))) h;
+  form-unfit i j n h = record {
+    form-is = literals-line l at k i (omega arith) ∙ unfit-body k (bodyLine k) (bodyIn (tokens (drop at l))) h;
   }
 
   pub form-constraint : 3 ≤ k → k < 5 → hasBody l at k ≡ true → FormAfter l at k (Constraint (k - 3) at)
   form-constraint i j h =
-      let makes = body-makes k (bodyLine k) (literals-line l at k i (λ z. omega arith) (λ z. omega arith)) h in
+      let makes = body-makes k (bodyLine k) (literals-line l at k i (omega arith)) h in
       let line = makes .line-is ∙ constraint-kind k (makes .literals) j in
       record {
         form-is =
             (omega arith, record { literals = makes .literals; literals-are = makes .literals-are; line-is = line });
       }
 
-  pub form-seen : k ≡ 5 → hasBody l at k ≡ true → FormAfter l at k (Seen at)
+  pub form-seen : 5 ≤ k → k < 7 → (k ≡ 6 → ⊥) → hasBody l at k ≡ true → FormAfter l at k (Seen at)
   unfolding hasBody
-  form-seen e h =
+  form-seen i j n h =
+      let e : k ≡ 5 = omega arith in
       let o = one-literal (bodyIn (tokens (drop at l))) (rw e at h) in
-      let f =
-      literals-line l at 5 (omega arith) (λ z. omega arith) (λ z. omega arith) ∙ ap (withBody 5 seenOf) (o .1) in
+      let f = literals-line l at 5 (omega arith) (omega arith) ∙ ap (withBody 5 seenOf) (o .1) in
       form-as e (record { form-is = record { reading = o .0; literals-are = o .1; line-is = f } })
-
-  pub form-other : 5 ≤ k → (k ≡ 6 → ⊥) → (k ≡ 7 → ⊥) → hasBody l at k ≡ true → (k ≡ 5 → ⊥) → FormAfter l at k NoForm
-  form-other i n p h m =
-      let makes = body-makes k (bodyLine k) (literals-line l at k (omega arith) n p) h in
-      record { form-is = makes .line-is ∙ other-kind k (makes .literals) i m }
 
 -- The ways out of `form_of`
 

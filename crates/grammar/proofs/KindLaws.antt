@@ -58,6 +58,6 @@ module _ (k : ℕ) (i : k ≤ 2) where
   kind-named w (Option.some m) = clause-kind k (Item.formula (Sentence.name w) ∷ m) i
 
 -- lines of literals alone
-pub body-kind : (k : ℕ) (x : Items) → 3 ≤ k → (k ≡ 6 → ⊥) → withItems k x ≡ withBody k (bodyLine k) (literalsAmong x)
-body-kind k Option.none i n = refl
-body-kind k (Option.some m) i n = rw (le-ltb k 3 i, ne-eqb k 6 n)
+pub body-kind : (k : ℕ) (x : Items) → 3 ≤ k → k < 6 → withItems k x ≡ withBody k (bodyLine k) (literalsAmong x)
+body-kind k Option.none i j = refl
+body-kind k (Option.some m) i j = rw (le-ltb k 3 i, ne-eqb k 6 (λ z. omega arith))

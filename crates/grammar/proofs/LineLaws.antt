@@ -36,6 +36,7 @@ use Rattle.grammar.specs.LineOf.{lineOf}
 use Rattle.grammar.specs.Parsing.{Brought}
 use Rattle.grammar.specs.declared.line.Form.{Form}
 use Rattle.grammar.specs.declared.line.Form.the-variants.{Skipped, NoForm, Clause, Constraint, Seen, Query, Cost}
+use Rattle.grammar.specs.declared.line.Form.the-variants.{Atom}
 use Rattle.grammar.specs.declared.brings.Brings.{Brings}
 use Rattle.grammar.proofs.line.Form.{the-type}
 use Rattle.grammar.proofs.Spelling.{sentence-read, clause-parts, constraint-parts}
@@ -94,6 +95,7 @@ names-are (Line.seen x) h =
 names-are (Line.query f) h = form-names (getD lineWords 6 []) (tokensOf f) (sentence-names f _ h)
 names-are (Line.cost w p s) h =
     form-names (getD lineWords 7 []) (Token.word w ∷ (Token.word p ∷ (Token.word s ∷ []))) (cost-names w p s h)
+names-are (Line.atom w) h = form-names (getD lineWords 8 []) (Token.word w ∷ []) (names-name _ w h)
 
 pub line-names : (ts : List Token) → isLine (lineOf ts) ≡ true → namesIn ts ≡ lineNames (lineOf ts)
 line-names ts h = sym (ap namesIn (line-spells ts h)) ∙ names-are (lineOf ts) h
@@ -119,6 +121,7 @@ line-lettered (Line.constraint k ls) h = body-lettered ls (constraint-parts {k =
 line-lettered (Line.seen x) h = rw (literal-names x) at (sentence-lettered (ofLiteral x) h)
 line-lettered (Line.query f) h = sentence-lettered f h
 line-lettered (Line.cost w p s) h = (and-true-both _ _ (and-true-both _ _ h .0) .0, tt)
+line-lettered (Line.atom w) h = (h, tt)
 
 -- What a line brings, by its form
 
@@ -130,6 +133,7 @@ bringsOf (Constraint k at) = bringing 0 1 0 0
 bringsOf (Seen at) = bringing 0 0 0 0
 bringsOf (Query at d) = bringing 0 0 1 d
 bringsOf (Cost a e p s) = pricing p s
+bringsOf (Atom a e) = bringing 0 0 0 0
 
 brought : (x : Form) → Brought x (bringsOf x)
 brought Skipped l y h = rw h
@@ -139,16 +143,21 @@ brought (Constraint k at) l y h = rw (h .1 .line-is)
 brought (Seen at) l y h = rw (h .line-is)
 brought (Query at d) l y h = rw (h .line-is, h .depth-is)
 brought (Cost a e p s) l y h = rw (h .1 .line-is, h .1 .price-is, h .1 .supplement-is)
+brought (Atom a e) l y h = rw (h .1)
 
--- the forms that bring nothing
-pub brought-nothing : (x : Form) → OneOf (0 ∷ (1 ∷ (4 ∷ []))) (tagOf the-type x) → Brought x (bringing 0 0 0 0)
+-- the tags of the forms that bring nothing
+abbrev idle : List ℕ
+idle = 0 ∷ (1 ∷ (4 ∷ (7 ∷ [])))
+
+pub brought-nothing : (x : Form) → OneOf idle (tagOf the-type x) → Brought x (bringing 0 0 0 0)
 brought-nothing Skipped h = brought Skipped
 brought-nothing NoForm h = brought NoForm
-brought-nothing (Clause k a e at) h = absurd (miss (0 ∷ (1 ∷ (4 ∷ []))) 2 tt h)
-brought-nothing (Constraint k at) h = absurd (miss (0 ∷ (1 ∷ (4 ∷ []))) 3 tt h)
+brought-nothing (Clause k a e at) h = absurd (miss idle 2 tt h)
+brought-nothing (Constraint k at) h = absurd (miss idle 3 tt h)
 brought-nothing (Seen at) h = brought (Seen at)
-brought-nothing (Query at d) h = absurd (miss (0 ∷ (1 ∷ (4 ∷ []))) 5 tt h)
-brought-nothing (Cost a e p s) h = absurd (miss (0 ∷ (1 ∷ (4 ∷ []))) 6 tt h)
+brought-nothing (Query at d) h = absurd (miss idle 5 tt h)
+brought-nothing (Cost a e p s) h = absurd (miss idle 6 tt h)
+brought-nothing (Atom a e) h = brought (Atom a e)
 
 pub brought-as : {x : Form} (y : Form) → x ≡ y → Brought x (bringsOf y)
 brought-as y e = subst (λ z. Brought z (bringsOf y)) (sym e) (brought y)
@@ -174,6 +183,7 @@ Shaped n (Line.constraint k ls) = (k < 2) × Bodied ls
 Shaped n (Line.seen x) = Unit {0}
 Shaped n (Line.query f) = 2 * sizeOf f ≤ n
 Shaped n (Line.cost w p s) = Unit {0}
+Shaped n (Line.atom w) = Unit {0}
 
 no-literal : (ls : List Literal) → length ls ≡ 0 → ls ≡ []
 no-literal [] h = refl
@@ -204,6 +214,7 @@ shaped (Line.seen x) h = tt
 shaped (Line.query f) h =
     omega (arith, formula-size (tokensOf f ++ (Token.closing ∷ [])) f (Item.closing ∷ []) (sentence-read f h))
 shaped (Line.cost w p s) h = tt
+shaped (Line.atom w) h = tt
 
 right-shaped : (ts : List Token) (x : Line) → Right ts x → Shaped (length ts) x
 right-shaped ts x (inl e) = rw e tt

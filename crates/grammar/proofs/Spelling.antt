@@ -13,7 +13,7 @@ use Prim.Native.Nat.{ℕ, _+_, _-_, _≤_, _<_}
 use native.Mathlib.Omega.{arith}
 use lib.Dec.{eqb, ltb}
 use lib.ListN.{length, getD}
-use borrow.Author.Tests.{ltb-true, ltb-false, lt-ltb, eqb-true}
+use borrow.Author.Tests.{ltb-true, ltb-false, lt-ltb, eqb-true, eqb-false}
 use Rattle.words.specs.Choice.{pick}
 use Rattle.text.specs.Tokens.{Token}
 use Rattle.text.specs.Words.{beginsWithLetter}
@@ -27,11 +27,14 @@ use Rattle.formulas.proofs.Spelling.{tokensOf-read, spelledItems, AreSentences,
 use Rattle.grammar.specs.Line.{Literal, Line, lineWords, ofLiteral, bodyTokens, lineTokens, areNamed, takes}
 use Rattle.grammar.specs.Line.{isLine}
 use Rattle.grammar.specs.LineOf.{withSentence, literalsOf, withBody, seenOf, clauseOf, queryOf, bodyLine, ofKind}
-use Rattle.grammar.specs.LineOf.{withItems, flatWords, withWords, behindWord, kindOf, lineOf, isNoForm}
+use Rattle.grammar.specs.LineOf.{withItems, flatWords, costLine, atomLine, withWords, behindWord, kindOf, lineOf}
+use Rattle.grammar.specs.LineOf.{isNoForm}
 use Rattle.grammar.specs.Parsing.{literalsAmong, bodyIn}
 use Rattle.grammar.proofs.KindLaws.{word-kind, kind-word, fit-body, body-kind}
 use Rattle.grammar.proofs.Forms.{behind-items, clause-is, constraint-kind}
-use Rattle.grammar.proofs.Costs.{FlatSpells, flat-spells, cost-spells, cost-words}
+use Rattle.grammar.proofs.Flat.{Words, FlatSpells, flat-spells}
+use Rattle.grammar.proofs.Costs.{cost-spells, cost-words}
+use Rattle.grammar.proofs.Atoms.{atom-spells, atom-words}
 
 -- What is spelled is read
 
@@ -71,8 +74,8 @@ literals-read : (k : ℕ) (ts : List Token) (ls : List Literal) → 3 ≤ k → 
     → bodyIn (ts ++ (Token.closing ∷ [])) ≡ Option.some ls → takes k (length ls) ≡ true
     → lineOf (formTokens (getD lineWords k []) ts) ≡ bodyLine k ls
 literals-read k ts ls i j e t =
-    word-read k ts (omega arith) ∙ behind-items k (ts ++ (Token.closing ∷ [])) (λ z. omega arith)
-    ∙ body-kind k (itemsOf (ts ++ (Token.closing ∷ []))) i (λ z. omega arith) ∙ ap (withBody k (bodyLine k)) e
+    word-read k ts (omega arith) ∙ behind-items k (ts ++ (Token.closing ∷ [])) (omega arith)
+    ∙ body-kind k (itemsOf (ts ++ (Token.closing ∷ []))) i j ∙ ap (withBody k (bodyLine k)) e
     ∙ fit-body k (bodyLine k) ls t
 
 -- what a clause that passes isLine is made of
@@ -97,7 +100,7 @@ clause-read k w ls h =
     let p = clause-parts h in
     let lt = p .kind-lt in
     word-read k (Token.word w ∷ bodyTokens ls) (omega arith)
-    ∙ behind-items k (Token.word w ∷ (bodyTokens ls ++ (Token.closing ∷ []))) (λ z. omega arith)
+    ∙ behind-items k (Token.word w ∷ (bodyTokens ls ++ (Token.closing ∷ []))) (omega arith)
     ∙ clause-is k (omega arith) refl (p .head)
     ∙ ap (withBody k (Line.clause k w)) (body-read ls (p .body)) ∙ fit-body k (Line.clause k w) ls (p .fits)
 
@@ -139,6 +142,10 @@ unfolding isLine lineTokens
 cost-read w p s h =
     word-read 7 (Token.word w ∷ (Token.word p ∷ (Token.word s ∷ []))) (omega arith) ∙ cost-words w p s h
 
+atom-read : (w : List ℕ) → isLine (Line.atom w) ≡ true → lineOf (lineTokens (Line.atom w)) ≡ Line.atom w
+unfolding isLine lineTokens
+atom-read w h = word-read 8 (Token.word w ∷ []) (omega arith) ∙ atom-words w h
+
 pub line-read : (x : Line) → isLine x ≡ true → lineOf (lineTokens x) ≡ x
 unfolding isLine lineTokens lineOf
 line-read Line.skipped h = refl
@@ -148,6 +155,7 @@ line-read (Line.constraint k ls) h = constraint-read k ls h
 line-read (Line.seen x) h = seen-read x h
 line-read (Line.query f) h = query-read f h
 line-read (Line.cost w p s) h = cost-read w p s h
+line-read (Line.atom w) h = atom-read w h
 
 -- What is read is spelled
 
@@ -228,41 +236,47 @@ module _ (w : List ℕ) (ts : List Token) where
     unfolding lineTokens isLine
     constraint-right k i e t = inr (rw (lt-ltb k 2 i, b .1, t), rw (e, h .0, b .0))
 
-    literals-right : (k : ℕ) → 3 ≤ k → (k < length lineWords → w ≡ getD lineWords k []) → takes k (length ls) ≡ true
-        → Right opened (bodyLine k ls)
-    literals-right k i e t =
+    literals-right : (k : ℕ) → 3 ≤ k → k < 6 → (k < length lineWords → w ≡ getD lineWords k [])
+        → takes k (length ls) ≡ true → Right opened (bodyLine k ls)
+    literals-right k i f e t =
         picked-right (ltb k 5) (Line.constraint (k - 3) ls) _
         (λ q.
         let j = ltb-true k 5 q in
         let z : k ≡ 3 + (k - 3) = omega arith in
         constraint-right (k - 3) (omega arith) (rw z at (e (omega arith))) (rw z at t))
-        (λ _. picked-right (eqb k 5) (seenOf ls) _
-        (λ q. let z = eqb-true k 5 q in seen-right m ls (rw z at (e (omega arith))) h b) (λ _. inl refl))
+        (λ q.
+        let z : k ≡ 5 = omega (arith, ltb-false k 5 q) in
+        seen-right m ls (rw z at (e (omega arith))) h b)
 
-  kind-right : (k : ℕ) (m : List Item) → (k < length lineWords → w ≡ getD lineWords k []) → Spells ts (Option.some m)
-      → Right opened (ofKind k m)
-  kind-right k m e h =
+  kind-right : (k : ℕ) (m : List Item) → k < 7 → (k < length lineWords → w ≡ getD lineWords k [])
+      → Spells ts (Option.some m) → Right opened (ofKind k m)
+  kind-right k m b e h =
       picked-right (ltb k 3) (clauseOf k m) _ (λ q. let i = ltb-true k 3 q in clause-right k m i (e (omega arith)) h)
       (λ q. picked-right (eqb k 6) (queryOf m) _
       (λ q. let z = eqb-true k 6 q in query-right m (rw z at (e (omega arith))) h)
-      (λ _. body-right k (bodyLine k) m (literalsOf m) (body-spells m (h .1))
-      (λ ls b t. literals-right m ls h b k (ltb-false k 3 q) e t)))
+      (λ r. body-right k (bodyLine k) m (literalsOf m) (body-spells m (h .1))
+      (λ ls s t. literals-right m ls h s k (ltb-false k 3 q) (let n = eqb-false k 6 r in omega arith) e t)))
 
-  items-right : (k : ℕ) (x : Items) → (k < length lineWords → w ≡ getD lineWords k []) → Spells ts x
+  items-right : (k : ℕ) (x : Items) → k < 7 → (k < length lineWords → w ≡ getD lineWords k []) → Spells ts x
       → Right opened (withItems k x)
-  items-right k Option.none e h = inl refl
-  items-right k (Option.some m) e h = kind-right k m e h
+  items-right k Option.none b e h = inl refl
+  items-right k (Option.some m) b e h = kind-right k m b e h
 
   -- flat lines
-  words-right : (x : Option (List (List ℕ))) → w ≡ getD lineWords 7 [] → FlatSpells ts x → Right opened (withWords x)
-  words-right Option.none e h = inl refl
-  words-right (Option.some ws) e h = rw (e, h) (cost-spells ws)
+  words-right : (k : ℕ) (x : Words) → (k < length lineWords → w ≡ getD lineWords k []) → FlatSpells ts x
+      → Right opened (withWords k x)
+  words-right k Option.none e h = inl refl
+  words-right k (Option.some ws) e h =
+      picked-right (eqb k 7) (costLine ws) _
+      (λ q. let z = eqb-true k 7 q in rw (rw z at (e (omega arith)), h) (cost-spells ws))
+      (λ _. picked-right (eqb k 8) (atomLine ws) _
+      (λ q. let z = eqb-true k 8 q in rw (rw z at (e (omega arith)), h) (atom-spells ws)) (λ _. inl refl))
 
   behind-right : (k : ℕ) → (k < length lineWords → w ≡ getD lineWords k []) → Right opened (behindWord k ts)
   behind-right k e =
-      picked-right (eqb k 7) (withWords (flatWords ts)) _
-      (λ q. let z = eqb-true k 7 q in words-right (flatWords ts) (rw z at (e (omega arith))) (flat-spells ts))
-      (λ _. items-right k (itemsOf ts) e (items-spell ts))
+      picked-right (ltb k 7) (withItems k (itemsOf ts)) _
+      (λ q. items-right k (itemsOf ts) (ltb-true k 7 q) e (items-spell ts))
+      (λ _. words-right k (flatWords ts) e (flat-spells ts))
 
 pub line-right : (ts : List Token) → Right ts (lineOf ts)
 unfolding lineOf isLine lineTokens
@@ -285,6 +299,7 @@ form-true (Line.constraint k ls) h = refl
 form-true (Line.seen x) h = refl
 form-true (Line.query f) h = refl
 form-true (Line.cost w p s) h = refl
+form-true (Line.atom w) h = refl
 
 module _ (ts : List Token) (x : Line) where
   right-spells : Right ts x → isLine x ≡ true → lineTokens x ≡ ts

@@ -1,10 +1,10 @@
 -- The forms of a line, and how they are spelled.
 -- From: document 01, "The file" ("Every other line is one form of nested brackets: `(true N)`, `(false N)`,
 -- `(if N L..)`, `(never L..)`, `(seen L)`, `(query F)`, with at least one L"; "L is N or `(not N)`"); document 02, [5]
--- (`(avoid L..)`), [7] (`(cost N P S)`).
+-- (`(avoid L..)`), [7] (`(cost N P S)`), [8] (`(atom N)`, "a new form that only names an atom").
 --
 --   Literal         a name or its negation: L
---   Line            what a line is: skipped, one of the eight forms, or no form
+--   Line            what a line is: skipped, one of the nine forms, or no form
 --   lineTokens x    the tokens of the line x; a skipped one has none
 --   isLine x        x is a skipped line or one of the forms, with names where names stand and literals where they must
 --   lineNames x     the names of the line x in order
@@ -28,7 +28,8 @@ pub data Literal : Type 0 where
   literal : Bool → List ℕ → Literal
 
 -- a clause by its kind (0 fact, 1 assumption, 2 rule), its head and its literals; a constraint by its kind (0 never,
--- 1 avoid) and its literals; a cost by the words of its name, its price and its supplement
+-- 1 avoid) and its literals; a cost by the words of its name, its price and its supplement; an atom line by the word of
+-- its name
 pub data Line : Type 0 where
   skipped : Line
   noForm : Line
@@ -37,13 +38,15 @@ pub data Line : Type 0 where
   seen : Literal → Line
   query : Sentence → Line
   cost : List ℕ → List ℕ → List ℕ → Line
+  atom : List ℕ → Line
 
--- the words of the kinds of clauses, of the kinds of constraints, of readings, of queries and of costs
+-- the words of the kinds of clauses, of the kinds of constraints, of readings, of queries, of costs and of atom
+-- lines
 abbrev pub lineWords : List (List ℕ)
 lineWords =
     bytes "true" ∷ bytes "false" ∷ bytes "if"
     ∷ bytes "never" ∷ bytes "avoid"
-    ∷ bytes "seen" ∷ bytes "query" ∷ bytes "cost" ∷ []
+    ∷ bytes "seen" ∷ bytes "query" ∷ bytes "cost" ∷ bytes "atom" ∷ []
 
 -- the formula that a literal is
 abbrev pub ofLiteral : Literal → Sentence
@@ -63,6 +66,7 @@ lineTokens (Line.seen x) = formTokens (getD lineWords 5 []) (tokensOf (ofLiteral
 lineTokens (Line.query f) = formTokens (getD lineWords 6 []) (tokensOf f)
 lineTokens (Line.cost w p s) =
     formTokens (getD lineWords 7 []) (Token.word w ∷ (Token.word p ∷ (Token.word s ∷ [])))
+lineTokens (Line.atom w) = formTokens (getD lineWords 8 []) (Token.word w ∷ [])
 
 -- each literal is one of a name
 unfoldable pub areNamed : List Literal → Bool
@@ -85,6 +89,7 @@ isLine (Line.constraint k l) = ltb k 2 && areNamed l && takes (3 + k) (length l)
 isLine (Line.seen x) = isSentence (ofLiteral x)
 isLine (Line.query f) = isSentence f
 isLine (Line.cost w p s) = isCost w p s
+isLine (Line.atom w) = beginsWithLetter w
 
 abbrev pub bodyNames : List Literal → List (List ℕ)
 bodyNames [] = []
@@ -98,6 +103,7 @@ lineNames (Line.constraint k l) = bodyNames l
 lineNames (Line.seen x) = bodyNames (x ∷ [])
 lineNames (Line.query f) = sentenceNames f
 lineNames (Line.cost w p s) = w ∷ []
+lineNames (Line.atom w) = w ∷ []
 
 -- a formula has depth 1 or more, and 0 stands for none
 abbrev pub bringing : ℕ → ℕ → ℕ → ℕ → Brings
@@ -115,3 +121,4 @@ brings (Line.constraint k l) = bringing 0 1 0 0
 brings (Line.seen x) = bringing 0 0 0 0
 brings (Line.query f) = bringing 0 0 1 (depthOf f)
 brings (Line.cost w p s) = pricing (numberOf p) (numberOf s)
+brings (Line.atom w) = bringing 0 0 0 0

@@ -3,7 +3,7 @@
 --   literalsOf l    the literals that the items l are, up to the line's closing bracket, or that they are none
 --   flatWords ts    the words that the tokens ts are, up to the line's closing bracket, or that they are none
 --   kindOf w        the kind of the line with the word w: 0 true, 1 false, 2 if, 3 never, 4 avoid, 5 seen, 6 query,
---                   7 cost; otherwise 8
+--                   7 cost, 8 atom; otherwise 9
 --   behindWord k ts the line of kind k with the tokens ts behind its word
 --   lineOf ts       the line with the tokens ts
 --   isNoForm x      the line x is no form
@@ -15,7 +15,7 @@ use lib.Dec.{eqb, ltb}
 use lib.ListN.{length}
 use Rattle.words.specs.Choice.{pick}
 use Rattle.text.specs.Tokens.{Token}
-use Rattle.text.specs.Words.{placeOf}
+use Rattle.text.specs.Words.{beginsWithLetter, placeOf}
 use Rattle.formulas.specs.Sentence.{Sentence}
 use Rattle.formulas.specs.Items.{prepend, Item, withFirst, itemsOf}
 use Rattle.grammar.specs.Line.{Literal, Line, lineWords, takes, isCost}
@@ -68,7 +68,7 @@ queryOf l = withFirst Line.noForm (λ f m. pick (isEnd m) (Line.query f) Line.no
 
 -- the line of kind k with these literals alone: a constraint or a reading
 abbrev pub bodyLine : ℕ → List Literal → Line
-bodyLine k l = pick (ltb k 5) (Line.constraint (k - 3) l) (pick (eqb k 5) (seenOf l) Line.noForm)
+bodyLine k l = pick (ltb k 5) (Line.constraint (k - 3) l) (seenOf l)
 
 -- the line of kind k with these items
 abbrev pub ofKind : ℕ → List Item → Line
@@ -94,12 +94,22 @@ costLine (w ∷ (p ∷ [])) = Line.noForm
 costLine (w ∷ (p ∷ (s ∷ []))) = pick (isCost w p s) (Line.cost w p s) Line.noForm
 costLine (w ∷ (p ∷ (s ∷ (v ∷ ws)))) = Line.noForm
 
-abbrev pub withWords : Option (List (List ℕ)) → Line
-withWords Option.none = Line.noForm
-withWords (Option.some ws) = costLine ws
+-- the atom line of these words: a name
+abbrev pub atomLine : List (List ℕ) → Line
+atomLine [] = Line.noForm
+atomLine (w ∷ []) = pick (beginsWithLetter w) (Line.atom w) Line.noForm
+atomLine (w ∷ (v ∷ ws)) = Line.noForm
+
+-- the flat line of kind k with these words
+abbrev pub flatLine : ℕ → List (List ℕ) → Line
+flatLine k ws = pick (eqb k 7) (costLine ws) (pick (eqb k 8) (atomLine ws) Line.noForm)
+
+abbrev pub withWords : ℕ → Option (List (List ℕ)) → Line
+withWords k Option.none = Line.noForm
+withWords k (Option.some ws) = flatLine k ws
 
 abbrev pub behindWord : ℕ → List Token → Line
-behindWord k ts = pick (eqb k 7) (withWords (flatWords ts)) (withItems k (itemsOf ts))
+behindWord k ts = pick (ltb k 7) (withItems k (itemsOf ts)) (withWords k (flatWords ts))
 
 abbrev pub kindOf : List ℕ → ℕ
 kindOf w = placeOf lineWords w
@@ -121,3 +131,4 @@ isNoForm (Line.constraint k l) = false
 isNoForm (Line.seen x) = false
 isNoForm (Line.query f) = false
 isNoForm (Line.cost w p s) = false
+isNoForm (Line.atom w) = false

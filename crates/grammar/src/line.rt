@@ -17,7 +17,8 @@ use text::tokens::Next;
 use text::tokens::token;
 
 // The form of a line with the places of its parts: a clause's kind and the ends of its head, a constraint's kind, the
-// place where literals or a formula begin, a formula's depth; and the ends of a cost's name, its price and supplement.
+// place where literals or a formula begin, a formula's depth; the ends of a cost's name, its price and supplement; and
+// the ends of an atom line's name.
 pub enum Form {
     Skipped,
     NoForm,
@@ -26,17 +27,18 @@ pub enum Form {
     Seen(usize),
     Query(usize, usize),
     Cost(usize, usize, usize, usize),
+    Atom(usize, usize),
 }
 
 // The words of lines, in the order of their kinds, each behind its length.
-const LINE_WORDS: [u8; 42] = *b"\x04true\x05false\x02if\x05never\x05avoid\x04seen\x05query\x04cost";
+const LINE_WORDS: [u8; 47] = *b"\x04true\x05false\x02if\x05never\x05avoid\x04seen\x05query\x04cost\x04atom";
 
-// The kind of the line whose word is the part of l from a to e, or 8.
+// The kind of the line whose word is the part of l from a to e, or 9.
 fn kind_of(l: &[u8], a: usize, e: usize) -> usize
     requires { ⌜ (a ≤ e) × (e ≤ length (now l)) ⌝ }
     ensures { λ r. ⌜ r ≡ kindOf (slice a e (now (l .entry))) ⌝ }
 {
-    place_of(l, a, e, &LINE_WORDS, 8)
+    place_of(l, a, e, &LINE_WORDS, 9)
 }
 
 // Whether a closing bracket is all that is left of a line from a place on.
@@ -104,6 +106,36 @@ fn cost_form(l: &[u8], at: usize) -> Form
     Form::Cost(a, e, price, supplement)
 }
 
+// An atom line from behind its word on: a name.
+fn atom_form(l: &[u8], at: usize) -> Form
+    ensures { λ r. ⌜ FormAfter (now (l .entry)) at 8 r ⌝ }
+{
+    let Next::Word(a, e) = token(l, at) else {
+        return Form::NoForm;
+    };
+    if !is_name(l, a, e) {
+        return Form::NoForm;
+    }
+    if !ends_line(l, e) {
+        return Form::NoForm;
+    }
+    Form::Atom(a, e)
+}
+
+// A flat line of a kind from behind its word on.
+fn flat_form(l: &[u8], at: usize, kind: usize) -> Form
+    requires { ⌜ 7 ≤ kind ⌝ }
+    ensures { λ r. ⌜ FormAfter (now (l .entry)) at kind r ⌝ }
+{
+    if kind == 7 {
+        return cost_form(l, at);
+    }
+    if kind == 8 {
+        return atom_form(l, at);
+    }
+    Form::NoForm
+}
+
 // The form of a kind from behind its word on.
 fn form_of_kind(l: &[u8], at: usize, kind: usize) -> Form
     requires { ⌜ at ≤ length (now l) ⌝ }
@@ -112,11 +144,11 @@ fn form_of_kind(l: &[u8], at: usize, kind: usize) -> Form
     if kind <= 2 {
         return clause_form(l, at, kind);
     }
+    if 7 <= kind {
+        return flat_form(l, at, kind);
+    }
     if kind == 6 {
         return query_form(l, at);
-    }
-    if kind == 7 {
-        return cost_form(l, at);
     }
     if !has_body(l, at, kind) {
         return Form::NoForm;
@@ -124,10 +156,7 @@ fn form_of_kind(l: &[u8], at: usize, kind: usize) -> Form
     if kind < 5 {
         return Form::Constraint(kind - 3, at);
     }
-    if kind == 5 {
-        return Form::Seen(at);
-    }
-    Form::NoForm
+    Form::Seen(at)
 }
 
 // The form of a line.

@@ -1,7 +1,7 @@
 -- `line::form_of_kind` meets its contract: each return is one law of the lines of a kind. Assumes nothing.
 use borrow.Author.Needs.{needs}
 use Rattle.words.proofs.Tests.{failed, passed}
-use Rattle.grammar.proofs.Forms.{form-as, form-unfit, form-constraint, form-seen, form-other}
+use Rattle.grammar.proofs.Forms.{form-as, form-unfit, form-constraint, form-seen}
 use Rattle.grammar.proofs.line.form_of_kind.Statement.{statement}
 use Rattle.grammar.proofs.line.form_of_kind.Tie as tie
 
@@ -11,14 +11,14 @@ clause-form-requires c κs = search needs
 returns : tie.Need-returns
 returns c = search needs
 
-query-form-requires : tie.Need-query-form-requires
-query-form-requires c κs = search needs
+flat-form-requires : tie.Need-flat-form-requires
+flat-form-requires c κs = search needs
 
 returns-2 : tie.Need-returns-2
-returns-2 c = search (needs, form-as)
+returns-2 c = search needs
 
-cost-form-requires : tie.Need-cost-form-requires
-cost-form-requires c κs = search needs
+query-form-requires : tie.Need-query-form-requires
+query-form-requires c κs = search needs
 
 returns-3 : tie.Need-returns-3
 returns-3 c = search (needs, form-as)
@@ -35,22 +35,18 @@ returns-5 c = search (needs, form-constraint, passed)
 returns-6 : tie.Need-returns-6
 returns-6 c = search (needs, form-seen, passed)
 
-returns-7 : tie.Need-returns-7
-returns-7 c = search (needs, form-other, passed)
-
 pub form-of-kind-spec : {M : Type 1} → statement M
 form-of-kind-spec =
     tie.close
     (tie.spec
     clause-form-requires
     returns
-    query-form-requires
+    flat-form-requires
     returns-2
-    cost-form-requires
+    query-form-requires
     returns-3
     has-body-requires
     returns-4
     (λ c. search needs)
     returns-5
-    returns-6
-    returns-7)
+    returns-6)
