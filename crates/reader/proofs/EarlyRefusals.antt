@@ -40,33 +40,35 @@ fit-long t h =
       prices-long = leb-true priceSize _ (p .2);
     }
 
--- the tests one after the other
-module _ (f : List ℕ) (t : Lent) {b : Bool} (full : b ≡ tablesFull (t .clauses) (t .constraints) (t .formula)) where
-  pub early-table-short : not b ≡ true → 1 ≡ earlyRefusal f t
-  unfolding earlyRefusal tablesFit
-  early-table-short h = rw (← full, not-true b h)
+-- the tests of the five tables, one after the other
+module _ (t : Lent) {b : Bool} (full : b ≡ tablesFull (t .clauses) (t .constraints) (t .formula)) where
+  pub table-short : not b ≡ true → false ≡ tablesFit t
+  unfolding tablesFit
+  table-short h = rw (← full, not-true b h)
 
   module _ (h : not b ≡ false) where
-    pub early-names-short : length (t .names) < nameSize → 1 ≡ earlyRefusal f t
-    unfolding earlyRefusal tablesFit
-    early-names-short k = rw (← full, not-false b h, lt-leb nameSize (length (t .names)) k)
+    pub names-short : length (t .names) < nameSize → false ≡ tablesFit t
+    unfolding tablesFit
+    names-short k = rw (← full, not-false b h, lt-leb nameSize (length (t .names)) k)
 
-    module _ (k : nameSize ≤ length (t .names)) where
-      pub early-prices-short : length (t .prices) < priceSize → 1 ≡ earlyRefusal f t
-      unfolding earlyRefusal tablesFit
-      early-prices-short m =
-          rw (← full, not-false b h, le-leb nameSize _ k, lt-leb priceSize (length (t .prices)) m)
+    pub prices-decide : nameSize ≤ length (t .names) → leb priceSize (length (t .prices)) ≡ tablesFit t
+    unfolding tablesFit
+    prices-decide k = rw (← full, not-false b h, le-leb nameSize _ k)
 
-      module _ (m : priceSize ≤ length (t .prices)) where
-        pub early-file-long : 32768 < length f → 2 ≡ earlyRefusal f t
-        unfolding earlyRefusal tablesFit
-        early-file-long l =
-            rw (← full, not-false b h, le-leb nameSize _ k, le-leb priceSize _ m, lt-leb (length f) 32768 l)
+-- the tests of the early refusals, one after the other
+module _ (f : List ℕ) (t : Lent) {b : Bool} (fit : b ≡ tablesFit t) where
+  pub early-table-short : not b ≡ true → 1 ≡ earlyRefusal f t
+  unfolding earlyRefusal
+  early-table-short h = rw (← fit, not-true b h)
 
-        pub early-none : length f ≤ 32768 → 0 ≡ earlyRefusal f t
-        unfolding earlyRefusal tablesFit
-        early-none l =
-            rw (← full, not-false b h, le-leb nameSize _ k, le-leb priceSize _ m, le-leb (length f) 32768 l)
+  module _ (h : not b ≡ false) where
+    pub early-file-long : 32768 < length f → 2 ≡ earlyRefusal f t
+    unfolding earlyRefusal
+    early-file-long l = rw (← fit, not-false b h, lt-leb (length f) 32768 l)
+
+    pub early-none : length f ≤ 32768 → 0 ≡ earlyRefusal f t
+    unfolding earlyRefusal
+    early-none l = rw (← fit, not-false b h, le-leb (length f) 32768 l)
 
 -- the number n is that of the early refusal
 module _ (f : List ℕ) (t : Lent) {n : ℕ} (e : n ≡ earlyRefusal f t) where

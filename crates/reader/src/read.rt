@@ -4,7 +4,7 @@ ghost use Prim.Native.Nat.{_≤_};
 ghost use lib.ListN.{length};
 ghost use Rattle.store.specs.Lent.{lent};
 ghost use Rattle.store.specs.Held.{Long};
-ghost use Rattle.reader.specs.Operation.{earlyRefusal, ReadAs};
+ghost use Rattle.reader.specs.Operation.{tablesFit, earlyRefusal, ReadAs};
 ghost use Rattle.reader.specs.Steps.{endRefusalIn, Countable, Zeroed, Ready, FileTaken, LinesRead};
 use checks::progress::Progress;
 use checks::take::take_line;
@@ -150,6 +150,27 @@ fn read_lines(
     answer
 }
 
+// Whether the five tables are as long as their sizes.
+pub fn tables_fit(
+    clauses: &[u64],
+    constraints: &[u64],
+    formula: &[u8],
+    names: &[u8],
+    prices: &[u32],
+) -> bool
+    ensures { λ r. ⌜ r ≡ tablesFit
+        (lent (now (clauses .entry)) (now (constraints .entry)) (now (formula .entry)) (now (names .entry))
+        (now (prices .entry))) ⌝ }
+{
+    if !program::case::tables_full(clauses, constraints, formula) {
+        return false;
+    }
+    if names.len() < Case::NAME_BYTES {
+        return false;
+    }
+    Case::PRICES <= prices.len()
+}
+
 // The number of the refusal before the first line: 1 a table shorter than its size, 2 a file over 32,768 bytes, 0 for
 // neither.
 fn early_refusal(
@@ -164,13 +185,7 @@ fn early_refusal(
         (lent (now (clauses .entry)) (now (constraints .entry)) (now (formula .entry)) (now (names .entry))
         (now (prices .entry))) ⌝ }
 {
-    if !program::case::tables_full(clauses, constraints, formula) {
-        return 1;
-    }
-    if names.len() < Case::NAME_BYTES {
-        return 1;
-    }
-    if prices.len() < Case::PRICES {
+    if !tables_fit(clauses, constraints, formula, names, prices) {
         return 1;
     }
     if 32768 < file.len() {

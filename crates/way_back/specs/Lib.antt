@@ -1,0 +1,2 @@
+-- Claims: what reading a written case gives.
+pub mod Claims

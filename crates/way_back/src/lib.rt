@@ -1,0 +1,1 @@
+// What reading a written case gives: a claim and its theorem alone, no code.

@@ -1,0 +1,1 @@
+// Writing a case back as a file.
