@@ -30,11 +30,8 @@ pub fn opening(out: &mut [u8], p: Pen) -> Pen
     requires { ⌜ Room (inked p (Token.opening ∷ [])) (p .at) ⌝ }
     ensures { λ r. ⌜ Spells (Token.opening ∷ []) (now (out .entry)) p r (now (out .exit)) ⌝ }
 {
-    let inside = put(out, p.at, b'(');
-    Pen {
-        at: inside,
-        behind: false,
-    }
+    let at = put(out, p.at, b'(');
+    Pen { at, behind: false }
 }
 
 // Writes a closing bracket.
@@ -42,9 +39,9 @@ pub fn closing(out: &mut [u8], p: Pen) -> Pen
     requires { ⌜ Room (inked p (Token.closing ∷ [])) (p .at) ⌝ }
     ensures { λ r. ⌜ Spells (Token.closing ∷ []) (now (out .entry)) p r (now (out .exit)) ⌝ }
 {
-    let outside = put(out, p.at, b')');
+    let end = put(out, p.at, b')');
     Pen {
-        at: outside,
+        at: end,
         behind: false,
     }
 }
