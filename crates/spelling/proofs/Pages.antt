@@ -2,21 +2,23 @@
 use mathlib.Core.Path.{_≡_, refl, sym, ap, _∙_}
 use mathlib.Core.Bool.{Bool, true, false, _||_, or-assoc, or-true, or-false}
 use mathlib.Core.List.{List, [], _∷_, _++_}
-use Prim.Native.Nat.{ℕ, _+_, _-_, _≤_, _<_}
+use Prim.Native.Nat.{ℕ, _-_, _≤_, _<_}
 use native.Mathlib.Omega.{arith}
 use lib.Dec.{ltb}
-use lib.ListN.{length, length-append}
-use borrow.Author.Tests.{lt-ltb, le-ltb}
+use lib.ListN.{length}
+use borrow.Author.Tests.{lt-ltb, le-ltb, ltb-false}
+use Rattle.words.proofs.Tests.{or-false-l, or-false-r}
 use Rattle.text.specs.Tokens.{Token}
 use Rattle.text.specs.Spelled.{spelled, textOf}
+use Rattle.text.proofs.Each.{Each}
 use Rattle.text.proofs.Spelled.{text-none, text-one, text-append}
 use Rattle.output.specs.Writing.{Room, Writes}
 use Rattle.output.proofs.Laying as laying
 use Rattle.spelling.specs.declared.Pen.{Pen}
 use Rattle.spelling.specs.declared.Page.{Page}
-use Rattle.spelling.specs.Pen.{Spells}
+use Rattle.spelling.specs.Pen.{inked, Spells}
 use Rattle.spelling.specs.Page.{someLongLine, startOf, Ends, Sets}
-use Rattle.spelling.proofs.Pens.{spells-writes}
+use Rattle.spelling.proofs.Pens.{spells-writes, room-before, room-behind}
 
 -- someLongLine
 
@@ -25,6 +27,13 @@ unfolding someLongLine
 long-append [] ms = refl
 long-append (l ∷ ls) ms =
     ap (λ b. ltb 200 (length l) || b) (long-append ls ms) ∙ sym (or-assoc (ltb 200 (length l)) _ _)
+
+-- lines none of which is long
+pub short-lines : (ls : List (List ℕ)) → someLongLine ls ≡ false → Each (λ l. length l ≤ 200) ls
+unfolding someLongLine
+short-lines [] h = tt
+short-lines (l ∷ ls) h =
+    (ltb-false 200 (length l) (or-false-l _ (someLongLine ls) h), short-lines ls (or-false-r (ltb 200 (length l)) _ h))
 
 -- Ends
 
@@ -89,6 +98,12 @@ pub line-room : (ts : List Token) (g : Page) → Room (textOf (spelled ts ∷ []
 line-room ts g k = laying.room-front (spelled ts) (10 ∷ []) (g .at) (rw text-one at k)
 
 module _ {ts : List Token} (g : Page) {p : Pen} {out out₁ : List ℕ} (h : Spells ts out (startOf g) p out₁) where
+  -- the tokens us are next, the tokens vs behind them
+  pub next-room : (us vs : List Token) → Room (textOf (spelled (ts ++ (us ++ vs)) ∷ [])) (g .at)
+      → Room (inked p us) (p .at)
+  next-room us vs k =
+      room-before us vs p (room-behind h (us ++ vs) (line-room (ts ++ (us ++ vs)) g k))
+
   -- what ending the line asks for
   pub end-room : Room (textOf (spelled ts ∷ [])) (g .at) → (g .at ≤ p .at) × Room (10 ∷ []) (p .at)
   end-room k = (
