@@ -21,7 +21,7 @@ use Rattle.store.specs.Stored.{withPrice}
 
 -- supplement
 
-pub per-cent-few : (p s : ℕ) → p ≤ 1000000 → s ≤ 100 → p * s ≤ 100000000
+pub per-cent-few : (p s : ℕ) → p ≤ 2000000 → s ≤ 100 → p * s ≤ 200000000
 per-cent-few p s h k = mul-le-mul h k
 
 pub supplement-near : (p s : ℕ) → (100 * supplement p s ≤ p * s + 50) × (p * s < 100 * supplement p s + 50)

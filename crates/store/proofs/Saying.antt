@@ -17,6 +17,7 @@ said-names st (Line.constraint k l) = refl
 said-names st (Line.seen x) = refl
 said-names st (Line.query f) = refl
 said-names st (Line.cost w p s) = refl
+said-names st (Line.atom w) = refl
 
 -- the literals by a lookup of names
 

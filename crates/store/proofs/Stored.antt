@@ -15,7 +15,7 @@ use Rattle.table.proofs.Kept.{kept-refl, sets-kept}
 use Rattle.formulas.specs.Parsing.{sizeOf}
 use Rattle.formulas.proofs.Sizes.{first-formula-size}
 use Rattle.grammar.specs.declared.line.Form.{Form}
-use Rattle.grammar.specs.declared.line.Form.the-variants.{Skipped, NoForm, Clause, Constraint, Seen, Query, Cost}
+use Rattle.grammar.specs.declared.line.Form.the-variants.{Skipped, NoForm, Clause, Constraint, Seen, Query, Cost, Atom}
 use Rattle.grammar.specs.Line.{Line, Literal}
 use Rattle.grammar.specs.Parsing.{FormIs, bodyIn}
 use Rattle.names.specs.Row.{rowOf}
@@ -75,7 +75,7 @@ module _ {l : List ℕ} {x : Form} {c : Case} {y : Line} (s : Storable l x c y) 
     pub name-within : e ≤ length l
     name-within = form-told q .0 .1
 
-    pub price-few : p ≤ 1000000
+    pub price-few : p ≤ 2000000
     price-few =
         let f = form-told q .1 in
         let room = rw (f .line-is) at (s .room .price-fits) in
@@ -95,6 +95,10 @@ module _ {l : List ℕ} {x : Form} {c : Case} {y : Line} (s : Storable l x c y) 
     pub no-form-stored : x ≡ NoForm → StoredAs y c (lent cl co fo na pr) c (lent cl co fo na pr)
     unfolding saidBy
     no-form-stored q = record { kept = kept-refl-all _; held = λ st h known once. rw (form-told q) h }
+
+    pub atom-stored : {a e : ℕ} → x ≡ Atom a e → StoredAs y c (lent cl co fo na pr) c (lent cl co fo na pr)
+    unfolding saidBy
+    atom-stored q = record { kept = kept-refl-all _; held = λ st h known once. rw (form-told q .1) h }
 
     module _ (long : Long (lent cl co fo na pr)) {at : ℕ} {r : Case} where
       pub clause-stored : {k a e : ℕ} {m : Masks} {u : List ℕ} → x ≡ Clause k a e at → MasksOf l at na (c .atoms) m

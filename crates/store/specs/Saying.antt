@@ -1,6 +1,6 @@
 -- What a file says: names, clauses, constraints, observed literals, queries and costs, by atom numbers.
 -- From: document 01, "The file" and "Case tables and sound cases"; document 02, [5] (the kind of a constraint), [7]
--- (costs).
+-- (costs), [8] (an atom line "only names an atom").
 --
 --   Said               what was read so far; plain and negated are the observed atoms, bit i for atom i
 --   nothingSaid        what was read before the first line; renamed and with.. are st with a part exchanged
@@ -8,7 +8,7 @@
 --   atomsBy at b ls    the atoms of the negated (b) or plain literals of ls, bit i for atom i; one repeated counts once
 --   plainAtoms ns ls   the atoms of the plain literals of ls, by the names ns; negatedAtoms those of the negated ones
 --   encodedBy at f     the formula f with the names' atoms by the lookup at; encoded ns f by the names ns
---   saidBy st x        st, which has the names of the line x already, with what x says
+--   saidBy st x        st, which has the names of the line x already, with what x says; an atom line says no more
 --   isSecondCost st x  x is a cost of a name that has one in st, which has the names of x already
 use mathlib.Core.Bool.{Bool, true, false, not, _&&_, _||_}
 use mathlib.Core.List.{List, [], _∷_, _++_}
@@ -131,6 +131,7 @@ saidBy st (Line.constraint k l) = withConstraint st (constraintRow (st .names) k
 saidBy st (Line.seen x) = withObserved st (x ∷ [])
 saidBy st (Line.query f) = withQuery st (encoded (st .names) f)
 saidBy st (Line.cost w p s) = withCost st (costRow (st .names) w p s)
+saidBy st (Line.atom w) = st
 
 unfoldable pub isSecondCost : Said → Line → Bool
 isSecondCost st Line.skipped = false
@@ -140,3 +141,4 @@ isSecondCost st (Line.constraint k l) = false
 isSecondCost st (Line.seen x) = false
 isSecondCost st (Line.query f) = false
 isSecondCost st (Line.cost w p s) = hasCost (st .costs) (atomOf (st .names) w)
+isSecondCost st (Line.atom w) = false

@@ -71,7 +71,7 @@ pub record Room (c : Case) (b : Brings) : Type 0 where
   pub clauses-fit : c .clauses + b .clauses ≤ 256
   pub constraints-fit : c .constraints + b .constraints ≤ 32
   pub queries-fit : c .formulas + b .queries ≤ 16
-  pub price-fits : b .price ≤ 1000000
+  pub price-fits : b .price ≤ 2000000
   pub supplement-fits : b .supplement ≤ 100
 
 pub record Storable (l : List ℕ) (x : Form) (c : Case) (y : Line) : Type 0 where

@@ -125,5 +125,6 @@ pub fn store_form(
             put_price(prices, atom, price_of(price, supplement));
             c
         }
+        Form::Atom(_, _) => c,
     }
 }

@@ -8,7 +8,7 @@ ghost use Rattle.store.specs.Stored.{withPrice};
 
 // A price in cents with a supplement in per cent, which is rounded to the nearest cent, half a cent upwards.
 pub fn price_of(price: usize, supplement: usize) -> u32
-    requires { ⌜ (price ≤ 1000000) × (supplement ≤ 100) ⌝ }
+    requires { ⌜ (price ≤ 2000000) × (supplement ≤ 100) ⌝ }
     ensures { λ r. ⌜ r ≡ priceOf price supplement ⌝ }
 {
     (price + (price * supplement + 50) / 100) as u32

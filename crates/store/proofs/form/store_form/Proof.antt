@@ -4,6 +4,7 @@ use Rattle.store.proofs.Stored.{clause-kind, head-onward, head-within, 
 use Rattle.store.proofs.Stored.{skipped-stored, no-form-stored, clause-stored, constraint-stored}
 use Rattle.store.proofs.Stored.{seen-stored, query-room, query-stored}
 use Rattle.store.proofs.Stored.{name-onward, name-within, price-few, supplement-few, cost-stored}
+use Rattle.store.proofs.Stored.{atom-stored}
 use Rattle.store.proofs.form.store_form.Statement.{statement}
 use Rattle.store.proofs.form.store_form.Tie as tie
 
@@ -46,6 +47,9 @@ returns-6 c = search (needs, query-stored)
 returns-7 : tie.Need-returns-7
 returns-7 c = search (needs, cost-stored)
 
+returns-8 : tie.Need-returns-8
+returns-8 c = search (needs, atom-stored)
+
 pub store-form-spec : {M : Type 1} → statement M
 store-form-spec =
     tie.close
@@ -67,6 +71,7 @@ store-form-spec =
     find-requires
     price-of-requires
     put-price-requires
+    (λ c. search needs)
     returns
     returns-2
     (λ c. search needs)
@@ -77,4 +82,5 @@ store-form-spec =
     (λ c. search needs)
     returns-6
     (λ c. search needs)
-    returns-7)
+    returns-7
+    returns-8)

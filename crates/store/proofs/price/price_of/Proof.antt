@@ -7,7 +7,7 @@ use Rattle.store.proofs.Prices.{per-cent-few}
 use Rattle.store.proofs.price.price_of.Statement.{statement}
 use Rattle.store.proofs.price.price_of.Tie as tie
 
-few : (c : tie.Start) → c .args .price * c .args .supplement ≤ 100000000
+few : (c : tie.Start) → c .args .price * c .args .supplement ≤ 200000000
 few c = per-cent-few _ _ (c .pre .0) (c .pre .1)
 
 mul-result : tie.Need-mul-result
