@@ -15,7 +15,7 @@ use Rattle.words.proofs.Words.{has-word, is-word, word-lt}
 use Rattle.text.specs.Tokens.{tokens}
 use Rattle.text.proofs.Each.{Each}
 use Rattle.grammar.specs.declared.line.Form.{Form}
-use Rattle.grammar.specs.declared.line.Form.the-variants.{Skipped, NoForm, Clause, Constraint, Seen, Query, Cost}
+use Rattle.grammar.specs.declared.line.Form.the-variants.{Skipped, NoForm, Clause, Constraint, Seen, Query, Cost, Atom}
 use Rattle.grammar.proofs.line.Form.{the-type}
 use Rattle.grammar.specs.Line.{Line, lineNames}
 use Rattle.grammar.specs.LineOf.{lineOf}
@@ -60,6 +60,7 @@ costed-after st (Line.constraint k l) = refl
 costed-after st (Line.seen x) = refl
 costed-after st (Line.query f) = refl
 costed-after st (Line.cost w p s) = costed-push (st .costs) _
+costed-after st (Line.atom w) = refl
 
 -- whether a line whose names are known is a second cost
 second-is : (st : Said) (y : Line) → length (st .names) ≤ 64 → Each (Known (st .names)) (lineNames y)
@@ -74,6 +75,7 @@ second-is st (Line.query f) few h = refl
 second-is st (Line.cost w p s) few h =
     let k : atomOf (st .names) w < 64 = omega (arith, h .0) in
     rw (lt-ltb (atomOf (st .names) w) 64 k) (has-word 64 (hasCost (st .costs)) (atomOf (st .names) w) k)
+second-is st (Line.atom w) few h = refl
 
 -- lookups that agree on the names of a line find the same atom
 cost-atom-same : (f g : List ℕ → ℕ) (y : Line) → Each (Agree f g) (lineNames y) → costAtom f y ≡ costAtom g y
@@ -84,6 +86,7 @@ cost-atom-same f g (Line.constraint k l) h = refl
 cost-atom-same f g (Line.seen x) h = refl
 cost-atom-same f g (Line.query q) h = refl
 cost-atom-same f g (Line.cost w p s) h = h .0
+cost-atom-same f g (Line.atom w) h = refl
 
 -- where the record c and the tables t hold st with the names of the line y, whose atom is a
 module _ (st : Said) (c : Case) (t : Lent) (h : Held st c t) (long : Long t) (y : Line)
@@ -119,7 +122,7 @@ module _ {l : List ℕ} {x : Form} (f : Formed l x) where
 
 -- the tags of the forms other than Cost
 abbrev others : List ℕ
-others = 0 ∷ (1 ∷ (2 ∷ (3 ∷ (4 ∷ (5 ∷ [])))))
+others = 0 ∷ (1 ∷ (2 ∷ (3 ∷ (4 ∷ (5 ∷ (7 ∷ []))))))
 
 other-atom : (at : List ℕ → ℕ) (l : List ℕ) (x : Form) (y : Line) → OneOf others (tagOf the-type x) → FormIs l x y
     → costAtom at y ≡ 64
@@ -130,6 +133,7 @@ other-atom at l (Constraint k i) y o f = rw (f .1 .line-is)
 other-atom at l (Seen i) y o f = rw (f .line-is)
 other-atom at l (Query i d) y o f = rw (f .line-is)
 other-atom at l (Cost a e p d) y o f = absurd (miss others 6 tt o)
+other-atom at l (Atom a e) y o f = rw (f .1)
 
 pub atom-none : {l na : List ℕ} {x : Form} {n : ℕ} → Formed l x → OneOf others (tagOf the-type x) → CostAtomIs l na n 64
 atom-none {l} {na} {x} {n} f o =

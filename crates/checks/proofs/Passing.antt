@@ -1,6 +1,6 @@
 -- What a line that passes its checks is known to be. Assumes nothing.
 use mathlib.Core.Path.{_≡_, refl, sym, _∙_}
-use mathlib.Core.Bool.{Bool, true, false}
+use mathlib.Core.Bool.{Bool, true, false, _&&_}
 use mathlib.Core.List.{List, [], _∷_}
 use Prim.Native.Nat.{ℕ, _+_, _≤_, _<_}
 use lib.Dec.{leb}
@@ -17,6 +17,7 @@ use Rattle.grammar.specs.declared.brings.Brings.{Brings}
 use Rattle.grammar.specs.Line.{isLine, brings}
 use Rattle.grammar.specs.LineOf.{lineOf}
 use Rattle.names.specs.Names.{someLong, withNames}
+use Rattle.store.specs.Prices.{priceOf}
 use Rattle.store.specs.Saying.{Said, isSecondCost}
 use Rattle.checks.proofs.Refusing.{names-refused}
 use Rattle.checks.specs.Checks.{lookRefusal, namedWith, textChecks, roomChecks, formRefusal, lineRefusal}
@@ -26,7 +27,8 @@ pub record RoomPasses (names clauses constraints queries : ℕ) (second : Bool) 
   pub names-few : names ≤ 64
   pub clauses-few : clauses + b .clauses ≤ 256
   pub constraints-few : constraints + b .constraints ≤ 32
-  pub price-few : b .price ≤ 1000000
+  pub price-few : b .price ≤ 2000000
+  pub worked-out-few : priceOf (b .price) (b .supplement) ≤ 2000000
   pub supplement-few : b .supplement ≤ 100
   pub not-second : second ≡ false
   pub queries-few : queries + b .queries ≤ 16
@@ -46,13 +48,16 @@ LinePasses st l = isComment l ≡ false → (length l ≤ 200) × FormPasses st 
 room-has : (n cl co q : ℕ) (s : Bool) (b : Brings) → Passes (roomChecks n cl co q s b) → RoomPasses n cl co q s b
 room-has n cl co q s b (eight, (nine, (sixteen, (seventeen, (ten, _))))) =
     let rows = leb (cl + b .clauses) 256 in
-    let price = leb (b .price) 1000000 in
+    let price = leb (b .price) 2000000 in
+    let both = price && leb (priceOf (b .price) (b .supplement)) 2000000 in
+    let worked-out = and-true-l both (leb (b .supplement) 100) sixteen in
     record {
       names-few = leb-true n 64 eight;
       clauses-few = leb-true _ 256 (and-true-l rows (leb (co + b .constraints) 32) nine);
       constraints-few = leb-true _ 32 (and-true-r rows (leb (co + b .constraints) 32) nine);
-      price-few = leb-true _ 1000000 (and-true-l price (leb (b .supplement) 100) sixteen);
-      supplement-few = leb-true _ 100 (and-true-r price (leb (b .supplement) 100) sixteen);
+      price-few = leb-true _ 2000000 (and-true-l price _ worked-out);
+      worked-out-few = leb-true _ 2000000 (and-true-r price _ worked-out);
+      supplement-few = leb-true _ 100 (and-true-r both (leb (b .supplement) 100) sixteen);
       not-second = not-true s seventeen;
       queries-few = leb-true _ 16 ten;
     }

@@ -1,10 +1,11 @@
 -- The number of a line's refusal by the checks 6 and 7 and by those from 8 on, one law for each way out of
--- `text_refusal` and `room_refusal`.
+-- `text_refusal`, `price_fits` and `room_refusal`.
 --
 --   costChecks q s b    the checks 16, 17 and 10
+--   Roomy n cl co b     there is room for names, clauses and constraints
 -- Assumes nothing.
 use mathlib.Core.Path.{_≡_, sym, _∙_}
-use mathlib.Core.Bool.{Bool, true, false, not, _&&_}
+use mathlib.Core.Bool.{Bool, true, false, not, _&&_, and-true, and-false}
 use mathlib.Core.List.{List, [], _∷_}
 use Prim.Native.Nat.{ℕ, _+_, _-_, _≤_, _<_}
 use native.Mathlib.Omega.{arith}
@@ -13,11 +14,12 @@ use borrow.Author.Tests.{le-leb, lt-leb}
 use Rattle.words.specs.Choice.{Check, check, firstFailed}
 use Rattle.grammar.specs.declared.brings.Brings.{Brings}
 use Rattle.names.specs.Names.{someLong}
-use Rattle.checks.specs.Checks.{textChecks, roomChecks}
+use Rattle.store.specs.Prices.{priceOf}
+use Rattle.checks.specs.Checks.{priceFits, textChecks, roomChecks}
 
 abbrev costChecks : ℕ → Bool → Brings → List Check
 costChecks q s b =
-    check 16 (leb (b .price) 1000000 && leb (b .supplement) 100)
+    check 16 (priceFits (b .price) (b .supplement))
     ∷ check 17 (not s)
     ∷ check 10 (leb (q + b .queries) 16)
     ∷ []
@@ -34,6 +36,26 @@ module _ (ws : List (List ℕ)) (b : Brings) {t : Bool} (e : t ≡ someLong ws) 
     pub text-passed : b .depth ≤ 16 → 0 ≡ firstFailed (textChecks ws b)
     text-passed k = rw (sym e ∙ h, le-leb _ _ k)
 
+-- 16
+module _ (p s : ℕ) where
+  pub price-high : 2000000 < p → false ≡ priceFits p s
+  price-high h = rw (lt-leb p 2000000 h)
+
+  pub supplement-high : 100 < s → false ≡ priceFits p s
+  supplement-high h = rw (lt-leb s 100 h, and-false)
+
+  pub price-judged : p ≤ 2000000 → s ≤ 100 → leb (priceOf p s) 2000000 ≡ priceFits p s
+  price-judged h k = rw (le-leb p 2000000 h, le-leb s 100 k, and-true)
+
+pub record Roomy (n cl co : ℕ) (b : Brings) : Type 0 where
+  pub names-fit : n ≤ 64
+  pub clauses-fit : cl + b .clauses ≤ 256
+  pub constraints-fit : co + b .constraints ≤ 32
+
+pub roomy : {n cl co : ℕ} {b : Brings} → n ≤ 64 → cl ≤ 256 → b .clauses ≤ 256 - cl → co ≤ 32
+    → b .constraints ≤ 32 - co → Roomy n cl co b
+roomy h m i o j = record { names-fit = h; clauses-fit = omega arith; constraints-fit = omega arith }
+
 -- from 8 on, where s tells whether the line is a second cost
 module _ (n cl co q : ℕ) (s : Bool) (b : Brings) where
   pub names-refused : 64 < n → 8 ≡ firstFailed (roomChecks n cl co q s b)
@@ -48,39 +70,24 @@ module _ (n cl co q : ℕ) (s : Bool) (b : Brings) where
       constraints-refused j =
           rw (le-leb n 64 h, le-leb (cl + b .clauses) 256 (omega arith), lt-leb (co + b .constraints) 32 (omega arith))
 
-      module _ (o : co ≤ 32) (j : b .constraints ≤ 32 - co) where
-        -- what is left where there is room for names, clauses and constraints
-        rest-is : firstFailed (roomChecks n cl co q s b) ≡ firstFailed (costChecks q s b)
-        rest-is = rw (
-          le-leb n 64 h,
-          le-leb (cl + b .clauses) 256 (omega arith),
-          le-leb (co + b .constraints) 32 (omega arith),
-        )
+  module _ (h : Roomy n cl co b) where
+    rest-is : firstFailed (roomChecks n cl co q s b) ≡ firstFailed (costChecks q s b)
+    rest-is = rw (
+      le-leb n 64 (h .names-fit),
+      le-leb (cl + b .clauses) 256 (h .clauses-fit),
+      le-leb (co + b .constraints) 32 (h .constraints-fit),
+    )
 
-        pub price-refused : 1000000 < b .price → 16 ≡ firstFailed (roomChecks n cl co q s b)
-        price-refused k = sym (rest-is ∙ rw (lt-leb (b .price) 1000000 k))
+    pub price-refused : priceFits (b .price) (b .supplement) ≡ false → 16 ≡ firstFailed (roomChecks n cl co q s b)
+    price-refused k = sym (rest-is ∙ rw k)
 
-        module _ (k : b .price ≤ 1000000) where
-          pub supplement-refused : 100 < b .supplement → 16 ≡ firstFailed (roomChecks n cl co q s b)
-          supplement-refused p = sym (rest-is ∙ rw (le-leb (b .price) 1000000 k, lt-leb (b .supplement) 100 p))
+    module _ (k : priceFits (b .price) (b .supplement) ≡ true) where
+      pub second-refused : s ≡ true → 17 ≡ firstFailed (roomChecks n cl co q s b)
+      second-refused e = sym (rest-is ∙ rw (k, e))
 
-          module _ (p : b .supplement ≤ 100) where
-            pub second-refused : s ≡ true → 17 ≡ firstFailed (roomChecks n cl co q s b)
-            second-refused e = sym (rest-is ∙ rw (le-leb (b .price) 1000000 k, le-leb (b .supplement) 100 p, e))
+      module _ (e : s ≡ false) (few : q ≤ 16) where
+        pub query-refused : 16 - q < b .queries → 10 ≡ firstFailed (roomChecks n cl co q s b)
+        query-refused u = sym (rest-is ∙ rw (k, e, lt-leb (q + b .queries) 16 (omega arith)))
 
-            module _ (e : s ≡ false) where
-              pub query-refused : q ≤ 16 → 16 - q < b .queries → 10 ≡ firstFailed (roomChecks n cl co q s b)
-              query-refused few u = sym (rest-is ∙ rw (
-                le-leb (b .price) 1000000 k,
-                le-leb (b .supplement) 100 p,
-                e,
-                lt-leb (q + b .queries) 16 (omega arith),
-              ))
-
-              pub room-passed : q ≤ 16 → b .queries ≤ 16 - q → 0 ≡ firstFailed (roomChecks n cl co q s b)
-              room-passed few u = sym (rest-is ∙ rw (
-                le-leb (b .price) 1000000 k,
-                le-leb (b .supplement) 100 p,
-                e,
-                le-leb (q + b .queries) 16 (omega arith),
-              ))
+        pub room-passed : b .queries ≤ 16 - q → 0 ≡ firstFailed (roomChecks n cl co q s b)
+        room-passed u = sym (rest-is ∙ rw (k, e, le-leb (q + b .queries) 16 (omega arith)))

@@ -1,10 +1,11 @@
 -- The checks of a line, each over the whole line and what was read before it; the first that fails decides.
 -- From: document 01, "What each operation refuses", 3 to 10; document 02, [1], [2], [7] (16 and 17, "both checked after
--- 9 and before 10").
+-- 9 and before 10"), [8] ("16 now means P or the price worked out over 2,000,000, or S over 100").
 --
 --   lookChecks l       the checks 3 to 5 of the line l, which need nothing of what was read
 --   lookRefusal l      the number of the first of them that fails, 0 where all pass
 --   saidWith st ts     st with the names of the tokens ts, in order of first appearance, and with what their line says
+--   priceFits p s      the price p, the price worked out with the supplement s, and s are not too high
 --   textChecks ws b    the checks 6 and 7 of a line with the names ws that brings b
 --   roomChecks ..      the checks from 8 on, by how many names there are with the line, by what there is before it, and
 --                      by whether it is a second cost
@@ -25,6 +26,7 @@ use Rattle.grammar.specs.Line.{isLine, brings}
 use Rattle.grammar.specs.LineOf.{lineOf}
 use Rattle.text.specs.Words.{namesIn}
 use Rattle.names.specs.Names.{someLong, withNames}
+use Rattle.store.specs.Prices.{priceOf}
 use Rattle.store.specs.Saying.{Said, renamed, saidBy, isSecondCost}
 
 -- none on a comment; on other lines 3 over 200 bytes, 4 a byte that may not stand in a line, 5 no form
@@ -47,13 +49,16 @@ saidWith st ts = saidBy (namedWith st ts) (lineOf ts)
 abbrev pub textChecks : List (List ℕ) → Brings → List Check
 textChecks ws b = check 6 (not (someLong ws)) ∷ check 7 (leb (b .depth) 16) ∷ []
 
--- with the line, 8 a 65th name, 9 a 257th clause or 33rd constraint, 16 a price over 1,000,000 or a supplement over
--- 100, 17 a second cost of a name, 10 a 17th query
+abbrev pub priceFits : ℕ → ℕ → Bool
+priceFits p s = leb p 2000000 && leb (priceOf p s) 2000000 && leb s 100
+
+-- with the line, 8 a 65th name, 9 a 257th clause or 33rd constraint, 16 a price, or one worked out, over 2,000,000 or a
+-- supplement over 100, 17 a second cost of a name, 10 a 17th query
 abbrev pub roomChecks : ℕ → ℕ → ℕ → ℕ → Bool → Brings → List Check
 roomChecks names clauses constraints queries second b =
     check 8 (leb names 64)
     ∷ check 9 (leb (clauses + b .clauses) 256 && leb (constraints + b .constraints) 32)
-    ∷ check 16 (leb (b .price) 1000000 && leb (b .supplement) 100)
+    ∷ check 16 (priceFits (b .price) (b .supplement))
     ∷ check 17 (not second)
     ∷ check 10 (leb (queries + b .queries) 16)
     ∷ []

@@ -31,6 +31,7 @@ costAtom at (Line.constraint k l) = 64
 costAtom at (Line.seen x) = 64
 costAtom at (Line.query f) = 64
 costAtom at (Line.cost w p s) = at w
+costAtom at (Line.atom w) = 64
 
 pub record CostAtomIs (l na : List ℕ) (n r : ℕ) : Type 0 where
   pub atom-is : n ≤ 64 → r ≡ costAtom (rowOf na n) (lineOf (tokens l))

@@ -5,7 +5,7 @@ ghost use Rattle.text.specs.Tokens.{tokens};
 ghost use Rattle.text.specs.Words.{namesIn};
 ghost use Rattle.store.specs.Lent.{lent};
 ghost use Rattle.store.specs.Held.{Long, InLimits};
-ghost use Rattle.checks.specs.Checks.{textChecks, roomChecks};
+ghost use Rattle.checks.specs.Checks.{priceFits, textChecks, roomChecks};
 ghost use Rattle.checks.specs.Looked.{Formed};
 ghost use Rattle.checks.specs.Took.{FormTaken, LineTaken};
 use crate::look::Looked;
@@ -19,6 +19,7 @@ use grammar::line::brings;
 use program::case::Case;
 use store::form::store_form;
 use store::masks::with_atom;
+use store::price::price_of;
 
 // What taking a line answers: 0 and what is known after it, or the number of its refusal.
 pub struct Taken {
@@ -39,6 +40,19 @@ fn text_refusal(l: &[u8], b: Brings) -> u32
     0
 }
 
+// Whether a price, the price worked out with a supplement, and the supplement pass check 16.
+fn price_fits(price: usize, supplement: usize) -> bool
+    ensures { λ r. ⌜ r ≡ priceFits price supplement ⌝ }
+{
+    if 2000000 < price {
+        return false;
+    }
+    if 100 < supplement {
+        return false;
+    }
+    price_of(price, supplement) <= 2000000
+}
+
 // The number of the first of the checks from 8 on that a line fails, with a number of names, or 0; second tells whether
 // it is a second cost.
 fn room_refusal(b: Brings, c: Case, atoms: usize, second: bool) -> u32
@@ -54,10 +68,7 @@ fn room_refusal(b: Brings, c: Case, atoms: usize, second: bool) -> u32
     if Case::CONSTRAINTS - c.constraints < b.constraints {
         return 9;
     }
-    if 1000000 < b.price {
-        return 16;
-    }
-    if 100 < b.supplement {
+    if !price_fits(b.price, b.supplement) {
         return 16;
     }
     if second {
