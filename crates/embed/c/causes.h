@@ -97,7 +97,7 @@ enum {
     CAUSES_UNSOUND = 13,      /* the record and the tables are no sound case */
     CAUSES_NO_SETTING = 14,   /* the setting is 3^k or more, for k causes */
     CAUSES_SHORT_WORK = 15,   /* the work area has fewer than 3^k bytes */
-    CAUSES_HIGH_PRICE = 16,   /* a price over 1,000,000 or a supplement over 100 */
+    CAUSES_HIGH_PRICE = 16,   /* a price, or one worked out, over 2,000,000, or a supplement over 100 */
     CAUSES_SECOND_COST = 17,  /* a second cost line of a name */
     CAUSES_SHORT_OUTPUT = 19  /* the output is shorter than the report */
 };
@@ -183,7 +183,7 @@ static inline const char *causes_refusal_text(uint32_t number)
     case CAUSES_UNSOUND: return "the case handed in is not sound";
     case CAUSES_NO_SETTING: return "the setting's number is not below the number of settings";
     case CAUSES_SHORT_WORK: return "the work area is shorter than one byte for each setting";
-    case CAUSES_HIGH_PRICE: return "the price is over 1,000,000, or the supplement over 100";
+    case CAUSES_HIGH_PRICE: return "the price, or the one worked out, is over 2,000,000, or the supplement over 100";
     case CAUSES_SECOND_COST: return "the line is a second cost line for its name";
     case CAUSES_SHORT_OUTPUT: return "the lent output is too short for the report";
     default: return NULL;

@@ -31,7 +31,8 @@ pub enum Form {
 }
 
 // The words of lines, in the order of their kinds, each behind its length.
-const LINE_WORDS: [u8; 47] = *b"\x04true\x05false\x02if\x05never\x05avoid\x04seen\x05query\x04cost\x04atom";
+const LINE_WORDS: [u8; 47] =
+    *b"\x04true\x05false\x02if\x05never\x05avoid\x04seen\x05query\x04cost\x04atom";
 
 // The kind of the line whose word is the part of l from a to e, or 9.
 fn kind_of(l: &[u8], a: usize, e: usize) -> usize

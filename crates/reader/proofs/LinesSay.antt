@@ -128,6 +128,7 @@ module _ (ns : List (List ℕ)) where
     line-saying (Line.cost w y z) h =
         saying _ _ (none .clauses-are) (none .constraints-are) (none .plain-are) (none .negated-are)
         (none .queries-are) (rw (h .0, s .costs-are))
+    line-saying (Line.atom w) h = none
 
   -- one line that passes, with the names of the lines behind it still to come
   module _ (st : Said) (x : Content) (s : Saying st x) (l : List ℕ) (ls : List (List ℕ)) where

@@ -100,6 +100,7 @@ module _ (ns : List (List ℕ)) (h : length ns ≤ 64) where
         (rows-push _ 16 _ _ (r .queries) (omega (arith, m .queries-few)) (sentence-formed f p (omega arith) d))
     said-formed (Line.cost w x y) p b d m =
         well-formed _ (r .names) (r .clauses) (r .constraints) (r .observed) (r .queries)
+    said-formed (Line.atom w) p b d m = r
 
 -- A line
 

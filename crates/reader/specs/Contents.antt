@@ -1,7 +1,7 @@
 -- What a case file says, from its lines to clauses, constraints, observed literals, queries, costs and names; and what
 -- it is for a record and tables to say the same.
 -- From: document 01, "The file", "Interpretations and the step" and "Case tables and sound cases"; document 02, [5]
--- (constraints of two kinds), [7] (costs).
+-- (constraints of two kinds), [7] (costs), [8] (an atom line "only names an atom").
 --
 --   formOf l             the form of the line l; a comment says nothing
 --   namesOf l            the names of the line l in order; a comment has none
@@ -90,6 +90,7 @@ contentOf ns (Line.constraint k l) = content [] (constraint k (bodyOf ns l) ∷ 
 contentOf ns (Line.seen x) = content [] [] (x ∷ []) [] []
 contentOf ns (Line.query f) = content [] [] [] (encoded ns f ∷ []) []
 contentOf ns (Line.cost w p s) = content [] [] [] [] (costRow ns w p s ∷ [])
+contentOf ns (Line.atom w) = noContent
 
 -- what lines say, one after the other
 unfoldable pub contents : List (List ℕ) → List (List ℕ) → Content

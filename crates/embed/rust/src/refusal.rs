@@ -101,7 +101,9 @@ impl Refusal {
             Refusal::Unsound => (13, None, "the case handed in is not sound"),
             Refusal::NoSetting => (14, None, "the setting's number is not below the number of settings"),
             Refusal::ShortWork => (15, None, "the work area is shorter than one byte for each setting"),
-            Refusal::HighPrice { line } => (16, Some(line), "the price is over 1,000,000, or the supplement over 100"),
+            Refusal::HighPrice { line } => {
+                (16, Some(line), "the price, or the one worked out, is over 2,000,000, or the supplement over 100")
+            }
             Refusal::SecondCost { line } => (17, Some(line), "the line is a second cost line for its name"),
             Refusal::ShortOutput => (19, None, "the lent output is too short for the report"),
             Refusal::Other { number, line } => (number, (line > 0).then_some(line), "the library's header says why"),
