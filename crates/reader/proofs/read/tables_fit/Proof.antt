@@ -11,7 +11,7 @@ returns-2 : tie.Need-returns-2
 returns-2 c = search (needs, names-short)
 
 returns-3 : tie.Need-returns-3
-returns-3 c = search (needs, prices-decide)
+returns-3 c = prices-decide _ (c .before .before .tables-full .ensures) (c .before .if1 .left) (c .if2 .left)
 
 pub tables-fit-spec : {M : Type 1} → statement M
 tables-fit-spec = tie.close (tie.spec (λ c κs. search needs) returns returns-2 returns-3)

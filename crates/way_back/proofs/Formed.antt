@@ -1,0 +1,93 @@
+-- Lists by their entries, and the clauses, constraints and formulas of sound tables: each is well formed, as what is
+-- read is. Assumes nothing.
+use mathlib.Core.Path.{_≡_}
+use mathlib.Core.Bool.{true, not, _&&_}
+use mathlib.Core.List.{List, [], _∷_}
+use Prim.Native.Nat.{ℕ, zero, suc, _*_, _/_, _%_, _^_, _≤_, _<_}
+use native.Mathlib.Omega.{arith}
+use lib.Dec.{ltb}
+use lib.ListN.{length, getD, drop, length-take}
+use borrow.Author.Tests.{ltb-true, not-true}
+use Rattle.words.specs.Lists.{listOf}
+use Rattle.words.proofs.Tests.{and-true-l, and-true-r}
+use Rattle.words.proofs.Lists.{list-of-length}
+use Rattle.logic.specs.Nodes.{nodes, formulaOf}
+use Rattle.logic.proofs.Spelled.{one-formula-accepted}
+use Rattle.program.specs.Case.{partSize, plainAt, negatedAt, forbidden, forbiddenNot, constraintKind, nodesOf}
+use Rattle.program.specs.Sound.{within, bare, shaped, soundClause, soundConstraint, soundFormula}
+use Rattle.program.proofs.Soundness.{formula-few, formula-one, clauseTest, constraintTest}
+use Rattle.text.proofs.Each.{Each, each-append}
+use Rattle.reader.proofs.WellFormed.{Rows, BitsBelow, ClauseFormed, ConstraintFormed, QueryFormed}
+use Rattle.writing.specs.Used.{clauseIn, constraintIn}
+
+-- Lists by their entries
+
+pub each-list-of : {A : Type 0} (P : A → Type 0) (n : ℕ) (f : ℕ → A) → ((i : ℕ) → i < n → P (f i)) → Each P (listOf n f)
+unfolding listOf
+each-list-of P zero f h = tt
+each-list-of P (suc n) f h =
+    each-append P (listOf n f) (f n ∷ []) (each-list-of P n f (λ i l. h i (omega arith))) (h n (omega arith), tt)
+
+pub rows-list-of : {A : Type 0} (P : A → Type 0) (m n : ℕ) (f : ℕ → A) → n ≤ m → ((i : ℕ) → i < n → P (f i))
+    → Rows P m (listOf n f)
+rows-list-of P m n f l h =
+    let e = list-of-length n f in
+    record { few = omega arith; each = each-list-of P n f h }
+
+-- Words
+
+pub within-formed : (n p q : ℕ) → within n p q ≡ true → BitsBelow n p q
+unfolding within
+within-formed n p q h = record {
+  plain-lt = ltb-true p (2 ^ n) (and-true-l (ltb p (2 ^ n)) (ltb q (2 ^ n)) h);
+  negated-lt = ltb-true q (2 ^ n) (and-true-r (ltb p (2 ^ n)) (ltb q (2 ^ n)) h);
+}
+
+-- Clauses
+
+pub clause-formed : (n : ℕ) (cl : List ℕ) (k : ℕ) → clauseTest n cl k ≡ true → ClauseFormed n (clauseIn cl k)
+unfolding soundClause
+clause-formed n cl k h =
+    let first = getD cl (3 * k) 0 in
+    let p = plainAt cl k in
+    let q = negatedAt cl k in
+    let front = and-true-l (ltb (first % 64) n && within n p q) (shaped (first / 64) (bare p q)) h in
+    record {
+      head-lt = ltb-true (first % 64) n (and-true-l (ltb (first % 64) n) (within n p q) front);
+      below = within-formed n p q (and-true-r (ltb (first % 64) n) (within n p q) front);
+      shape = and-true-r (ltb (first % 64) n && within n p q) (shaped (first / 64) (bare p q)) h;
+    }
+
+-- Constraints
+
+pub constraint-formed : (n : ℕ) (co : List ℕ) (k : ℕ) → constraintTest n co k ≡ true
+    → ConstraintFormed n (constraintIn co k)
+unfolding soundConstraint
+constraint-formed n co k h =
+    let p = forbidden co k in
+    let q = forbiddenNot co k in
+    let kind = constraintKind co k in
+    let front = and-true-l (within n p q && not (bare p q)) (ltb kind 2) h in
+    record {
+      below = within-formed n p q (and-true-l (within n p q) (not (bare p q)) front);
+      some = not-true (bare p q) (and-true-r (within n p q) (not (bare p q)) front);
+      kind-lt = ltb-true kind 2 (and-true-r (within n p q && not (bare p q)) (ltb kind 2) h);
+    }
+
+-- Formulas
+
+module _ (n : ℕ) (ns fo : List ℕ) (q : ℕ) (h : soundFormula n ns fo q ≡ true) where
+  -- the nodes of the formula that the table's nodes spell are those nodes
+  pub formula-nodes : nodes (formulaOf (nodesOf ns fo q)) ≡ nodesOf ns fo q
+  formula-nodes = one-formula-accepted n (nodesOf ns fo q) (formula-one n ns fo q h) .nodes-are
+
+  nodes-few : length (nodesOf ns fo q) ≤ partSize
+  unfolding nodesOf
+  nodes-few =
+      let few = formula-few n ns fo q h in
+      omega (arith, length-take (getD ns q 0) (drop (partSize * q) fo))
+
+  pub query-formed : QueryFormed n (formulaOf (nodesOf ns fo q))
+  query-formed =
+      let s = one-formula-accepted n (nodesOf ns fo q) (formula-one n ns fo q h) in
+      record { over-atoms = s .over-atoms; not-deep = s .not-deep; nodes-few = rw formula-nodes nodes-few }
