@@ -98,6 +98,19 @@ unfolding linesFrom textOf
 text-lines [] h = refl
 text-lines (l ∷ ls) h = line-in [] l (textOf ls) (h .0) ∙ rw (text-lines ls (h .1))
 
+pub text-append : (ls ms : List (List ℕ)) → textOf (ls ++ ms) ≡ textOf ls ++ textOf ms
+unfolding textOf
+text-append [] ms = refl
+text-append (l ∷ ls) ms = rw (append-assoc l, text-append ls ms)
+
+pub text-one : (l : List ℕ) → textOf (l ∷ []) ≡ l ++ (10 ∷ [])
+unfolding textOf
+text-one l = refl
+
+pub text-none : textOf [] ≡ []
+unfolding textOf
+text-none = refl
+
 -- ---- lengths
 -- at most 21 bytes for each token whose words have at most 20
 pub spelled-bound : (b : Bool) (ts : List Token) → EachWord (λ w. length w ≤ 20) ts

@@ -48,6 +48,20 @@ pub fn all_allowed(l: &[u8]) -> bool
     true
 }
 
+// Whether every byte stands in words.
+pub fn all_word_bytes(l: &[u8]) -> bool
+    ensures { λ r. ⌜ r ≡ allOf isWordByte (now (l .entry)) ⌝ }
+{
+    let mut i = 0;
+    while i < l.len() {
+        if !is_word_byte(l[i]) {
+            return false;
+        }
+        i += 1;
+    }
+    true
+}
+
 // Whether the part of l from a to e is w.
 pub fn is_same(l: &[u8], a: usize, e: usize, w: &[u8]) -> bool
     requires { ⌜ (a ≤ e) × (e ≤ length (now l)) ⌝ }
