@@ -26,7 +26,8 @@ use Rattle.reader.specs.Reading.{Outcome, ending, readLines, readFile}
 use Rattle.reader.proofs.EarlyRefusals.{fit-long}
 use Rattle.writing.specs.Lines.{linesOf, lineText}
 use Rattle.writing.specs.Used.{clauseIn, formulaIn, saidOf}
-use Rattle.writing.specs.Operation.{caseLines, caseText, linesFit, writeRefusal}
+use Rattle.spelling.proofs.Pages.{short-lines}
+use Rattle.writing.specs.Operation.{caseLines, caseText, writeRefusal}
 use Rattle.way_back.proofs.Costs.{costs-formed, costs-fresh}
 use Rattle.way_back.proofs.Writable.{writable-sound, name-is, name-atom, prices-few, said-formed}
 use Rattle.way_back.proofs.UsedRows.{rows-taken, clause-words}
@@ -35,14 +36,10 @@ use Rattle.way_back.proofs.FittingLines.{Reads, lines-alone, lines-read
 use Rattle.way_back.proofs.KnownNames.{NamedBy}
 use Rattle.way_back.proofs.WrittenLines.{Short, Writes, written-read}
 
--- lines that fit are short
-lines-short : (xs : List Line) → linesFit (map lineText xs) ≡ true → Each Short xs
-unfolding linesFit
-lines-short [] h = tt
-lines-short (x ∷ xs) h =
-    let first = leb (length (lineText x)) 200 in
-    let rest = linesFit (map lineText xs) in
-    (leb-true (length (lineText x)) 200 (and-true-l first rest h), lines-short xs (and-true-r first rest h))
+-- lines whose texts are short are short
+short-each : (xs : List Line) → Each (λ (l : List ℕ). length l ≤ 200) (map lineText xs) → Each Short xs
+short-each [] h = tt
+short-each (x ∷ xs) h = (h .0, short-each xs (h .1))
 
 -- the checks after the last line pass
 ending-case : (st : Said) → 1 ≤ length (st .queries)
@@ -80,7 +77,7 @@ module _ (c : Case) (t : Lent) (u : Unrefused c t) where
   }
 
   reads : Reads nothingSaid (linesOf name st) st
-  reads = written-read name st writes (lines-short (linesOf name st) (u .lines-fit))
+  reads = written-read name st writes (short-each (linesOf name st) (short-lines (caseLines c t) (u .lines-short)))
 
   -- ---- the end
   query-some : 1 ≤ length (st .queries)

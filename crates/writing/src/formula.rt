@@ -45,24 +45,15 @@ pub fn formula(out: &mut [u8], p: Pen, nodes: &[u8], at: usize, names: &[u8]) ->
     let node = nodes[at];
     if node < 64 {
         let pen = name(out, p, names, node as usize);
-        return Step {
-            pen,
-            next: at + 1,
-        };
+        return Step { pen, next: at + 1 };
     }
     let opened = form_word(out, p, node);
     let a = formula(out, opened, nodes, at + 1, names);
     if node == 64 {
         let pen = closing(out, a.pen);
-        return Step {
-            pen,
-            next: a.next,
-        };
+        return Step { pen, next: a.next };
     }
     let b = formula(out, a.pen, nodes, a.next, names);
     let pen = closing(out, b.pen);
-    Step {
-        pen,
-        next: b.next,
-    }
+    Step { pen, next: b.next }
 }

@@ -83,7 +83,14 @@ pub fn atom_line(out: &mut [u8], g: Page, names: &[u8], atom: usize) -> Page
 }
 
 // Writes the line of a clause, by its three words.
-pub fn clause_line(out: &mut [u8], g: Page, names: &[u8], first: u64, plain: u64, negated: u64) -> Page
+pub fn clause_line(
+    out: &mut [u8],
+    g: Page,
+    names: &[u8],
+    first: u64,
+    plain: u64,
+    negated: u64,
+) -> Page
     requires { ⌜ (first / 64 ≤ 2) × (nameSize ≤ length (now names))
         × Room (textOf (lineText (Line.clause (first / 64) (nameIn (now names) (first % 64))
         (literalsFor (nameIn (now names)) plain negated)) ∷ [])) (g .at) ⌝ }
@@ -98,7 +105,14 @@ pub fn clause_line(out: &mut [u8], g: Page, names: &[u8], first: u64, plain: u64
 }
 
 // Writes the line of a constraint, by its three words.
-pub fn constraint_line(out: &mut [u8], g: Page, names: &[u8], plain: u64, negated: u64, kind: u64) -> Page
+pub fn constraint_line(
+    out: &mut [u8],
+    g: Page,
+    names: &[u8],
+    plain: u64,
+    negated: u64,
+    kind: u64,
+) -> Page
     requires { ⌜ (kind < 2) × (nameSize ≤ length (now names))
         × Room (textOf (lineText (Line.constraint kind (literalsFor (nameIn (now names)) plain negated)) ∷ []))
         (g .at) ⌝ }

@@ -16,17 +16,21 @@ begin-clause-requires c κs =
 name-requires : tie.Need-name-requires
 name-requires c κs =
     let b = c .before .before .before in
-    let s = b .before .before .before .before in
-    (omega arith, first-room (Token.word _ ∷ []) _ _
-    (part-room (clause-form _ _ _) (s .args .g) (b .begin-clause .ensures) (s .pre .2)))
+    let s = b .before .before .before .before in (
+      omega arith,
+      first-room (Token.word _ ∷ []) _ _
+          (part-room (clause-form _ _ _) (s .args .g) (b .begin-clause .ensures) (s .pre .2)),
+    )
 
 body-requires : tie.Need-body-requires
 body-requires c κs =
     let n = c .before .before .before in
     let b = n .before .before .before .before in
-    let s = b .before .before .before .before in
-    (s .pre .1, second-room (Token.word _ ∷ []) _ _
-    (part-room (clause-form _ _ _) (s .args .g) (b .begin-clause .ensures) (s .pre .2)) (n .name .ensures))
+    let s = b .before .before .before .before in (
+      s .pre .1,
+      second-room (Token.word _ ∷ []) _ _
+          (part-room (clause-form _ _ _) (s .args .g) (b .begin-clause .ensures) (s .pre .2)) (n .name .ensures),
+    )
 
 close-requires : tie.Need-close-requires
 close-requires c κs =

@@ -18,9 +18,11 @@ begin-requires c κs =
 name-requires : tie.Need-name-requires
 name-requires c κs =
     let b = c .before .before .before in
-    let s = b .before .before .before .before .before in
-    (s .pre .0, first-room (Token.word _ ∷ []) _ _
-    (part-room (cost-form _ _ _) (s .args .g) (b .begin .ensures) (s .pre .1)))
+    let s = b .before .before .before .before .before in (
+      s .pre .0,
+      first-room (Token.word _ ∷ []) _ _
+          (part-room (cost-form _ _ _) (s .args .g) (b .begin .ensures) (s .pre .1)),
+    )
 
 number-requires : tie.Need-number-requires
 number-requires c κs =

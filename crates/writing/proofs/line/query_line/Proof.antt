@@ -16,9 +16,11 @@ begin-requires c κs =
 formula-requires : tie.Need-formula-requires
 formula-requires c κs =
     let b = c .before .before .before in
-    let s = b .before .before .before .before .before .before in
-    (s .pre .0, one-room _ _ (s .pre .1) _
-    (part-room (query-form _) (s .args .g) (b .begin .ensures) (s .pre .2)))
+    let s = b .before .before .before .before .before .before in (
+      s .pre .0,
+      one-room _ _ (s .pre .1) _
+          (part-room (query-form _) (s .args .g) (b .begin .ensures) (s .pre .2)),
+    )
 
 close-requires : tie.Need-close-requires
 close-requires c κs =
