@@ -11,6 +11,8 @@
 -- Rows: lists of at most so many entries, of each of which something holds.
 -- LineSizes: how long a line is.
 -- CaseRoom: the text of a writable case has room.
+-- Fitting: what a case that fits gives to the steps of writing it.
+-- CaseTexts: the lines of a case, kind by kind.
 pub mod Names
 pub mod WritableCases
 pub mod Ways
@@ -23,3 +25,5 @@ pub mod Growing
 pub mod Rows
 pub mod LineSizes
 pub mod CaseRoom
+pub mod Fitting
+pub mod CaseTexts

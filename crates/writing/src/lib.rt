@@ -2,4 +2,5 @@
 pub mod body;
 pub mod formula;
 pub mod line;
+pub mod lines;
 pub mod writable;
