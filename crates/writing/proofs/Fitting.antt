@@ -80,7 +80,8 @@ module _ (c : Case) (t : Lent) (f : Fit c t) where
     where
       each : QueriesSound (c .nodes) (t .formula) (c .formulas)
       each q l =
-          let s = sound-each c _ _ _ fit-sound q l in
-          (formula-few (c .atoms) (c .nodes) (t .formula) q s,
-          one-formula-spells (c .atoms) (nodesOf (c .nodes) (t .formula) q)
-          (formula-one (c .atoms) (c .nodes) (t .formula) q s))
+          let s = sound-each c _ _ _ fit-sound q l in (
+            formula-few (c .atoms) (c .nodes) (t .formula) q s,
+            one-formula-spells (c .atoms) (nodesOf (c .nodes) (t .formula) q)
+                (formula-one (c .atoms) (c .nodes) (t .formula) q s),
+          )

@@ -13,6 +13,7 @@
 -- CaseRoom: the text of a writable case has room.
 -- Fitting: what a case that fits gives to the steps of writing it.
 -- CaseTexts: the lines of a case, kind by kind.
+-- Refusals: the refusals of writing, and the text where there is none.
 pub mod Names
 pub mod WritableCases
 pub mod Ways
@@ -27,3 +28,4 @@ pub mod LineSizes
 pub mod CaseRoom
 pub mod Fitting
 pub mod CaseTexts
+pub mod Refusals

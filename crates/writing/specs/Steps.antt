@@ -9,7 +9,6 @@
 --   FormulaWritten ..        the formula that begins there was written; next is the place behind it
 --   KindsSound cl n          the first n clauses are of a kind there is; BarsSound so of constraints
 --   QueriesSound ..          the nodes of each of the first n formulas, at most 128, are one formula
---   refusedWith n            the answer of a refusal
 --   EndsName na a r          r is the place behind the name in row a
 --   Fit c t                  the tables t fit, and the case c with them is writable
 --   firstPage                the page at the output's first byte
@@ -35,7 +34,6 @@ use Rattle.grammar.specs.Line.{Line, Literal, ofLiteral}
 use Rattle.names.specs.Row.{nameIn}
 use Rattle.store.specs.Lent.{Lent}
 use Rattle.reader.specs.Operation.{tablesFit}
-use Rattle.output.specs.declared.Answer.{Answer}
 use Rattle.output.specs.Writing.{Room}
 use Rattle.spelling.specs.declared.Pen.{Pen}
 use Rattle.spelling.specs.declared.Page.{Page}
@@ -117,6 +115,3 @@ pub record Fit (c : Case) (t : Lent) : Type 0 where
 
 abbrev pub firstPage : Page
 firstPage = record { at = 0; long = false }
-
-abbrev pub refusedWith : ℕ → Answer
-refusedWith n = record { refusal = n; length = 0 }

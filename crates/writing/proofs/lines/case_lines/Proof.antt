@@ -51,9 +51,13 @@ clause-lines-requires c κs =
     let x = s .args .c in
     let t = tables s in
     let h₀ = case-start x t (s .args .out .now) in
-    let h₁ = case-more x t _ _ h₀ (a .atom-lines .ensures) in
-    (fit-clauses x t (s .pre .0) .0, fit-names x t (s .pre .0), fit-clauses x t (s .pre .0) .1, fit-kinds x t (s .pre .0),
-    case-room-for x t _ _ h₁ (s .pre .1))
+    let h₁ = case-more x t _ _ h₀ (a .atom-lines .ensures) in (
+      fit-clauses x t (s .pre .0) .0,
+      fit-names x t (s .pre .0),
+      fit-clauses x t (s .pre .0) .1,
+      fit-kinds x t (s .pre .0),
+      case-room-for x t _ _ h₁ (s .pre .1),
+    )
 
 constraint-lines-requires : tie.Need-constraint-lines-requires
 constraint-lines-requires c κs =
@@ -64,9 +68,13 @@ constraint-lines-requires c κs =
     let t = tables s in
     let h₀ = case-start x t (s .args .out .now) in
     let h₁ = case-more x t _ _ h₀ (a .atom-lines .ensures) in
-    let h₂ = case-more x t _ _ h₁ (b .clause-lines .ensures) in
-    (fit-constraints x t (s .pre .0) .0, fit-names x t (s .pre .0), fit-constraints x t (s .pre .0) .1,
-    fit-bars x t (s .pre .0), case-room-for x t _ _ h₂ (s .pre .1))
+    let h₂ = case-more x t _ _ h₁ (b .clause-lines .ensures) in (
+      fit-constraints x t (s .pre .0) .0,
+      fit-names x t (s .pre .0),
+      fit-constraints x t (s .pre .0) .1,
+      fit-bars x t (s .pre .0),
+      case-room-for x t _ _ h₂ (s .pre .1),
+    )
 
 seen-lines-requires : tie.Need-seen-lines-requires
 seen-lines-requires c κs =
@@ -113,9 +121,13 @@ query-lines-requires c κs =
     let h₂ = case-more x t _ _ h₁ (b .clause-lines .ensures) in
     let h₃ = case-more x t _ _ h₂ (d .constraint-lines .ensures) in
     let h₄ = case-more x t _ _ h₃ (e .seen-lines .ensures) in
-    let h₅ = case-more x t _ _ h₄ (f .seen-lines2 .ensures) in
-    (fit-queries x t (s .pre .0) .0, fit-names x t (s .pre .0), fit-formula x t (s .pre .0),
-    fit-queries x t (s .pre .0) .1, case-room-for x t _ _ h₅ (s .pre .1))
+    let h₅ = case-more x t _ _ h₄ (f .seen-lines2 .ensures) in (
+      fit-queries x t (s .pre .0) .0,
+      fit-names x t (s .pre .0),
+      fit-formula x t (s .pre .0),
+      fit-queries x t (s .pre .0) .1,
+      case-room-for x t _ _ h₅ (s .pre .1),
+    )
 
 cost-lines-requires : tie.Need-cost-lines-requires
 cost-lines-requires c κs =

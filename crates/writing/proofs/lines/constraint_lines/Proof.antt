@@ -48,9 +48,11 @@ shared-slice-read-constraint-line-3 c = search needs
 constraint-line-requires : tie.Need-constraint-line-requires Inv-loop μ-loop
 constraint-line-requires c κs =
     let l = c .before .before .before .before .before in
-    let s = l .before .before .before .before in
-    (s .pre .3 (l .loop .k) (omega arith), s .pre .1,
-    entry-room (list-grows _) (l .loop .inv) (omega arith) (s .pre .4))
+    let s = l .before .before .before .before in (
+      s .pre .3 (l .loop .k) (omega arith),
+      s .pre .1,
+      entry-room (list-grows _) (l .loop .inv) (omega arith) (s .pre .4),
+    )
 
 add-k : tie.Need-add-k Inv-loop μ-loop
 add-k c = search needs

@@ -51,11 +51,12 @@ query-line-requires : tie.Need-query-line-requires Inv-loop μ-loop
 query-line-requires c κs =
     let l = c .before .before .before .before in
     let s = l .before .before .before .before in
-    let a = s .args in
-    (s .pre .1,
-    lent-one (a .nodes .now) (a .formula .now) (l .loop .q) (s .pre .3 (l .loop .q) (omega arith) .1),
-    lent-room (a .nodes .now) (a .formula .now) (l .loop .q) (a .names .now)
-    (entry-room (list-grows _) (l .loop .inv) (omega arith) (s .pre .4)))
+    let a = s .args in (
+      s .pre .1,
+      lent-one (a .nodes .now) (a .formula .now) (l .loop .q) (s .pre .3 (l .loop .q) (omega arith) .1),
+      lent-room (a .nodes .now) (a .formula .now) (l .loop .q) (a .names .now)
+          (entry-room (list-grows _) (l .loop .inv) (omega arith) (s .pre .4)),
+    )
 
 add-q : tie.Need-add-q Inv-loop μ-loop
 add-q c = search needs

@@ -31,9 +31,10 @@ seen-line-requires : tie.Need-seen-line-requires Inv-loop μ-loop
 seen-line-requires c κs =
     let b = c .before in
     let l = b .before .before in
-    let s = l .before .before .before in
-    (omega (arith, b .lowest-bit .ensures .bit .small),
-    atom-line-room _ _ _ (l .loop .inv) (b .lowest-bit .ensures) (s .pre .1))
+    let s = l .before .before .before in (
+      omega (arith, b .lowest-bit .ensures .bit .small),
+      atom-line-room _ _ _ (l .loop .inv) (b .lowest-bit .ensures) (s .pre .1),
+    )
 
 without-requires : tie.Need-without-requires Inv-loop μ-loop
 without-requires c κs = search needs
