@@ -87,13 +87,15 @@ module _ (c : Case) (t : Lent) (h : writable c t ≡ true) where
   pub writable-sound : sound c (t .clauses) (t .constraints) (t .formula) ≡ true
   unfolding writable
   writable-sound =
-      and-true-l (sound c (t .clauses) (t .constraints) (t .formula)) (every (c .atoms) (isWritableAtom (t .names) (t .prices))) h
+      and-true-l (sound c (t .clauses) (t .constraints) (t .formula))
+      (every (c .atoms) (isWritableAtom (t .names) (t .prices))) h
 
   writable-atom : (a : ℕ) → a < c .atoms → isWritableAtom (t .names) (t .prices) a ≡ true
   unfolding writable
   writable-atom =
       every-at (c .atoms) (isWritableAtom (t .names) (t .prices))
-      (and-true-r (sound c (t .clauses) (t .constraints) (t .formula)) (every (c .atoms) (isWritableAtom (t .names) (t .prices))) h)
+      (and-true-r (sound c (t .clauses) (t .constraints) (t .formula))
+      (every (c .atoms) (isWritableAtom (t .names) (t .prices))) h)
 
   abbrev pub names : List (List ℕ)
   names = listOf (c .atoms) (nameIn (t .names))

@@ -34,7 +34,10 @@ module _ (g : Page) (p : Pen) where
   module _ {q : Pen} {out out₁ : List ℕ} (c : Spells closer out p q out₁) where
     pub feed-room : (g .at ≤ p .at) × Room (41 ∷ (10 ∷ [])) (p .at) → (g .at ≤ q .at) × Room (10 ∷ []) (q .at)
     unfolding spelledFrom
-    feed-room h = (omega (arith, c .place-is, h .0), laying.room-behind (41 ∷ []) (10 ∷ []) (p .at) (h .1) (c .place-is))
+    feed-room h = (
+      omega (arith, c .place-is, h .0),
+      laying.room-behind (41 ∷ []) (10 ∷ []) (p .at) (h .1) (c .place-is),
+    )
 
     pub closes : {r : Page} {out₂ : List ℕ} → Ends g q out₁ r out₂ → Closes g p out r out₂
     closes e ts before h = line-set g (spells-both h closer c) e

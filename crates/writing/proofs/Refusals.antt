@@ -69,8 +69,15 @@ module _ (c : Case) (t : Lent) (out : List ℕ) where
           where
             fourth : writeRefusal c t (length out) ≡ 19
             fourth =
-                rw (f .tables-fit, f .is-writable, ← s .long-is, h, ← size, le-leb (g .at) 32768 l,
-                lt-leb (g .at) (length out) k)
+                rw (
+                  f .tables-fit,
+                  f .is-writable,
+                  ← s .long-is,
+                  h,
+                  ← size,
+                  le-leb (g .at) 32768 l,
+                  lt-leb (g .at) (length out) k,
+                )
 
         pub text-written : g .at ≤ length out → {r : Page} {u : List ℕ} → Sets (caseLines c t) out firstPage r u
             → WrittenAs c t out (ofLength (g .at)) u
@@ -79,5 +86,12 @@ module _ (c : Case) (t : Lent) (out : List ℕ) where
           where
             none : writeRefusal c t (length out) ≡ 0
             none =
-                rw (f .tables-fit, f .is-writable, ← s .long-is, h, ← size, le-leb (g .at) 32768 l,
-                le-leb (g .at) (length out) k)
+                rw (
+                  f .tables-fit,
+                  f .is-writable,
+                  ← s .long-is,
+                  h,
+                  ← size,
+                  le-leb (g .at) 32768 l,
+                  le-leb (g .at) (length out) k,
+                )

@@ -4,7 +4,8 @@ use mathlib.Core.List.{[], _∷_}
 use native.Mathlib.Omega.{arith}
 use Rattle.text.specs.Tokens.{Token}
 use Rattle.spelling.proofs.Pens.{spells-both}
-use Rattle.writing.proofs.LineTexts.{begin-room, part-room, close-room, line-written, first-room, second-room, clause-form}
+use Rattle.writing.proofs.LineTexts.{begin-room, part-room, close-room, line-written, first-room}
+use Rattle.writing.proofs.LineTexts.{second-room, clause-form}
 use Rattle.writing.proofs.line.clause_line.Statement.{statement}
 use Rattle.writing.proofs.line.clause_line.Tie as tie
 

@@ -3,7 +3,8 @@ use borrow.Author.Needs.{needs}
 use mathlib.Core.List.{[], _∷_}
 use Rattle.text.specs.Tokens.{Token}
 use Rattle.spelling.proofs.Pens.{spells-both}
-use Rattle.writing.proofs.LineTexts.{begin-room, part-room, close-room, line-written, first-room, second-room, cost-form}
+use Rattle.writing.proofs.LineTexts.{begin-room, part-room, close-room, line-written, first-room}
+use Rattle.writing.proofs.LineTexts.{second-room, cost-form}
 use Rattle.writing.proofs.line.cost_line.Statement.{statement}
 use Rattle.writing.proofs.line.cost_line.Tie as tie
 
