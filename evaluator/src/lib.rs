@@ -9,7 +9,8 @@
 //! | verdict, question, answer | the verdict on a query, minimal explanations, the text of the answer |
 //! | layers, layers_answer | which atoms depend on which: least numbers and rings; what `layers` should write |
 //! | lookup | a word compared with an entry of the names table |
-//! | held, plain, vectors | the record and the tables of a case, the plain form, the vectors of operations |
+//! | held, writing | the record and the tables of a case; its text |
+//! | plain, vectors | the plain form, the vectors of operations |
 //! | random, names, prices, layout, families | drawn lawful files |
 //! | shapes | drawn files with chains and rings |
 //! | edges, cost_edges, lists, damage, sample | files at the limits, damaged files, the file of a seed |
@@ -64,3 +65,4 @@ pub mod tally;
 pub mod tree;
 pub mod vectors;
 pub mod verdict;
+pub mod writing;

@@ -9,6 +9,7 @@ use crate::layers::{dependence, numbers, rings};
 use crate::model::mask;
 use crate::plain::{tables, Answered, Operation, Sums};
 use crate::question::{ask, Engine};
+use crate::writing::written;
 use std::path::Path;
 
 /// What an operation runs on: a case file that is read first, a record and tables, or its arguments alone.
@@ -103,6 +104,9 @@ impl Vector {
         match (&self.operation, held.case()) {
             (Operation::Compare(pair), _) => Answered::Compared(pair.outcome()),
             (Operation::Read, _) => Answered::Read(held),
+            (Operation::Writeback { bytes }, _) => {
+                written(&held, *bytes).map_or_else(Answered::Refused, Answered::Written)
+            }
             (_, None) => Answered::Refused(13),
             (Operation::Settle { setting }, Some(case)) => settled(case, *setting),
             (Operation::Question { slots, bytes }, Some(case)) => asked(case, *slots, *bytes),
