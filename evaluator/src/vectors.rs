@@ -84,6 +84,12 @@ impl Vector {
         Ok(Vector { operation, subject, expected: text("out")? })
     }
 
+    /// The vector on the case file `path`, if there is one.
+    pub fn beside(path: &Path) -> Result<Option<Vector>, String> {
+        let arguments = path.with_extension("args");
+        arguments.exists().then(|| Vector::load(&arguments)).transpose()
+    }
+
     /// Whether an operation with the answer `text` answers as it should: with the stored answer, or with one ring of
     /// those stored.
     pub fn allows(&self, text: &str) -> bool {
