@@ -165,7 +165,7 @@ fn told(bytes: &[u8], printed: &[u8]) -> Vec<u8> {
 
 /// What writing the case of `bytes` answers with an output of `lent.text` bytes: the number, the length, the output; a
 /// refused file leaves a record that is not sound.
-fn written(bytes: &[u8], lent: &Lent) -> (u32, usize, Vec<u8>) {
+fn written_back(bytes: &[u8], lent: &Lent) -> (u32, usize, Vec<u8>) {
     let mut out = vec![OUT; lent.text];
     let text = file::read(bytes).map_err(|_| 13).and_then(|case| writing::written(&Held::of(&case).full(), lent.text));
     let text = match text {
@@ -193,7 +193,7 @@ fn plain(bytes: &[u8], lent: &Lent) -> Vec<u8> {
     lines += &layers_line(bytes);
     lines += &line("report", [refusal(if short { 19 } else { 0 })]);
     lines += &line("length", [if short { 0 } else { text.len() }]);
-    let (number, length, text) = written(bytes, lent);
+    let (number, length, text) = written_back(bytes, lent);
     let rest = line("write", [refusal(number)]) + &line("length", [length]);
     [lines.as_bytes(), &out, b"\n", rest.as_bytes(), &text, b"\n"].concat()
 }
@@ -221,7 +221,7 @@ fn by_struct(bytes: &[u8], lent: &Lent) -> Vec<u8> {
     rest += &(question_line(&answers.question, answered) + &line("verdicts", verdicts) + &line("counts", counts));
     rest += &(line("list", &answers.list) + &line("work", &answers.work));
     rest += &layers_line(bytes);
-    let (number, length, text) = written(bytes, lent);
+    let (number, length, text) = written_back(bytes, lent);
     rest += &line("write", [refusal(number).to_owned(), length.to_string()]);
     let last = line("read", [refusal(read.refusal)]);
     [lines.into_bytes(), rows.concat(), rest.into_bytes(), text, b"\n".to_vec(), last.into_bytes()].concat()

@@ -158,13 +158,14 @@ fn long_lines(tests: &mut Tests) {
     tests.family("write: constraints of 200 and more bytes");
     for length in 1..=ROW {
         let mut names: Vec<String> = (0..11).map(|i| format!("name-of-16-byte{}", char::from(b'a' + i))).collect();
-        names.push("x".repeat(length));
+        let last = "x".repeat(length);
+        names.push(last.clone());
         let lines = |front: &str| names.iter().map(|name| format!("({front} {name})\n")).collect::<String>();
-        let line = format!("(never {})\n(query x)\n", names.join(" "));
-        let mut held = held(&(lines("true") + "(never x)\n(query x)\n").replace("x)", &format!("{})", names[11])));
+        let mut held = held(&format!("{}(never {last})\n(query {last})\n", lines("true")));
         held.constraints[0] = (1 << 12) - 1;
-        let text = lines("atom") + &lines("true") + &line.replace("query x", &format!("query {}", names[11]));
-        long(tests, &held, &text, line.find('\n').expect("a line"));
+        let line = format!("(never {})", names.join(" "));
+        let text = format!("{}{}{line}\n(query {last})\n", lines("atom"), lines("true"));
+        long(tests, &held, &text, line.len());
     }
     tests.family("write: queries of 200 and more bytes");
     let name = "h".repeat(ROW);
