@@ -21,9 +21,7 @@ use Rattle.spelling.proofs.Pens.{spelled-append, spells-both, room-before, room
 use Rattle.spelling.proofs.Pages.{line-room, end-room, line-set}
 use Rattle.writing.specs.Lines.{lineText}
 use Rattle.writing.specs.Steps.{openedBy, Closes}
-
-abbrev closer : List Token
-closer = Token.closing ∷ []
+use Rattle.writing.proofs.Parts.{closer}
 
 -- ---- what closes a line
 module _ (g : Page) (p : Pen) where
