@@ -4,7 +4,7 @@ use mathlib.Core.Bool.{false}
 use mathlib.Core.List.{List, [], _∷_, _++_, append-assoc}
 use Prim.Native.Nat.{ℕ, _+_, _≤_}
 use native.Mathlib.Omega.{arith}
-use lib.ListN.{length, getD}
+use lib.ListN.{getD}
 use Rattle.text.specs.Bytes.{bytes}
 use Rattle.text.specs.Tokens.{Token}
 use Rattle.text.specs.Spelled.{spelledFrom, spelled, textOf}
@@ -18,7 +18,7 @@ use Rattle.spelling.specs.declared.Page.{Page}
 use Rattle.spelling.specs.Pen.{inked, Spells}
 use Rattle.spelling.specs.Page.{startOf, Ends, Sets}
 use Rattle.spelling.proofs.Pens.{spelled-append, spells-both, room-before, room-behind}
-use Rattle.spelling.proofs.Pages.{line-room, end-room, line-set}
+use Rattle.spelling.proofs.Pages.{line-room, line-set}
 use Rattle.writing.specs.Lines.{lineText}
 use Rattle.writing.specs.Steps.{openedBy, Closes}
 use Rattle.writing.proofs.Parts.{closer}

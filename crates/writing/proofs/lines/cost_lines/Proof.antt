@@ -10,7 +10,8 @@ use Rattle.writing.proofs.lines.cost_lines.Statement.{statement}
 use Rattle.writing.proofs.lines.cost_lines.Tie as tie
 
 abbrev Inv-loop : tie.InvT-loop
-Inv-loop out₀ names prices n page₀ atom₀ out page atom = AtEntry (λ j. costTexts names prices j) n out₀ page₀ atom page out
+Inv-loop out₀ names prices n page₀ atom₀ out page atom =
+    AtEntry (λ j. costTexts names prices j) n out₀ page₀ atom page out
 
 abbrev μ-loop : tie.MeasureT-loop
 μ-loop out₀ names prices n page₀ atom₀ out page atom = n - atom

@@ -1,6 +1,5 @@
 -- `operation::write` meets its contract: a law for each refusal, and for the text. Assumes nothing.
 use borrow.Author.Needs.{needs}
-use native.Mathlib.Omega.{arith}
 use mathlib.Core.Path.{sym, _∙_}
 use borrow.Author.Tests.{not-false}
 use Rattle.store.specs.Lent.{Lent, lent}
