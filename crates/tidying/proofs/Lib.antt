@@ -1,0 +1,7 @@
+-- Laws, in reading order.
+-- Written: the text of a case, and what is shown of it.
+-- Answers: what is shown of an accepted file.
+-- Theorems: a proof of each claim of specs/Claims.antt.
+pub mod Written
+pub mod Answers
+pub mod Theorems
