@@ -65,6 +65,15 @@ module _ (c : Case) (t : Lent) where
   written-by zero e = text-fits e
   written-by (suc m) e = omega (arith, refusal-length (suc m) 0)
 
+  -- where its tables fit and it can be written, 18 is left
+  pub limit-refusal : tablesFit t ≡ true → writable c t ≡ true
+      → (writeRefusal c t textLimit ≡ 0) ⊎ (writeRefusal c t textLimit ≡ 18)
+  limit-refusal f w = rw (at-limit, f, w) (go textFits)
+    where
+      go : (b : Bool) → (firstFailed (check 18 b ∷ []) ≡ 0) ⊎ (firstFailed (check 18 b ∷ []) ≡ 18)
+      go true = inl refl
+      go false = inr refl
+
   pub written-length : length (writtenText c t) ≤ textLimit
   written-length = rw written-is (written-by caseRefusal refl)
 

@@ -1,13 +1,22 @@
 -- `show_case` meets its contract: what writing answers stands where it is the text's length or the output is too short,
 -- and any other refusal is told. Assumes nothing.
 use borrow.Author.Needs.{needs}
+use Rattle.store.specs.Lent.{Lent, lent}
 use Rattle.tidying.proofs.Written.{written-whole, written-short, written-refused}
 use Rattle.tidying.proofs.operation.show_case.Statement.{statement}
 use Rattle.tidying.proofs.operation.show_case.Tie as tie
 
--- the place before: the end of writing
+-- the places before: the entry, and the end of writing
+abbrev entry : tie.After-write → tie.Start
+entry c = c .before .before .before .before .before .before .before .before
+
 abbrev writing : tie.After-struct-known → tie.After-write
 writing c = c .before .before .before
+
+-- the tables lent
+abbrev tables : tie.After-write → Lent
+tables c = let a = entry c .args in
+    lent (a .clauses .now) (a .constraints .now) (a .formula .now) (a .names .now) (a .prices .now)
 
 write-requires : tie.Need-write-requires
 write-requires c κs = tt
@@ -16,13 +25,17 @@ same-length : tie.Need-same-length
 same-length c = search needs
 
 returns : tie.Need-returns
-returns c = written-whole _ _ (writing (c .before) .write .ensures) (c .if1 .taken)
+returns c =
+    let w = writing (c .before) in
+    written-whole (entry w .args .c) (tables w) (w .write .ensures) (c .if1 .taken)
 
 same-length-2 : tie.Need-same-length-2
 same-length-2 c = search needs
 
 returns-2 : tie.Need-returns-2
-returns-2 c = written-short _ _ (writing (c .before .before .before) .write .ensures) (c .if2 .taken)
+returns-2 c =
+    let w = writing (c .before .before .before) in
+    written-short (entry w .args .c) (tables w) (w .write .ensures) (c .if2 .taken)
 
 show-refusal-requires : tie.Need-show-refusal-requires
 show-refusal-requires c κs = tt
@@ -35,7 +48,9 @@ returns-3 c =
     let s = c .before .before in
     let k = s .before .before in
     let i = k .before .before in
-    written-refused _ _ (writing (i .before) .write .ensures) (i .if1 .left) (k .if2 .left) (s .show-refusal .ensures)
+    let w = writing (i .before) in
+    written-refused (entry w .args .c) (tables w) (w .write .ensures) (i .if1 .left) (k .if2 .left)
+    (s .show-refusal .ensures)
 
 pub show-case-spec : {M : Type 1} → statement M
 show-case-spec =
