@@ -133,7 +133,7 @@ each-found ns (w ∷ ws) =
     (with-names-kept (withName ns w) ws w (with-name-found ns w), each-found (withName ns w) ws)
 
 -- names that are found add nothing
-with-names-known : (ns ws : List (List ℕ)) → Each (λ w. atomOf ns w < length ns) ws → withNames ns ws ≡ ns
+pub with-names-known : (ns ws : List (List ℕ)) → Each (λ w. atomOf ns w < length ns) ws → withNames ns ws ≡ ns
 unfolding withNames
 with-names-known ns [] h = refl
 with-names-known ns (w ∷ ws) h = rw (with-name-known ns w (h .0)) (with-names-known ns ws (h .1))

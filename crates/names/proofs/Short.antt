@@ -45,7 +45,7 @@ pub some-long-nil : someLong [] ≡ false
 unfolding someLong
 some-long-nil = refl
 
-all-short : (ws : List (List ℕ)) → Each (λ w. length w ≤ 16) ws → someLong ws ≡ false
+pub all-short : (ws : List (List ℕ)) → Each (λ w. length w ≤ 16) ws → someLong ws ≡ false
 all-short [] h = some-long-nil
 all-short (w ∷ ws) h = some-long-later w ws (h .0) ∙ all-short ws (h .1)
 

@@ -51,6 +51,10 @@ within-short zero (suc k) n h = omega (arith, within-length zero n)
 within-short (suc j) (suc k) n h =
     lead-length (ltb n 10) _ (n % 10) (suc k) (within-short j k (n / 10) (front-below (suc k) n h))
 
+lead-some : (t : Bool) (l : List ℕ) (d : ℕ) → 0 < length (lead t l d)
+lead-some true l d = omega arith
+lead-some false l d = rw length-append (omega arith)
+
 -- what holds of one digit, and with a last digit of those in front of it, holds of every number within the limit
 pub within-induct : (P : ℕ → List ℕ → Type 0) → ((n : ℕ) → n < 10 → P n (digitByte (n % 10) ∷ []))
     → ((n : ℕ) (l : List ℕ) → 10 ≤ n → P (n / 10) l → P n (l ++ (digitByte (n % 10) ∷ [])))
@@ -79,3 +83,8 @@ decimal-length n = within-length 19 n
 pub decimal-short : (k n : ℕ) → n < 10 ^ suc k → length (decimal n) ≤ suc k
 unfolding decimal
 decimal-short k n h = within-short 19 k n h
+
+-- there is a digit
+pub decimal-some : (n : ℕ) → 0 < length (decimal n)
+unfolding decimal decimalWithin
+decimal-some n = lead-some (ltb n 10) _ (n % 10)

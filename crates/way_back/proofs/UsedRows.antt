@@ -26,7 +26,7 @@ filled-front n l old h k =
 -- row k of l is that of f k
 module _ {A : Type 0} {w : ℕ} {words : A → List ℕ} {table : List A → List ℕ} (r : RowTable w words table) (f : ℕ → A)
     (l : List ℕ) where
-  rows-taken : (n : ℕ) → ((k : ℕ) → k < n → words (f k) ≡ take w (drop (w * k) l))
+  pub rows-taken : (n : ℕ) → ((k : ℕ) → k < n → words (f k) ≡ take w (drop (w * k) l))
       → table (listOf n f) ≡ take (w * n) l
   unfolding listOf
   rows-taken zero h = let e : w * 0 ≡ 0 = omega arith in rw e (r .none-is)

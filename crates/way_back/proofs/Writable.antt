@@ -40,7 +40,7 @@ use Rattle.way_back.proofs.Formed.{rows-list-of, within-formed, clause-
 
 -- An atom
 
-module _ (t : Lent) (a : ℕ) (h : isWritableAtom t a ≡ true) where
+module _ (t : Lent) (a : ℕ) (h : isWritableAtom (t .names) (t .prices) a ≡ true) where
   abbrev price-test : Bool
   price-test = leb (getD (t .prices) a 0) 2000000
 
@@ -87,13 +87,13 @@ module _ (c : Case) (t : Lent) (h : writable c t ≡ true) where
   pub writable-sound : sound c (t .clauses) (t .constraints) (t .formula) ≡ true
   unfolding writable
   writable-sound =
-      and-true-l (sound c (t .clauses) (t .constraints) (t .formula)) (every (c .atoms) (isWritableAtom t)) h
+      and-true-l (sound c (t .clauses) (t .constraints) (t .formula)) (every (c .atoms) (isWritableAtom (t .names) (t .prices))) h
 
-  writable-atom : (a : ℕ) → a < c .atoms → isWritableAtom t a ≡ true
+  writable-atom : (a : ℕ) → a < c .atoms → isWritableAtom (t .names) (t .prices) a ≡ true
   unfolding writable
   writable-atom =
-      every-at (c .atoms) (isWritableAtom t)
-      (and-true-r (sound c (t .clauses) (t .constraints) (t .formula)) (every (c .atoms) (isWritableAtom t)) h)
+      every-at (c .atoms) (isWritableAtom (t .names) (t .prices))
+      (and-true-r (sound c (t .clauses) (t .constraints) (t .formula)) (every (c .atoms) (isWritableAtom (t .names) (t .prices))) h)
 
   abbrev pub names : List (List ℕ)
   names = listOf (c .atoms) (nameIn (t .names))

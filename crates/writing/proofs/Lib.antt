@@ -1,1 +1,25 @@
 -- Laws, in reading order.
+-- Names: the tests of a names table.
+-- WritableCases: the tests of a case that is to be written.
+-- Ways: things written one behind another.
+-- Bits: things written for each atom of a word.
+-- Literals: how a literal and a body are written.
+-- Parts: the tokens of a formula by the node that it begins with.
+-- Formulas: how a formula is written.
+-- LineTexts: how a line is written.
+-- Growing: lines written one entry of a table after another.
+-- Rows: lists of at most so many entries, of each of which something holds.
+-- LineSizes: how long a line is.
+-- CaseRoom: the text of a writable case has room.
+pub mod Names
+pub mod WritableCases
+pub mod Ways
+pub mod Bits
+pub mod Literals
+pub mod Parts
+pub mod Formulas
+pub mod LineTexts
+pub mod Growing
+pub mod Rows
+pub mod LineSizes
+pub mod CaseRoom

@@ -1,1 +1,5 @@
 // Writing a case back as a file.
+pub mod body;
+pub mod formula;
+pub mod line;
+pub mod writable;

@@ -1,0 +1,76 @@
+-- Atom lines, which name one atom each, are read as these names. Assumes nothing.
+use mathlib.Core.Path.{_≡_, sym, ap, subst, _∙_}
+use mathlib.Core.Bool.{true, false}
+use mathlib.Core.List.{List, [], _∷_, _++_, map, append-assoc}
+use Prim.Native.Nat.{ℕ, _+_, _≤_, _<_}
+use native.Mathlib.Omega.{arith}
+use lib.Dec.{ltb}
+use lib.ListN.{length, length-append, List·getD-append}
+use lib.Seq.{getD-append-seam}
+use borrow.Author.Tests.{ltb-true, ltb-false}
+use Rattle.words.proofs.Tests.{by-test}
+use Rattle.text.proofs.Places.{place-name}
+use Rattle.grammar.specs.Line.{Line, isLine, brings}
+use Rattle.names.specs.Names.{atomOf, withNames}
+use Rattle.names.proofs.Distinct.{Distinct}
+use Rattle.names.proofs.Adding.{with-name-new}
+use Rattle.store.specs.Saying.{Said, said, saidBy, isSecondCost}
+use Rattle.checks.specs.Naming.{IsName}
+use Rattle.checks.proofs.Naming.{name-lettered}
+use Rattle.way_back.proofs.Fits.{namedBy, RoomFor}
+use Rattle.way_back.proofs.FittingLines.{Reads, Step, segment, Written, Left, left-room, left-on}
+use Rattle.way_back.proofs.KnownNames.{room-rows}
+
+-- among names that differ, one is none of those in front of it
+front-new : (ns ws : List (List ℕ)) (w : List ℕ) → Distinct (ns ++ (w ∷ ws)) → length ns ≤ atomOf ns w
+unfolding Distinct
+front-new ns ws w d = by-test (ltb (atomOf ns w) (length ns)) (λ t. absurd (found (ltb-true _ _ t))) (ltb-false _ _)
+  where
+    found : atomOf ns w < length ns → ⊥
+    found l =
+        d (atomOf ns w) (length ns) l (omega (arith, length-append ns (w ∷ ws)))
+        (List·getD-append ns (w ∷ ws) [] (atomOf ns w) l ∙ place-name ns w l
+        ∙ sym (getD-append-seam ns w ws []))
+
+abbrev pub AtomWritten : List ℕ → Type 0
+AtomWritten w = Written Line.atom IsName w
+
+abbrev withAtoms : List (List ℕ) → Said
+withAtoms ns = said ns [] [] 0 0 [] []
+
+abbrev Ready : List (List ℕ) → List (List ℕ) → Type 0
+Ready done rest = Left AtomWritten 64 done rest × Distinct (done ++ rest)
+
+atom-is-line : (w : List ℕ) → IsName w → isLine (Line.atom w) ≡ true
+unfolding isLine
+atom-is-line w h = name-lettered w h
+
+one-more : (ns : List (List ℕ)) (w : List ℕ) → length ns ≤ atomOf ns w → namedBy (withAtoms ns) (Line.atom w)
+    ≡ withAtoms (ns ++ (w ∷ []))
+unfolding withNames
+one-more ns w h = ap withAtoms (with-name-new ns w h)
+
+atom-step : (done : List (List ℕ)) (w : List ℕ) (rest : List (List ℕ)) → Ready done (w ∷ rest)
+    → Step Line.atom withAtoms Ready done w rest
+unfolding saidBy isSecondCost
+atom-step done w rest (l, d) =
+    let e = one-more done w (front-new done rest w d) in
+    let m = left-room AtomWritten 64 done w rest l in
+    let few = length-append done (w ∷ []) in
+    let name = l .each .0 .0 in
+    record {
+      fits = record {
+        is-line = atom-is-line w name;
+        named = (name, tt);
+        short = l .each .0 .1;
+        not-deep = omega arith;
+        room = subst (λ st. RoomFor st false (brings (Line.atom w))) (sym e)
+            (room-rows (withAtoms (done ++ (w ∷ []))) 0 0 0 0 (omega arith) (omega arith) (omega arith) (omega arith));
+      };
+      says = e;
+      on = (left-on AtomWritten 64 done w rest l, subst Distinct (sym (append-assoc done (w ∷ []) rest)) d);
+    }
+
+pub atoms-read : (ns : List (List ℕ)) → Left AtomWritten 64 [] ns → Distinct ns
+    → Reads (said [] [] [] 0 0 [] []) (map Line.atom ns) (said ns [] [] 0 0 [] [])
+atoms-read ns l d = segment Line.atom withAtoms Ready atom-step ns (l, d)

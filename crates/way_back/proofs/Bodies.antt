@@ -1,0 +1,70 @@
+-- The bodies of clauses and constraints, and readings: literals on the atoms of two words. Assumes nothing.
+use mathlib.Core.Path.{_≡_, refl}
+use mathlib.Core.Bool.{true, false, _&&_, false≢true}
+use mathlib.Core.List.{List, [], _∷_}
+use Prim.Native.Nat.{ℕ, zero, suc, _+_, _<_}
+use native.Mathlib.Omega.{arith}
+use lib.Dec.{ltb, eqb}
+use lib.ListN.{length}
+use borrow.Author.Tests.{lt-ltb, not-true}
+use Rattle.program.specs.Sound.{bare, shaped}
+use Rattle.text.specs.Words.{beginsWithLetter}
+use Rattle.text.proofs.Each.{Each}
+use Rattle.formulas.specs.Sentence.{isSentence}
+use Rattle.grammar.specs.Line.{Literal, ofLiteral, areNamed, takes, bodyNames}
+use Rattle.names.specs.Names.{atomOf}
+use Rattle.store.specs.Saying.{plainAtoms, negatedAtoms}
+use Rattle.checks.proofs.Naming.{name-lettered}
+use Rattle.reader.proofs.WellFormed.{BitsBelow}
+use Rattle.writing.specs.Lines.{literalsFor}
+use Rattle.way_back.proofs.Masks.{plain-back, negated-back, literals-some, literals-none, literal-names}
+use Rattle.way_back.proofs.KnownNames.{NamedBy, Usable, usable}
+
+pub literal-sentence : (x : Literal) → Each (λ w. beginsWithLetter w ≡ true) (bodyNames (x ∷ []))
+    → isSentence (ofLiteral x) ≡ true
+unfolding isSentence
+literal-sentence (Literal.literal false w) h = h .0
+literal-sentence (Literal.literal true w) h = h .0
+
+module _ (ns : List (List ℕ)) where
+  pub body-named : (ls : List Literal) → Each (Usable ns) (bodyNames ls) → areNamed ls ≡ true
+  unfolding areNamed
+  body-named [] h = refl
+  body-named (Literal.literal b w ∷ ls) h =
+      rw (literal-sentence (Literal.literal b w) (name-lettered w (h .0 .0), tt), body-named ls (h .1))
+
+  module _ (name : ℕ → List ℕ) (h : NamedBy ns name) (p q : ℕ) (b : BitsBelow (length ns) p q) where
+    abbrev ls : List Literal
+    ls = literalsFor name p q
+
+    pub body-usable : Each (Usable ns) (bodyNames ls)
+    body-usable =
+        literal-names name (length ns) (Usable ns) (usable ns name h) p q (b .plain-lt) (b .negated-lt)
+
+    pub plain-again : plainAtoms ns ls ≡ p
+    plain-again =
+        plain-back (atomOf ns) name (length ns) (h .finds) p q (h .few) (b .plain-lt) (b .negated-lt)
+
+    pub negated-again : negatedAtoms ns ls ≡ q
+    negated-again =
+        negated-back (atomOf ns) name (length ns) (h .finds) p q (h .few) (b .plain-lt) (b .negated-lt)
+
+    some : bare p q ≡ false → ltb 0 (length ls) ≡ true
+    some e =
+        lt-ltb 0 (length ls)
+        (literals-some (atomOf ns) name (length ns) (h .finds) p q (h .few) (b .plain-lt) (b .negated-lt) e)
+
+    none : bare p q ≡ true → eqb (length ls) 0 ≡ true
+    none e = rw (literals-none name p q e)
+
+    -- as many as a clause or a constraint of kind k takes
+    pub clause-takes : (k : ℕ) → shaped k (bare p q) ≡ true → (ltb k 3 && takes k (length ls)) ≡ true
+    clause-takes zero e = none e
+    clause-takes (suc zero) e = none e
+    clause-takes (suc (suc zero)) e = some (not-true (bare p q) e)
+    clause-takes (suc (suc (suc k))) e = absurd (false≢true e)
+
+    pub constraint-takes : (k : ℕ) → k < 2 → bare p q ≡ false → takes (3 + k) (length ls) ≡ true
+    constraint-takes zero l e = some e
+    constraint-takes (suc zero) l e = some e
+    constraint-takes (suc (suc k)) l e = absurd (omega arith)

@@ -1,0 +1,111 @@
+-- Reading the text of a case that writing does not refuse gives what the case says. Assumes nothing.
+use mathlib.Core.Path.{_≡_, ap, _∙_}
+use mathlib.Core.Bool.{true}
+use mathlib.Core.List.{List, [], _∷_, map}
+use Prim.Native.Nat.{ℕ, _*_, _≤_}
+use native.Mathlib.Omega.{arith}
+use lib.Dec.{leb}
+use lib.ListN.{length, take}
+use lib.Seq.{getD-take}
+use borrow.Author.Tests.{leb-true, le-leb}
+use Rattle.words.proofs.Lists.{list-of-length}
+use Rattle.words.proofs.Tests.{and-true-l, and-true-r}
+use Rattle.program.specs.declared.case.Case.{Case}
+use Rattle.program.specs.Sound.{fewCauses}
+use Rattle.program.proofs.MakingSound.{few-causes-ext}
+use Rattle.program.proofs.Soundness.{sound-atoms, sound-clauses, sound-formulas, sound-causes}
+use Rattle.text.proofs.Each.{Each}
+use Rattle.text.proofs.Spelled.{text-lines}
+use Rattle.grammar.specs.Line.{Line}
+use Rattle.names.specs.Row.{nameIn}
+use Rattle.store.specs.Lent.{Lent}
+use Rattle.store.specs.Saying.{Said, nothingSaid}
+use Rattle.store.specs.Tables.{clauseWords}
+use Rattle.store.proofs.Rows.{clause-rows}
+use Rattle.reader.specs.Reading.{Outcome, ending, readLines, readFile}
+use Rattle.reader.proofs.EarlyRefusals.{fit-long}
+use Rattle.writing.specs.Lines.{linesOf, lineText}
+use Rattle.writing.specs.Used.{clauseIn, formulaIn, saidOf}
+use Rattle.spelling.proofs.Pages.{short-lines}
+use Rattle.writing.specs.Operation.{caseLines, caseText, writeRefusal}
+use Rattle.way_back.proofs.Costs.{costs-formed, costs-fresh}
+use Rattle.way_back.proofs.Writable.{writable-sound, name-is, name-atom, prices-few, said-formed}
+use Rattle.way_back.proofs.UsedRows.{rows-taken, clause-words}
+use Rattle.way_back.proofs.Unrefused.{Unrefused, unrefused}
+use Rattle.way_back.proofs.FittingLines.{Reads, lines-alone, lines-read}
+use Rattle.way_back.proofs.KnownNames.{NamedBy}
+use Rattle.way_back.proofs.WrittenLines.{Short, Writes, written-read}
+
+-- lines whose texts are short are short
+short-each : (xs : List Line) → Each (λ (l : List ℕ). length l ≤ 200) (map lineText xs) → Each Short xs
+short-each [] h = tt
+short-each (x ∷ xs) h = (h .0, short-each xs (h .1))
+
+-- the checks after the last line pass
+ending-case : (st : Said) → 1 ≤ length (st .queries)
+    → fewCauses (length (st .names)) (clauseWords (st .clauses)) (length (st .clauses)) ≡ true
+    → ending st ≡ Outcome.case st
+unfolding ending
+ending-case st h k = rw (le-leb 1 (length (st .queries)) h, k)
+
+module _ (c : Case) (t : Lent) (u : Unrefused c t) where
+  abbrev name : ℕ → List ℕ
+  name = nameIn (t .names)
+
+  abbrev st : Said
+  st = saidOf c t
+
+  atoms-are : length (st .names) ≡ c .atoms
+  atoms-are = list-of-length (c .atoms) name
+
+  named : NamedBy (st .names) name
+  named =
+      let e = atoms-are in
+      let m = sound-atoms c _ _ _ (writable-sound c t (u .can-write)) .1 in
+      record {
+        few = omega arith;
+        finds = λ a l. name-atom c t (u .can-write) a (omega arith);
+        are-names = λ a l. name-is c t (u .can-write) a (omega arith);
+      }
+
+  writes : Writes name st
+  writes = record {
+    formed = said-formed c t (u .can-write);
+    named = named;
+    costs-formed = rw atoms-are (costs-formed (t .prices) (c .atoms) (prices-few c t (u .can-write)));
+    costs-fresh = costs-fresh (t .prices) (c .atoms);
+  }
+
+  reads : Reads nothingSaid (linesOf name st) st
+  reads = written-read name st writes (short-each (linesOf name st) (short-lines (caseLines c t) (u .lines-short)))
+
+  -- ---- the end
+  query-some : 1 ≤ length (st .queries)
+  query-some =
+      let e = list-of-length (c .formulas) (formulaIn c (t .formula)) in
+      omega (arith, sound-formulas c _ _ _ (writable-sound c t (u .can-write)) .0)
+
+  words-are : clauseWords (st .clauses) ≡ take (3 * c .clauses) (t .clauses)
+  words-are =
+      let few = sound-clauses c _ _ _ (writable-sound c t (u .can-write)) in
+      let full = fit-long t (u .tables-fit) .clauses-long in
+      rows-taken clause-rows (clauseIn (t .clauses)) (t .clauses) (c .clauses)
+      (λ k l. clause-words (t .clauses) k (omega arith))
+
+  causes-few : fewCauses (length (st .names)) (clauseWords (st .clauses)) (length (st .clauses)) ≡ true
+  causes-few =
+      rw (atoms-are, words-are, list-of-length (c .clauses) (clauseIn (t .clauses)))
+      (few-causes-ext (take (3 * c .clauses) (t .clauses)) (t .clauses) (c .clauses)
+      (λ k l. getD-take (3 * c .clauses) (t .clauses) (3 * k) 0 (omega arith)) (c .atoms)
+      ∙ sound-causes c _ _ _ (writable-sound c t (u .can-write)))
+
+  file-read : readFile (caseText c t) ≡ Outcome.case st
+  unfolding readFile
+  file-read =
+      ap (λ ls. readLines ls nothingSaid 1)
+      (text-lines (caseLines c t) (lines-alone (linesOf name st) nothingSaid st reads))
+      ∙ lines-read (linesOf name st) nothingSaid st 1 reads ∙ ending-case st query-some causes-few
+
+pub text-read : (c : Case) (t : Lent) (n : ℕ) → writeRefusal c t n ≡ 0
+    → readFile (caseText c t) ≡ Outcome.case (saidOf c t)
+text-read c t n h = file-read c t (unrefused c t n h)

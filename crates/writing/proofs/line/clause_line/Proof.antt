@@ -1,0 +1,66 @@
+-- `line::clause_line` meets its contract: its word, the head, the literals, and its end. Assumes nothing.
+use borrow.Author.Needs.{needs}
+use mathlib.Core.List.{[], _∷_}
+use native.Mathlib.Omega.{arith}
+use Rattle.text.specs.Tokens.{Token}
+use Rattle.spelling.proofs.Pens.{spells-both}
+use Rattle.writing.proofs.LineTexts.{begin-room, part-room, close-room, line-written, first-room, second-room, clause-form}
+use Rattle.writing.proofs.line.clause_line.Statement.{statement}
+use Rattle.writing.proofs.line.clause_line.Tie as tie
+
+begin-clause-requires : tie.Need-begin-clause-requires
+begin-clause-requires c κs =
+    let s = c .before .before .before in
+    (s .pre .0, begin-room (clause-form _ _ _) (s .args .g) (s .pre .2))
+
+name-requires : tie.Need-name-requires
+name-requires c κs =
+    let b = c .before .before .before in
+    let s = b .before .before .before .before in (
+      omega arith,
+      first-room (Token.word _ ∷ []) _ _
+          (part-room (clause-form _ _ _) (s .args .g) (b .begin-clause .ensures) (s .pre .2)),
+    )
+
+body-requires : tie.Need-body-requires
+body-requires c κs =
+    let n = c .before .before .before in
+    let b = n .before .before .before .before in
+    let s = b .before .before .before .before in (
+      s .pre .1,
+      second-room (Token.word _ ∷ []) _ _
+          (part-room (clause-form _ _ _) (s .args .g) (b .begin-clause .ensures) (s .pre .2)) (n .name .ensures),
+    )
+
+close-requires : tie.Need-close-requires
+close-requires c κs =
+    let m = c .before .before .before in
+    let n = m .before .before .before .before in
+    let b = n .before .before .before .before in
+    let s = b .before .before .before .before in
+    close-room (clause-form _ _ _) (s .args .g) (b .begin-clause .ensures)
+    (spells-both (n .name .ensures) _ (m .body .ensures)) (s .pre .2)
+
+same-length : tie.Need-same-length
+same-length c = search needs
+
+returns : tie.Need-returns
+returns c =
+    let e = c .before .before in
+    let m = e .before .before .before .before in
+    let n = m .before .before .before .before in
+    let b = n .before .before .before .before in
+    let s = b .before .before .before .before in
+    line-written (clause-form _ _ _) (s .args .g) (b .begin-clause .ensures)
+    (spells-both (n .name .ensures) _ (m .body .ensures)) (e .close .ensures)
+
+pub clause-line-spec : {M : Type 1} → statement M
+clause-line-spec =
+    tie.close
+    (tie.spec
+    begin-clause-requires
+    name-requires
+    body-requires
+    close-requires
+    same-length
+    returns)
