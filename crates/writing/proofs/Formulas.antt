@@ -2,19 +2,26 @@
 -- Assumes nothing.
 use mathlib.Core.Path.{_≡_}
 use mathlib.Core.List.{List, [], _∷_, _++_}
-use Prim.Native.Nat.{ℕ, _+_, _≤_, _<_}
+use Prim.Native.Nat.{ℕ, _+_, _*_, _-_, _≤_, _<_}
 use native.Mathlib.Omega.{arith}
 use lib.ListN.{length, getD, drop}
+use borrow.Rule.Slice.PartMut.{midOf}
 use Rattle.logic.specs.Nodes.{Spelling, spelled, formulaOf}
 use Rattle.logic.proofs.Spelling.{Front}
+use Rattle.program.specs.Case.{partSize, nodesOf}
+use Rattle.program.proofs.Soundness.{nodes-lent}
+use Rattle.text.specs.Spelled.{textOf}
 use Rattle.text.specs.Tokens.{Token}
 use Rattle.formulas.specs.Sentence.{tokensOf}
+use Rattle.names.specs.Row.{nameIn}
 use Rattle.output.specs.Writing.{Room}
 use Rattle.spelling.specs.declared.Pen.{Pen}
+use Rattle.spelling.specs.declared.Page.{Page}
 use Rattle.spelling.specs.Pen.{inked, Spells}
+use Rattle.spelling.specs.Page.{Sets}
 use Rattle.spelling.proofs.Pens.{spells-both, room-before, room-behind}
 use Rattle.writing.specs.declared.formula.Step.{Step}
-use Rattle.writing.specs.Lines.{decoded}
+use Rattle.writing.specs.Lines.{decoded, queryLine, lineText}
 use Rattle.writing.specs.Steps.{FormulaRoom, FormulaWritten}
 use Rattle.writing.proofs.Parts.{opener, closer, tokens, formula-within, formula-front}
 use Rattle.writing.proofs.Parts.{FormParts, name-parts, not-parts, form-parts, some-parts}
@@ -146,3 +153,22 @@ module _ (name : ℕ → List ℕ) (ks : List ℕ) (one : spelled ks ≡ Spellin
   pub one-written : {out out₁ : List ℕ} {r : Step} → FormulaWritten name ks 0 out p r out₁
       → Spells (tokensOf (decoded name (formulaOf ks))) out p (r .pen) out₁
   one-written h = h .spells (formulaOf ks) [] one
+
+-- ---- the part of the formula table that is lent for formula q
+module _ (ns fo : List ℕ) (q : ℕ) where
+  abbrev lentNodes : List ℕ
+  lentNodes = midOf (partSize * q) (partSize * q + getD ns q 0 - partSize * q) fo
+
+  pub lent-one : spelled (nodesOf ns fo q) ≡ Spelling.formulas (formulaOf (nodesOf ns fo q) ∷ [])
+      → spelled lentNodes ≡ Spelling.formulas (formulaOf lentNodes ∷ [])
+  lent-one e = rw (nodes-lent ns fo q) e
+
+  module _ (na : List ℕ) where
+    pub lent-room : {at : ℕ} → Room (textOf (lineText (queryLine (nameIn na) (formulaOf (nodesOf ns fo q))) ∷ [])) at
+        → Room (textOf (lineText (queryLine (nameIn na) (formulaOf lentNodes)) ∷ [])) at
+    lent-room h = rw (nodes-lent ns fo q) h
+
+    pub lent-written : {out out₁ : List ℕ} {g r : Page}
+        → Sets (lineText (queryLine (nameIn na) (formulaOf lentNodes)) ∷ []) out g r out₁
+        → Sets (lineText (queryLine (nameIn na) (formulaOf (nodesOf ns fo q))) ∷ []) out g r out₁
+    lent-written h = rw (nodes-lent ns fo q) at h

@@ -11,6 +11,9 @@
 -- Rows: lists of at most so many entries, of each of which something holds.
 -- LineSizes: how long a line is.
 -- CaseRoom: the text of a writable case has room.
+-- Fitting: what a case that fits gives to the steps of writing it.
+-- CaseTexts: the lines of a case, kind by kind.
+-- Refusals: the refusals of writing, and the text where there is none.
 pub mod Names
 pub mod WritableCases
 pub mod Ways
@@ -23,3 +26,6 @@ pub mod Growing
 pub mod Rows
 pub mod LineSizes
 pub mod CaseRoom
+pub mod Fitting
+pub mod CaseTexts
+pub mod Refusals

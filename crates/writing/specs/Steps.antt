@@ -8,8 +8,7 @@
 --   FormulaRoom ..           a formula begins at a place of the nodes, and there is room for its text
 --   FormulaWritten ..        the formula that begins there was written; next is the place behind it
 --   KindsSound cl n          the first n clauses are of a kind there is; BarsSound so of constraints
---   FormulasSound ..         the first n formulas are sound
---   refusedWith n            the answer of a refusal
+--   QueriesSound ..          the nodes of each of the first n formulas, at most 128, are one formula
 --   EndsName na a r          r is the place behind the name in row a
 --   Fit c t                  the tables t fit, and the case c with them is writable
 --   firstPage                the page at the output's first byte
@@ -26,9 +25,8 @@ use Rattle.logic.specs.Formula.{Formula}
 use Rattle.logic.specs.Nodes as nodes
 use Rattle.logic.specs.Nodes.{Spelling}
 use Rattle.program.specs.declared.case.Case.{Case}
-use Rattle.program.specs.Case.{kindAt, constraintKind, nodesOf}
+use Rattle.program.specs.Case.{partSize, kindAt, constraintKind, nodesOf}
 use Rattle.program.specs.Cause.{atomsIn}
-use Rattle.program.specs.Sound.{soundFormulas}
 use Rattle.text.specs.Tokens.{Token}
 use Rattle.text.specs.Spelled.{spelled}
 use Rattle.formulas.specs.Sentence.{tokensOf}
@@ -36,7 +34,6 @@ use Rattle.grammar.specs.Line.{Line, Literal, ofLiteral}
 use Rattle.names.specs.Row.{nameIn}
 use Rattle.store.specs.Lent.{Lent}
 use Rattle.reader.specs.Operation.{tablesFit}
-use Rattle.output.specs.declared.Answer.{Answer}
 use Rattle.output.specs.Writing.{Room}
 use Rattle.spelling.specs.declared.Pen.{Pen}
 use Rattle.spelling.specs.declared.Page.{Page}
@@ -105,9 +102,9 @@ abbrev pub BarsSound : List ℕ → ℕ → Type 0
 BarsSound co n = (k : ℕ) → k < n → constraintKind co k < 2
 
 -- ns has the node count of each formula
-pub record FormulasSound (ns fo : List ℕ) (n : ℕ) : Type 0 where
-  pub atoms : ℕ
-  pub are-sound : soundFormulas atoms ns fo n ≡ true
+abbrev pub QueriesSound : List ℕ → List ℕ → ℕ → Type 0
+QueriesSound ns fo n = (q : ℕ) → q < n → (getD ns q 0 ≤ partSize)
+    × (nodes.spelled (nodesOf ns fo q) ≡ Spelling.formulas (nodes.formulaOf (nodesOf ns fo q) ∷ []))
 
 abbrev pub EndsName : List ℕ → ℕ → ℕ → Type 0
 EndsName na a r = (16 * a ≤ r) × (r ≤ 16 * a + 16) × (slice (16 * a) r na ≡ nameIn na a)
@@ -118,6 +115,3 @@ pub record Fit (c : Case) (t : Lent) : Type 0 where
 
 abbrev pub firstPage : Page
 firstPage = record { at = 0; long = false }
-
-abbrev pub refusedWith : ℕ → Answer
-refusedWith n = record { refusal = n; length = 0 }

@@ -2,4 +2,6 @@
 pub mod body;
 pub mod formula;
 pub mod line;
+pub mod lines;
+pub mod operation;
 pub mod writable;

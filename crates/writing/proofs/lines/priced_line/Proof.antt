@@ -1,0 +1,42 @@
+-- `lines::priced_line` meets its contract: a line where the price is above 0. Assumes nothing.
+use borrow.Author.Needs.{needs}
+use native.Mathlib.Omega.{arith}
+use Rattle.writing.proofs.CaseTexts.{price-none, price-room, price-written}
+use Rattle.writing.proofs.lines.priced_line.Statement.{statement}
+use Rattle.writing.proofs.lines.priced_line.Tie as tie
+
+mul-price : tie.Need-mul-price
+mul-price c = search needs
+
+shared-slice-read-price : tie.Need-shared-slice-read-price
+shared-slice-read-price c = search needs
+
+returns : tie.Need-returns
+returns c =
+    let s = c .before .before .before .before .before in
+    price-none (s .args .names .now) (s .args .prices .now) (s .args .atom) (omega arith)
+
+cost-line-requires : tie.Need-cost-line-requires
+cost-line-requires c κs =
+    let s = c .before .before .before .before .before .before in
+    (s .pre .0, price-room (s .args .names .now) (s .args .prices .now) (s .args .atom) (omega arith) (s .pre .2))
+
+same-length : tie.Need-same-length
+same-length c = search needs
+
+returns-2 : tie.Need-returns-2
+returns-2 c =
+    let m = c .before .before in
+    let s = m .before .before .before .before .before .before .before in
+    price-written (s .args .names .now) (s .args .prices .now) (s .args .atom) (omega arith) (m .cost-line .ensures)
+
+pub priced-line-spec : {M : Type 1} → statement M
+priced-line-spec =
+    tie.close
+    (tie.spec
+    mul-price
+    shared-slice-read-price
+    returns
+    cost-line-requires
+    same-length
+    returns-2)
