@@ -13,7 +13,7 @@ pub const QUESTION: usize = 49_152;
 pub const LAYERS: usize = 32_768;
 
 /// For writing a case back.
-pub const WRITE: usize = 131_072;
+pub const WRITE: usize = 32_768;
 
 /// For the report.
 pub const REPORT: usize = 131_072;
