@@ -13,7 +13,7 @@ pub fn mend(refusal: Refusal) -> &'static str {
         }
         Refusal::BadByte { .. } => "Write names in small letters, digits and `-`, and a comment on its own line.",
         Refusal::NotAForm { .. } => {
-            "Write one whole form on the line: true, false, if, never, avoid, seen, query, or cost with two numbers."
+            "Write one whole form on the line: atom, true, false, if, never, avoid, seen, query, or cost with two numbers."
         }
         Refusal::LongName { .. } => "Shorten the name, on every line that has it.",
         Refusal::DeepFormula { .. } => "Name a part of the query by a rule, and ask for that name.",
@@ -23,7 +23,7 @@ pub fn mend(refusal: Refusal) -> &'static str {
         Refusal::NoQuery => "Add a line such as `(query damper-shut)`.",
         Refusal::ManyCauses => "Give some of the causes a line `(false N)` or `(true N)`, abnormality atoms first.",
         Refusal::HighPrice { .. } => {
-            "Write the price in cents, 1000000 at most, and the supplement in per cent, 100 at most."
+            "Write the price in cents, 2000000 at most with its supplement, and the supplement in per cent, 100 at most."
         }
         Refusal::SecondCost { .. } => "Leave one cost line for each name.",
         _ => "See the manual's section on refusals.",

@@ -1,8 +1,8 @@
 /* The cause finder's operations: read a case file, settle one setting, answer the question, number the atoms by layers
- * or find a ring of rules, write the report.
+ * or find a ring of rules, write a case back as a file, write the report.
  *
  * From: document 01, "Case tables and sound cases" and "What each operation refuses"; document 02, [1], [3],
- * [5], [6] and [7]. Link libembed.a (x86-64).
+ * [5], [6], [7] and [8]. Link libembed.a (x86-64).
  *
  * Lent memory is a pointer and a number of elements. The pointer is aligned for its type and reaches that many
  * elements; memory that a call writes overlaps no other memory lent to the same call. A pointer to no elements isn't
@@ -25,7 +25,7 @@ extern "C" {
 #endif
 
 /* The version of this header and of the Rust module beside it. */
-#define CAUSES_VERSION "0.5.0"
+#define CAUSES_VERSION "0.6.0"
 
 /* Sizes of the lent tables, in elements. A longer table is lawful; what is past its size keeps its contents. */
 enum {
@@ -47,7 +47,7 @@ enum { CAUSES_NOT = 64, CAUSES_AND = 65, CAUSES_OR = 66, CAUSES_THEN = 67, CAUSE
 /* Bounds: sizes that are enough for every file and every case. */
 enum {
     CAUSES_QUERIES = 16,         /* the most queries of a file, and formulas of a case */
-    CAUSES_FILE_BYTES = 32768,   /* the longest file that is read */
+    CAUSES_FILE_BYTES = 32768,   /* the longest file that is read, and the longest text of a case */
     CAUSES_SETTINGS = 59049,     /* 3^10, the most settings: bytes of a work area */
     CAUSES_MINIMAL = 15360,      /* the most minimal explanations: slots of a list */
     CAUSES_REPORT_BYTES = 264640 /* the longest report */
@@ -59,6 +59,7 @@ enum {
     CAUSES_SETTLE_STACK = 32768,
     CAUSES_QUESTION_STACK = 49152,
     CAUSES_LAYERS_STACK = 32768,
+    CAUSES_WRITE_STACK = 32768,
     CAUSES_REPORT_STACK = 131072
 };
 
@@ -74,6 +75,7 @@ enum {
     CAUSES_QUESTION_WORDS = 22, /* 16 verdicts, 0 past the formulas; minimal explanations, how many listed, rounds,
                                  * decided total, lowest cost, cheapest setting */
     CAUSES_LAYERS_WORDS = 66,   /* 1 layered or 0 not, number of entries, 64 entries, 0 past the last */
+    CAUSES_WRITE_WORDS = 1,     /* length of the text */
     CAUSES_REPORT_WORDS = 1     /* length of the text */
 };
 
@@ -94,12 +96,13 @@ enum {
     CAUSES_MANY_QUERIES = 10, /* a 17th query */
     CAUSES_NO_QUERY = 11,
     CAUSES_MANY_CAUSES = 12,  /* more than 10 */
-    CAUSES_UNSOUND = 13,      /* the record and the tables are no sound case */
+    CAUSES_UNSOUND = 13,      /* the record and the tables are no sound case, or for writing none that a file can say */
     CAUSES_NO_SETTING = 14,   /* the setting is 3^k or more, for k causes */
     CAUSES_SHORT_WORK = 15,   /* the work area has fewer than 3^k bytes */
     CAUSES_HIGH_PRICE = 16,   /* a price, or one worked out, over 2,000,000, or a supplement over 100 */
     CAUSES_SECOND_COST = 17,  /* a second cost line of a name */
-    CAUSES_SHORT_OUTPUT = 19  /* the output is shorter than the report */
+    CAUSES_LONG_TEXT = 18,    /* a written line would be over 200 bytes without LF, or the text over 32,768 */
+    CAUSES_SHORT_OUTPUT = 19  /* the output is shorter than the text */
 };
 
 /* Reads a case file into the five tables. Refuses with 1 to 12, 16 and 17. 1 and 2 leave the tables as they were, the
@@ -150,6 +153,21 @@ uint32_t causes_layers(const uint64_t *record, size_t record_words,
                        const uint8_t *formula, size_t formula_bytes,
                        uint64_t *answer, size_t answer_words);
 
+/* Writes a case back as a file: reading the text gives the same record and tables in their used entries. It has a line
+ * `(atom N)` for each atom, then those of clauses, constraints, observations, queries and of the prices above 0, these
+ * with supplement 0. Bytes behind the text keep their contents. Refuses with 1, 13, 18, 19, in this order, and then
+ * doesn't touch the output; 13 here also for an atom whose entry of the names is no name, or one that an atom before it
+ * has, or whose price is over 2,000,000, and 18 for a line that would be over 200 bytes without its LF, or a text over
+ * CAUSES_FILE_BYTES. answer: CAUSES_WRITE_WORDS. */
+uint32_t causes_write(const uint64_t *record, size_t record_words,
+                      const uint64_t *clauses, size_t clause_words,
+                      const uint64_t *constraints, size_t constraint_words,
+                      const uint8_t *formula, size_t formula_bytes,
+                      const uint8_t *names, size_t names_bytes,
+                      const uint32_t *prices, size_t price_entries,
+                      uint8_t *out, size_t out_bytes,
+                      uint64_t *answer, size_t answer_words);
+
 /* Writes the report of a case file, as the program `causes` does: the answer to its question, or
  * `(refused number line)`. Bytes behind the text keep their contents. Refuses with 19 an output shorter than the text
  * and then doesn't touch it. answer: CAUSES_REPORT_WORDS. */
@@ -185,7 +203,8 @@ static inline const char *causes_refusal_text(uint32_t number)
     case CAUSES_SHORT_WORK: return "the work area is shorter than one byte for each setting";
     case CAUSES_HIGH_PRICE: return "the price, or the one worked out, is over 2,000,000, or the supplement over 100";
     case CAUSES_SECOND_COST: return "the line is a second cost line for its name";
-    case CAUSES_SHORT_OUTPUT: return "the lent output is too short for the report";
+    case CAUSES_LONG_TEXT: return "a line of the text would be over 200 bytes, or the text over 32,768";
+    case CAUSES_SHORT_OUTPUT: return "the lent output is too short for the text";
     default: return NULL;
     }
 }

@@ -106,6 +106,19 @@ static inline uint32_t causes_case_layers(const struct causes_case *c, struct ca
     return refusal;
 }
 
+/* Writes a case back as a file to an output, for which CAUSES_FILE_BYTES bytes are always enough, and puts the length of
+ * the text to *length. Refuses with 13, 18 and 19, and then puts 0. */
+static inline uint32_t causes_case_write(const struct causes_case *c, uint8_t *out, size_t out_bytes, uint64_t *length)
+{
+    uint64_t words[CAUSES_WRITE_WORDS];
+    uint32_t refusal = causes_write(c->record, CAUSES_RECORD_WORDS, c->clauses, CAUSES_CLAUSE_WORDS,
+                                    c->constraints, CAUSES_CONSTRAINT_WORDS, c->formula, CAUSES_FORMULA_BYTES,
+                                    c->names, CAUSES_NAMES_BYTES, c->prices, CAUSES_PRICES, out, out_bytes,
+                                    words, CAUSES_WRITE_WORDS);
+    *length = words[0];
+    return refusal;
+}
+
 /* Copies the name of an atom to a text that ends in a zero byte; an empty one for a row that the table lacks. */
 static inline void causes_case_name(const struct causes_case *c, size_t atom, char name[CAUSES_NAME_BYTES + 1])
 {

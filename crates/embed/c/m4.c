@@ -1,6 +1,6 @@
 /* Answers M4 of document 01 with prices: reads the case, asks its question, prints list, rounds, decided atoms, the
- * cheapest setting and the verdict, then the report. The exit status is 1 where an answer is not that of documents 01
- * and 02. */
+ * cheapest setting and the verdict, then the case written back, then the report. The exit status is 1 where an answer is
+ * not that of documents 01 and 02. */
 #include "causes_case.h"
 
 #include <stdio.h>
@@ -15,6 +15,21 @@ static const char file[] =
     "(cost shut 9000 50)\n"
     "(cost stopped 4000 0)\n";
 
+static const char text[] =
+    "(atom low)\n"
+    "(atom shut)\n"
+    "(atom ab1)\n"
+    "(atom stopped)\n"
+    "(atom ab2)\n"
+    "(if low shut(not ab1))\n"
+    "(if low stopped(not ab2))\n"
+    "(false ab1)\n"
+    "(false ab2)\n"
+    "(seen low)\n"
+    "(query shut)\n"
+    "(cost shut 13500 0)\n"
+    "(cost stopped 4000 0)\n";
+
 static const char report[] =
     "(verdict open)\n"
     "(rounds 15)\n"
@@ -25,22 +40,26 @@ static const char report[] =
     "(cheapest 4000)\n";
 
 static const char *const verdicts[] = {"unexplained", "follows", "denied", "open"};
+static struct causes_case m4;
 
-/* Reads the file and asks its question; whether the answer is list 1, 3; rounds 15; decided 36; setting 3 for 4000
- * cents; open. */
+/* Reads the file; whether it is accepted. */
+static int case_read(void)
+{
+    uint64_t line;
+    uint32_t refusal = causes_case_read(&m4, (const uint8_t *)file, strlen(file), &line);
+    if (refusal != 0)
+        printf("line %lu: %s\n", (unsigned long)line, causes_refusal_text(refusal));
+    return refusal == 0;
+}
+
+/* Asks the question; whether the answer is list 1, 3; rounds 15; decided 36; setting 3 for 4000 cents; open. */
 static int question_answered(void)
 {
-    static struct causes_case m4;
     static uint8_t work[CAUSES_SETTINGS];
     struct causes_answer answer;
     uint16_t list[4];
-    uint64_t line, i;
-    uint32_t refusal = causes_case_read(&m4, (const uint8_t *)file, strlen(file), &line);
-    if (refusal != 0) {
-        printf("line %lu: %s\n", (unsigned long)line, causes_refusal_text(refusal));
-        return 0;
-    }
-    refusal = causes_case_question(&m4, list, 4, work, sizeof work, &answer);
+    uint64_t i;
+    uint32_t refusal = causes_case_question(&m4, list, 4, work, sizeof work, &answer);
     if (refusal != 0) {
         printf("%s\n", causes_refusal_text(refusal));
         return 0;
@@ -54,6 +73,20 @@ static int question_answered(void)
     return answer.queries == 1 && answer.verdicts[0] == CAUSES_OPEN && answer.minimal == 2 && answer.listed == 2
         && answer.rounds == 15 && answer.decided == 36 && answer.cost == 4000 && answer.cheapest == 3
         && list[0] == 1 && list[1] == 3;
+}
+
+/* Prints the case written back; whether it is the text of document 02. */
+static int case_written(void)
+{
+    static uint8_t out[CAUSES_FILE_BYTES];
+    uint64_t length;
+    uint32_t refusal = causes_case_write(&m4, out, sizeof out, &length);
+    if (refusal != 0) {
+        printf("%s\n", causes_refusal_text(refusal));
+        return 0;
+    }
+    fwrite(out, 1, (size_t)length, stdout);
+    return length == strlen(text) && memcmp(out, text, strlen(text)) == 0;
 }
 
 /* Prints the file's report; whether it is that of documents 01 and 02. */
@@ -72,7 +105,5 @@ static int report_written(void)
 
 int main(void)
 {
-    int answered = question_answered();
-    int written = report_written();
-    return answered && written ? 0 : 1;
+    return case_read() && question_answered() && case_written() && report_written() ? 0 : 1;
 }

@@ -7,6 +7,7 @@ use lib.ListN.{length}
 use Rattle.words.specs.Bits.{digit}
 use Rattle.words.specs.Lists.{over}
 use Rattle.program.specs.declared.case.Case.{Case}
+use Rattle.store.specs.Lent.{Lent}
 use Rattle.reader.specs.declared.read.Answer as found
 use Rattle.settle.specs.declared.operation.Answer as settled
 use Rattle.settle.specs.Operation.{SettledOne}
@@ -14,8 +15,10 @@ use Rattle.question.specs.declared.operation.Answer as asked
 use Rattle.question.specs.Operation.{Asked}
 use Rattle.layering.specs.declared.operation.Answer as layered
 use Rattle.layering.specs.Operation.{Layering}
+use Rattle.output.specs.declared.Answer as shown
+use Rattle.writing.specs.Operation.{WrittenAs}
 use Rattle.embed.specs.Words.{caseWords, caseIn, settledWords, askedWords}
-use Rattle.embed.specs.Operation.{SettleOut, QuestionOut, LayersOut}
+use Rattle.embed.specs.Operation.{SettleOut, QuestionOut, LayersOut, WriteOut}
 use Rattle.embed.proofs.Putting.{over-behind}
 
 -- the words of an answer of reading in front of the node counts
@@ -43,19 +46,24 @@ pub layers-put : (a : layered.Answer) (old : List ℕ) {mid back : List ℕ}
 layers-put a old = over-behind (digit (a .layered) ∷ a .count ∷ []) (a .entries) old refl
 
 -- k is the case record in the words c
-module _ {c cl co fo : List ℕ} {k : Case} (e : k ≡ caseIn c) (l : 22 ≤ length c) {words wordsAfter : List ℕ} where
-  pub settle-done : {s : ℕ} {a : settled.Answer} → 4 ≤ length words → SettledOne k cl co fo s a
+module _ {c : List ℕ} {k : Case} (e : k ≡ caseIn c) (l : 22 ≤ length c) {words wordsAfter : List ℕ} where
+  pub settle-done : {cl co fo : List ℕ} {s : ℕ} {a : settled.Answer} → 4 ≤ length words → SettledOne k cl co fo s a
       → wordsAfter ≡ over (settledWords a) words
       → SettleOut c cl co fo s words (a .refusal) wordsAfter
   settle-done m h o = SettleOut.done l m _ (rw e at h) refl o
 
-  pub question-done : {pr list work listAfter workAfter : List ℕ} {a : asked.Answer} → 22 ≤ length words
+  pub question-done : {cl co fo pr list work listAfter workAfter : List ℕ} {a : asked.Answer} → 22 ≤ length words
       → Asked k cl co fo pr list work a listAfter workAfter
       → wordsAfter ≡ over (askedWords a) words
       → QuestionOut c cl co fo pr list work words (a .refusal) listAfter workAfter wordsAfter
   question-done m h o = QuestionOut.done l m _ (rw e at h) refl o
 
-  pub layers-done : {a : layered.Answer} → 66 ≤ length words → Layering k cl co fo a
+  pub layers-done : {cl co fo : List ℕ} {a : layered.Answer} → 66 ≤ length words → Layering k cl co fo a
       → wordsAfter ≡ over (digit (a .layered) ∷ a .count ∷ a .entries) words
       → LayersOut c cl co fo words (a .refusal) wordsAfter
   layers-done m h o = LayersOut.done l m _ (rw e at h) refl o
+
+  pub write-done : {t : Lent} {out outAfter : List ℕ} {a : shown.Answer} → 1 ≤ length words
+      → WrittenAs k t out a outAfter → wordsAfter ≡ over (a .length ∷ []) words
+      → WriteOut c t out words (a .refusal) outAfter wordsAfter
+  write-done m h o = WriteOut.done l m _ (rw e at h) refl o

@@ -1,6 +1,6 @@
 -- What the exported functions answer and leave in lent memory, on every input.
 -- From: document 01, "What each operation refuses" ("a new table is held to 1 wherever it is lent"); document 02, [6]
--- (the decided atoms), [7] (prices, the lowest cost and its setting).
+-- (the decided atoms), [7] (prices, the lowest cost and its setting), [8] (writing a case back).
 --
 -- Each answers the number of the refusal, 0 for none, and writes the rest of its answer to lent words. Where those
 -- words, or those of a lent case record, are too few, the answer is 1 and nothing is touched. Otherwise a is what the
@@ -11,6 +11,7 @@
 --   QuestionOut   16 verdict numbers, m, w, rounds, decided atoms, the lowest cost and its setting, 22 words, and the
 --                 list and the work area
 --   LayersOut     whether the case is layered, the number of entries and the 64 entries, 66 words
+--   WriteOut      the length of the text, one word, and the output
 --   ReportOut     the length of the text, one word, and the output
 use mathlib.Core.Path.{_≡_}
 use mathlib.Core.List.{List, [], _∷_}
@@ -27,7 +28,8 @@ use Rattle.question.specs.declared.operation.Answer as asked
 use Rattle.question.specs.Operation.{Asked}
 use Rattle.layering.specs.declared.operation.Answer as layered
 use Rattle.layering.specs.Operation.{Layering}
-use Rattle.output.specs.declared.Answer as reported
+use Rattle.output.specs.declared.Answer as shown
+use Rattle.writing.specs.Operation.{WrittenAs}
 use Rattle.report.specs.Operation.{Reported}
 use Rattle.embed.specs.Words.{caseWords, caseIn, settledWords, askedWords}
 
@@ -63,8 +65,16 @@ pub data LayersOut (c cl co fo words : List ℕ) (r : ℕ) (wordsAfter : List �
   done : 22 ≤ length c → 66 ≤ length words → (a : layered.Answer) → Layering (caseIn c) cl co fo a → r ≡ a .refusal
       → wordsAfter ≡ over (digit (a .layered) ∷ a .count ∷ a .entries) words → LayersOut c cl co fo words r wordsAfter
 
+-- the case record's words, the tables t, and at entry and at exit the output and the answer's words
+pub data WriteOut (c : List ℕ) (t : Lent) (out words : List ℕ) (r : ℕ) (outAfter wordsAfter : List ℕ) : Type 0 where
+  short-record : length c < 22 → r ≡ 1 → outAfter ≡ out → wordsAfter ≡ words
+      → WriteOut c t out words r outAfter wordsAfter
+  short : length words < 1 → r ≡ 1 → outAfter ≡ out → wordsAfter ≡ words → WriteOut c t out words r outAfter wordsAfter
+  done : 22 ≤ length c → 1 ≤ length words → (a : shown.Answer) → WrittenAs (caseIn c) t out a outAfter
+      → r ≡ a .refusal → wordsAfter ≡ over (a .length ∷ []) words → WriteOut c t out words r outAfter wordsAfter
+
 -- the file f, and at entry and at exit the output and the answer's words
 pub data ReportOut (f out words : List ℕ) (r : ℕ) (outAfter wordsAfter : List ℕ) : Type 0 where
   short : length words < 1 → r ≡ 1 → outAfter ≡ out → wordsAfter ≡ words → ReportOut f out words r outAfter wordsAfter
-  done : 1 ≤ length words → (a : reported.Answer) → Reported f out a outAfter → r ≡ a .refusal
+  done : 1 ≤ length words → (a : shown.Answer) → Reported f out a outAfter → r ≡ a .refusal
       → wordsAfter ≡ over (a .length ∷ []) words → ReportOut f out words r outAfter wordsAfter

@@ -2,15 +2,19 @@
 // and writes the rest of its answer to lent words. A lent record or answer with too few words is refused with 1, and
 // nothing is touched.
 ghost use mathlib.Core.Path.{_≡_};
-ghost use mathlib.Core.List.{_∷_};
+ghost use mathlib.Core.List.{[], _∷_};
 ghost use Prim.Native.Nat.{_≤_};
 ghost use lib.ListN.{length};
 ghost use Rattle.words.specs.Bits.{digit};
 ghost use Rattle.words.specs.Lists.{over};
 ghost use Rattle.store.specs.Lent.{lent};
 ghost use Rattle.embed.specs.Words.{caseWords, caseIn, settledWords, askedWords};
-ghost use Rattle.embed.specs.Operation.{ReadOut, SettleOut, QuestionOut, LayersOut, ReportOut};
+ghost use Rattle.embed.specs.Operation.{ReadOut, SettleOut, QuestionOut, LayersOut};
+ghost use Rattle.embed.specs.Operation.{WriteOut, ReportOut};
 use program::case::Case;
+
+// The words of an answer that is the length of a text.
+const LENGTH_WORDS: usize = 1;
 
 // The counts in 16 words.
 fn counts_in(words: &[u64]) -> [usize; 16]
@@ -126,6 +130,15 @@ fn put_layers(answer: &mut [u64], a: layering::operation::Answer)
     put_words(&mut answer[2..], &entries);
 }
 
+// Puts what writing a text answers to words: its length.
+fn put_length(answer: &mut [u64], a: output::Answer)
+    requires { ⌜ 1 ≤ length (now answer) ⌝ }
+    ensures { λ _. ⌜ now (answer .exit) ≡ over (a .length ∷ []) (now (answer .entry)) ⌝ }
+{
+    let words = [a.length as u64];
+    put_words(answer, &words);
+}
+
 // Reads a case file into five lent tables. Answer: the line of a refusal, then the 22 words of the case record.
 #[no_mangle]
 pub extern "C" fn causes_read(
@@ -235,17 +248,45 @@ pub extern "C" fn causes_layers(
     a.refusal
 }
 
+// Writes a case back as a file to a lent output. Answer: the length of the text.
+#[no_mangle]
+pub extern "C" fn causes_write(
+    fields: &[u64],
+    clauses: &[u64],
+    constraints: &[u64],
+    formula: &[u8],
+    names: &[u8],
+    prices: &[u32],
+    out: &mut [u8],
+    answer: &mut [u64],
+) -> u32
+    ensures { λ r. ⌜ WriteOut (now (fields .entry))
+        (lent (now (clauses .entry)) (now (constraints .entry)) (now (formula .entry)) (now (names .entry))
+        (now (prices .entry)))
+        (now (out .entry)) (now (answer .entry)) r (now (out .exit)) (now (answer .exit)) ⌝ }
+{
+    if fields.len() < 22 {
+        return 1;
+    }
+    if answer.len() < LENGTH_WORDS {
+        return 1;
+    }
+    let c = case_in(fields);
+    let a = writing::operation::write(c, clauses, constraints, formula, names, prices, out);
+    put_length(answer, a);
+    a.refusal
+}
+
 // Writes the report of a file's bytes to a lent output. Answer: the length of the text.
 #[no_mangle]
 pub extern "C" fn causes_report(file: &[u8], out: &mut [u8], answer: &mut [u64]) -> u32
     ensures { λ r. ⌜ ReportOut (now (file .entry)) (now (out .entry)) (now (answer .entry)) r (now (out .exit))
         (now (answer .exit)) ⌝ }
 {
-    if answer.len() < 1 {
+    if answer.len() < LENGTH_WORDS {
         return 1;
     }
     let a = report::operation::report(file, out);
-    let words = [a.length as u64];
-    put_words(answer, &words);
+    put_length(answer, a);
     a.refusal
 }

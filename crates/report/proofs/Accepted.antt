@@ -37,6 +37,7 @@ use Rattle.store.specs.Prices.{pricesOf}
 use Rattle.store.specs.Saying.{Said}
 use Rattle.store.specs.Tables.{clauseWords, constraintWords, formulaParts, wordsOf, caseSaid}
 use Rattle.store.specs.Held.{Long}
+use Rattle.checks.proofs.Naming.{name-bytes, name-short}
 use Rattle.reader.specs.Reading.{Outcome, readFile}
 use Rattle.reader.specs.Operation.{tablesFit}
 use Rattle.reader.specs.Contents.{fileContent}
@@ -120,7 +121,7 @@ module _ (f : List ℕ) (st : Said) (e : readFile f ≡ Outcome.case st) where
   pub said-named : (a : ℕ) → Named (nameOf st a)
   said-named = every-named (st .names) (λ a h.
       let n = accepted-names f st e .are-names a h in
-      record { short = n .short; no-zero = no-zero (nameOf st a) (n .word-bytes) })
+      record { short = name-short (nameOf st a) n; no-zero = no-zero (nameOf st a) (name-bytes (nameOf st a) n) })
 
   pub said-table : (a : ℕ) → a < 64 → nameIn (padded nameSize (rowsOf (st .names))) a ≡ nameOf st a
   said-table = table-name (st .names) (λ a h. said-named a)

@@ -7,10 +7,11 @@ use mathlib.Core.Logic.{⊎-elim}
 use Prim.Native.Nat.{ℕ, _*_, _≤_, _<_}
 use native.Mathlib.Omega.{arith}
 use lib.ListN.{length, take}
+use borrow.Author.Tests.{le-leb}
 use Rattle.words.proofs.Tests.{lt-or-le}
 use Rattle.table.specs.Filled.{padded}
 use Rattle.table.proofs.Filled.{filled-exact, padded-length}
-use Rattle.program.specs.Case.{clauseSize, constraintSize, formulaSize, nameSize, priceSize, tablesFull}
+use Rattle.program.specs.Case.{clauseSize, constraintSize, formulaSize, nameSize, priceSize}
 use Rattle.program.specs.Program.{headsOf}
 use Rattle.program.specs.Cause.{causesAmong}
 use Rattle.program.specs.Sound.{sound}
@@ -27,8 +28,8 @@ use Rattle.store.specs.Prices.{pricesOf}
 use Rattle.store.specs.Saying.{Said}
 use Rattle.store.specs.Tables.{clauseWords, constraintWords, formulaParts, caseSaid}
 use Rattle.reader.specs.Reading.{Outcome, refusalOf, lineOfRefusal, readFile}
-use Rattle.reader.specs.Operation.{earlyRefusal, ReadAs}
-use Rattle.reader.proofs.EarlyRefusals.{early-none, early-file-long}
+use Rattle.reader.specs.Operation.{tablesFit, earlyRefusal, ReadAs}
+use Rattle.reader.proofs.EarlyRefusals.{prices-decide, early-none, early-file-long}
 use Rattle.reader.proofs.RefusalNumbers.{Numbered, file-numbered}
 use Rattle.output.specs.declared.Answer as output
 use Rattle.output.specs.Writing.{Room}
@@ -52,19 +53,22 @@ pub record Accepted (f : List ℕ) (u : Lent) (r : Answer) : Type 0 where
   pub names-are : u .names ≡ padded nameSize (rowsOf (said .names))
   pub prices-are : u .prices ≡ priceTable said
 
+-- tables of exactly their sizes fit
+pub full-fit : (t : Lent) → FullTables t → tablesFit t ≡ true
+full-fit t x =
+    let full =
+    tables-full (t .clauses) (t .constraints) (t .formula) (omega (arith, x .clauses-full))
+    (omega (arith, x .constraints-full)) (omega (arith, x .formula-full)) in
+    sym (prices-decide t (sym full) refl (omega (arith, x .names-full)))
+    ∙ le-leb priceSize (length (t .prices)) (omega (arith, x .prices-full))
+
 -- the file f was read into the tables t of their sizes, which became u, with the answer r
 module _ {f : List ℕ} {t u : Lent} {r : Answer} (x : FullTables t) (h : ReadAs f t u r) where
-  is-full : true ≡ tablesFull (t .clauses) (t .constraints) (t .formula)
-  is-full =
-      sym (tables-full (t .clauses) (t .constraints) (t .formula) (omega (arith, x .clauses-full))
-      (omega (arith, x .constraints-full)) (omega (arith, x .formula-full)))
-
   is-early : 32768 < length f → earlyRefusal f t ≡ 2
-  is-early l =
-      sym (early-file-long f t is-full refl (omega (arith, x .names-full)) (omega (arith, x .prices-full)) l)
+  is-early l = sym (early-file-long f t (sym (full-fit t x)) refl l)
 
   not-early : length f ≤ 32768 → earlyRefusal f t ≡ 0
-  not-early l = sym (early-none f t is-full refl (omega (arith, x .names-full)) (omega (arith, x .prices-full)) l)
+  not-early l = sym (early-none f t (sym (full-fit t x)) refl l)
 
   refusal-read : length f ≤ 32768 → r .refusal ≡ refusalOf (readFile f)
   refusal-read l = rw (not-early l) at (h .refusal-is)

@@ -15,11 +15,11 @@ use Rattle.output.proofs.Showing.{refusedWith, ofLength, written-length, shown-
 use Rattle.output.proofs.Showing.{shown-within, shown-whole}
 use Rattle.report.specs.Operation.{reportRefusal, ReportShown}
 
-refusal-short : (t : List ℕ) (n : ℕ) → n < length t → reportRefusal t n ≡ 19
+pub refusal-short : (t : List ℕ) (n : ℕ) → n < length t → reportRefusal t n ≡ 19
 unfolding reportRefusal
 refusal-short t n h = first-failed-here 19 [] (lt-leb (length t) n h)
 
-refusal-none : (t : List ℕ) (n : ℕ) → length t ≤ n → reportRefusal t n ≡ 0
+pub refusal-none : (t : List ℕ) (n : ℕ) → length t ≤ n → reportRefusal t n ≡ 0
 unfolding reportRefusal
 refusal-none t n h = first-failed-behind 19 [] (le-leb (length t) n h)
 

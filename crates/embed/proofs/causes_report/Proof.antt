@@ -13,11 +13,8 @@ returns c = ReportOut.short (omega arith) refl refl refl
 report-requires : tie.Need-report-requires
 report-requires c κs = tt
 
-slice-aggregate-put-words : tie.Need-slice-aggregate-put-words
-slice-aggregate-put-words c = search needs
-
-put-words-requires : tie.Need-put-words-requires
-put-words-requires c κs = search needs
+put-length-requires : tie.Need-put-length-requires
+put-length-requires c κs = search needs
 
 same-length : tie.Need-same-length
 same-length c = search needs
@@ -34,8 +31,7 @@ causes-report-spec =
     (tie.spec
     returns
     report-requires
-    slice-aggregate-put-words
-    put-words-requires
+    put-length-requires
     same-length
     same-length-2
     returns-2)

@@ -14,7 +14,7 @@ fn in_thread<R: Send>(bytes: usize, call: impl FnOnce() -> R + Send) -> io::Resu
     })
 }
 
-/// Makes the five calls on `file`; the length of its report.
+/// Makes the six calls on `file`; the length of its report.
 fn calls(file: &[u8]) -> io::Result<Result<usize, Refusal>> {
     let case = match in_thread(stack::READ, || Case::read(file))? {
         Ok(case) => case,
@@ -24,11 +24,13 @@ fn calls(file: &[u8]) -> io::Result<Result<usize, Refusal>> {
     let settled = in_thread(stack::SETTLE, || case.settle(last))?;
     let answer = in_thread(stack::QUESTION, || case.question())?;
     let layers = in_thread(stack::LAYERS, || lent::layers(case.record(), case.tables()))?;
+    let text = in_thread(stack::WRITE, || case.write())?;
     let report = in_thread(stack::REPORT, || causes::report(file))?;
     println!("{} rounds, the last setting {:?}", answer.rounds, settled.map(|s| s.rounds));
     println!("{} decided atoms, the last setting {:?}", answer.decided, settled.map(|s| s.decided));
     println!("{} cents for the cheapest explanation", answer.cost);
     println!("layered: {:?}", layers.map(|l| l.numbers().is_some()));
+    println!("written back in {:?} bytes", text.map(|t| t.len()));
     Ok(report.map(|text| text.len()))
 }
 

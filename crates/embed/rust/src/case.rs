@@ -3,7 +3,7 @@
 use crate::answer::{Answer, Cause, Explanation};
 use crate::layers::{Layer, Layers};
 use crate::lent::{self, Record, Settled, Tables};
-use crate::sizes::{MINIMAL, REPORT_BYTES};
+use crate::sizes::{FILE_BYTES, MINIMAL, REPORT_BYTES};
 use crate::Refusal;
 
 /// A case: the record and the tables that were read from one file. It is sound.
@@ -132,6 +132,22 @@ impl Case {
                 Layers::Ring(layers.ring().unwrap_or_default().iter().map(name).collect())
             }
         }
+    }
+
+    /// The case written back: a file that reads as the same case, a line `(atom N)` for each atom in front. Refuses with
+    /// 18 a case with a line that would be over 200 bytes, or with a text over 32,768.
+    ///
+    /// ```
+    /// let case = causes::Case::read(b"(if low (not ab) shut)\n(query shut)\n")?;
+    /// let text = "(atom low)\n(atom ab)\n(atom shut)\n(if low shut(not ab))\n(query shut)\n";
+    /// assert_eq!(case.write()?, text.as_bytes());
+    /// # Ok::<(), causes::Refusal>(())
+    /// ```
+    pub fn write(&self) -> Result<Vec<u8>, Refusal> {
+        let mut out = vec![0; FILE_BYTES];
+        let length = lent::write(&self.record, &self.tables, &mut out)?;
+        out.truncate(length);
+        Ok(out)
     }
 
     /// What the setting `setting` adds, by name. Refuses with 14 one that the case doesn't have.

@@ -26,9 +26,22 @@
 //! assert_eq!(layers(&record, &tables)?.ring(), Some(&[0][..]));
 //! # Ok::<(), causes::Refusal>(())
 //! ```
+//!
+//! A case written back as a file, whose bytes the caller lends:
+//!
+//! ```
+//! use causes::lent::{read, write, Tables};
+//!
+//! let mut tables = Tables::new();
+//! let record = read(b"(query ( and a  b ))", &mut tables)?;
+//! let mut out = [0; causes::sizes::FILE_BYTES];
+//! let length = write(&record, &tables, &mut out)?;
+//! assert_eq!(out[..length], *b"(atom a)\n(atom b)\n(query(and a b))\n");
+//! # Ok::<(), causes::Refusal>(())
+//! ```
 
 mod operations;
 mod tables;
 
-pub use operations::{layers, question, read, report, settle, Answer, Layers, Settled};
+pub use operations::{layers, question, read, report, settle, write, Answer, Layers, Settled};
 pub use tables::{Clauses, Constraints, Formula, Names, Prices, Record, Tables};

@@ -2,7 +2,7 @@
 //!
 //! | name | meaning |
 //! |---|---|
-//! | [`Case`] | a case read from a file; it settles a setting, answers the question and tells its layers |
+//! | [`Case`] | a case read from a file; it settles a setting, answers the question, tells its layers, and is written back |
 //! | [`Answer`], [`Explanation`], [`Verdict`] | what the question answers, with names and the cheapest explanation |
 //! | [`Settled`] | the least model of a setting |
 //! | [`Layers`], [`Layer`] | the layers of a case, or a ring of its rules, with names |

@@ -76,6 +76,26 @@ extern "C" {
         answer_words: usize,
     ) -> u32;
 
+    /// Writes a case back as a file; answer: the length of the text.
+    pub fn causes_write(
+        record: *const u64,
+        record_words: usize,
+        clauses: *const u64,
+        clause_words: usize,
+        constraints: *const u64,
+        constraint_words: usize,
+        formula: *const u8,
+        formula_bytes: usize,
+        names: *const u8,
+        names_bytes: usize,
+        prices: *const u32,
+        price_entries: usize,
+        out: *mut u8,
+        out_bytes: usize,
+        answer: *mut u64,
+        answer_words: usize,
+    ) -> u32;
+
     /// Writes the report of a case file; answer: the length of the text.
     pub fn causes_report(
         file: *const u8,

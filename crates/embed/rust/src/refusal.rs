@@ -1,6 +1,6 @@
 //! Refusals.
 //!
-//! From: document 01, What each operation refuses; document 02, `[7]`; docs/MANUAL.md, Refusals.
+//! From: document 01, What each operation refuses; document 02, `[7]` and `[8]`; docs/MANUAL.md, Refusals.
 
 use std::error::Error;
 use std::fmt;
@@ -47,6 +47,7 @@ pub enum Refusal {
     SecondCost {
         line: u64,
     },
+    LongText,
     ShortOutput,
     /// A number that this module doesn't know: the archive is a later one.
     Other {
@@ -76,6 +77,7 @@ impl Refusal {
             15 => Refusal::ShortWork,
             16 => Refusal::HighPrice { line },
             17 => Refusal::SecondCost { line },
+            18 => Refusal::LongText,
             19 => Refusal::ShortOutput,
             _ => Refusal::Other { number, line },
         }
@@ -105,7 +107,8 @@ impl Refusal {
                 (16, Some(line), "the price, or the one worked out, is over 2,000,000, or the supplement over 100")
             }
             Refusal::SecondCost { line } => (17, Some(line), "the line is a second cost line for its name"),
-            Refusal::ShortOutput => (19, None, "the lent output is too short for the report"),
+            Refusal::LongText => (18, None, "a line of the text would be over 200 bytes, or the text over 32,768"),
+            Refusal::ShortOutput => (19, None, "the lent output is too short for the text"),
             Refusal::Other { number, line } => (number, (line > 0).then_some(line), "the library's header says why"),
         }
     }

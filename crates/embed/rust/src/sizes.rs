@@ -1,6 +1,6 @@
 //! The sizes of lent memory, in elements.
 //!
-//! From: document 01, Case tables and sound cases; What each operation refuses; document 02, `[1]`, `[5]`, `[6]` and `[7]`.
+//! From: document 01, Case tables and sound cases; What each operation refuses; document 02, `[1]`, `[5]` to `[8]`.
 
 /// Words of the clause table, three a clause.
 pub const CLAUSE_WORDS: usize = 768;
@@ -32,7 +32,7 @@ pub const RECORD_WORDS: usize = 6 + QUERIES;
 /// The most queries of a file, and formulas of a case.
 pub const QUERIES: usize = 16;
 
-/// The longest file that is read.
+/// The longest file that is read, and the longest text of a case: an output of so many bytes is long enough for each.
 pub const FILE_BYTES: usize = 32_768;
 
 /// The most settings that a case has: a work area of so many bytes is long enough for each.

@@ -12,5 +12,8 @@ pub const QUESTION: usize = 49_152;
 /// For the layers.
 pub const LAYERS: usize = 32_768;
 
+/// For writing a case back.
+pub const WRITE: usize = 32_768;
+
 /// For the report.
 pub const REPORT: usize = 131_072;

@@ -199,6 +199,37 @@ pub fn layers(record: &Record, tables: &Tables) -> Result<Layers, Refusal> {
     accepted(number, 0).map(|()| Layers { is_layered: layered == 1, count: count as usize, entries })
 }
 
+/// Writes a case back as a file to the front of `out` and answers the length of the text: reading it gives the same
+/// record and tables in their used entries. Refuses with 13 what is no sound case, and one with an atom whose name is
+/// none or is there twice or whose price is over 2,000,000; with 18 a line that would be over 200 bytes, or a text over
+/// 32,768; with 19 an output that is shorter than the text. Then it doesn't touch the output.
+pub fn write(record: &Record, tables: &Tables, out: &mut [u8]) -> Result<usize, Refusal> {
+    let record = record.words();
+    let mut words = [0; 1];
+    // SAFETY: each pointer comes with the length of its slice, and the output is borrowed for writing.
+    let number = unsafe {
+        raw::causes_write(
+            record.as_ptr(),
+            record.len(),
+            tables.clauses.as_ptr(),
+            tables.clauses.len(),
+            tables.constraints.as_ptr(),
+            tables.constraints.len(),
+            tables.formula.as_ptr(),
+            tables.formula.len(),
+            tables.names.as_ptr(),
+            tables.names.len(),
+            tables.prices.as_ptr(),
+            tables.prices.len(),
+            out.as_mut_ptr(),
+            out.len(),
+            words.as_mut_ptr(),
+            words.len(),
+        )
+    };
+    accepted(number, 0).map(|()| words[0] as usize)
+}
+
 /// Writes the report of a case file to the front of `out` and answers its length. Refuses with 19 an output that is
 /// shorter, and then doesn't touch it.
 pub fn report(file: &[u8], out: &mut [u8]) -> Result<usize, Refusal> {

@@ -1,0 +1,2 @@
+-- Texts: what the program makes of the text of the bytes read.
+pub mod Texts
