@@ -1,6 +1,6 @@
 //! Files with cost lines at their limits, each limit from both sides.
 //!
-//! From: document 02, [7].
+//! From: document 02, [7], [8].
 
 use crate::edges::{sample, Edge};
 use crate::families::queries;
@@ -8,7 +8,7 @@ use crate::file::{ATOMS, CENTS, NAME_BYTES, PER_CENT};
 use crate::form::DIGITS;
 use crate::layout::file;
 use crate::names::drawn_name;
-use crate::prices::{cost_line, number};
+use crate::prices::{cost_line, most_cents, number};
 use crate::random::Random;
 use crate::sample::Sample;
 
@@ -35,14 +35,17 @@ fn with_costs(random: &mut Random, costs: Vec<String>, past: usize, number: u32)
     sample(file(random, &lines), past, number)
 }
 
-/// Numbers of a cost line at their limits: 1,000,000 cents, 100 per cent or seven digits, or past one of these.
+/// Numbers of a cost line at their limits: a price of 2,000,000 cents, 100 per cent or seven digits, or past one of these.
 fn cost_numbers(random: &mut Random, past: usize) -> Sample {
-    let (cents, per_cent) = (random.between(0, CENTS as usize), random.between(0, PER_CENT as usize));
+    let per_cent = random.between(0, PER_CENT as usize);
+    let most = most_cents(per_cent);
+    let cents = random.between(0, most);
     let far = past * *random.pick(&[1, 1, 2, 100]);
     let width = DIGITS + past;
-    let (due, numbers) = match random.below(4) {
-        0 => (16, format!("{} {}", CENTS as usize + far, number(random, per_cent))),
-        1 => (16, format!("{} {}", number(random, cents), PER_CENT as usize + far)),
+    let (due, numbers) = match random.below(5) {
+        0 => (16, format!("{} {}", most + far, number(random, per_cent))),
+        4 => (16, format!("{} {}", CENTS as usize + far, number(random, 0))),
+        1 => (16, format!("{} {}", number(random, cents / 2), PER_CENT as usize + far)),
         2 => (5, format!("{cents:0width$} {per_cent}")),
         _ => (5, format!("{cents} {per_cent:0width$}")),
     };

@@ -1,7 +1,7 @@
 //! How many generated files would be refused otherwise, or have another cheapest explanation, under a wrong reading of
-//! their cost lines.
+//! their cost and atom lines.
 //!
-//! From: document 02, [7].
+//! From: document 02, [7], [8].
 
 use crate::answer::{text, Asked};
 use crate::cheapest_tally::{cost_by, lowest};
@@ -21,7 +21,7 @@ const DEAR: usize = 4;
 const AGAIN: usize = 5;
 
 /// The wrong readings: of the price, of the numbers, of the checks and of the lines' order.
-const MISREAD: [Misread; 25] = [
+const MISREAD: [Misread; 30] = [
     ("other with half a cent downwards", priced(|cents, per_cent| cents + (cents * per_cent + 49) / 100)),
     ("other with half a cent to the even one", priced(to_even)),
     ("other with the supplement rounded down", priced(|cents, per_cent| cents + cents * per_cent / 100)),
@@ -37,16 +37,21 @@ const MISREAD: [Misread; 25] = [
     ("other with 16 behind 17", exchanged(DEAR, AGAIN)),
     ("other with 16 before 8", exchanged(NAMES, DEAR)),
     ("other with 16 before 6", exchanged(LONG, DEAR)),
-    ("other with 16 at 1,000,000", checked(DEAR, |_, said| is_over(said, CENTS - 1, PER_CENT))),
-    ("other with 16 from 1,000,002 on", checked(DEAR, |_, said| is_over(said, CENTS + 1, PER_CENT))),
+    ("other with 16 at 2,000,000", checked(DEAR, |_, said| is_over(said, CENTS - 1, PER_CENT))),
+    ("other with 16 from 2,000,002 on", checked(DEAR, |_, said| is_over(said, CENTS + 1, PER_CENT))),
     ("other with 16 at 100 per cent", checked(DEAR, |_, said| is_over(said, CENTS, PER_CENT - 1))),
     ("other with 16 from 102 per cent on", checked(DEAR, |_, said| is_over(said, CENTS, PER_CENT + 1))),
-    ("other with 16 by the price worked out", checked(DEAR, is_over_worked_out)),
+    ("other with 16 before the supplement", checked(DEAR, |_, said| is_over_before(said, CENTS))),
+    ("other with 16 from 1,000,001 on", checked(DEAR, |_, said| is_over_before(said, CENTS / 2))),
+    ("other with 16 by the supplement rounded down", checked(DEAR, is_over_rounded_down)),
     ("other with a second line behind a price of 0", checked(AGAIN, has_price)),
     ("other with the last line of a name", checked(AGAIN, |_, _| false)),
-    ("other with cost lines that name no atom", Rules { cost_names: false, ..RULES }),
-    ("other with cost lines before the others", Rules { order: |lines| cost_lines_apart(lines, false), ..RULES }),
-    ("other with cost lines behind the others", Rules { order: |lines| cost_lines_apart(lines, true), ..RULES }),
+    ("other with cost lines that name no atom", named(|said| !matches!(said, Form::Cost(..)))),
+    ("other with cost lines before the others", ordered(|lines| lines_apart(lines, "cost", false))),
+    ("other with cost lines behind the others", ordered(|lines| lines_apart(lines, "cost", true))),
+    ("other with atom lines that name no atom", named(|said| !matches!(said, Form::Atom(_)))),
+    ("other with atom lines before the others", ordered(|lines| lines_apart(lines, "atom", false))),
+    ("other with atom lines behind the others", ordered(|lines| lines_apart(lines, "atom", true))),
 ];
 
 /// The rules with the price `price`.
@@ -57,6 +62,16 @@ const fn priced(price: fn(u64, u64) -> u64) -> Rules {
 /// The rules with the numbers of `number`.
 const fn numbered(number: fn(&str) -> Option<u64>) -> Rules {
     Rules { number, ..RULES }
+}
+
+/// The rules with the atoms of those forms alone that `names_atoms` takes.
+const fn named(names_atoms: fn(&Form) -> bool) -> Rules {
+    Rules { names_atoms, ..RULES }
+}
+
+/// The rules with the lines in the order of `order`.
+const fn ordered(order: fn(Vec<Numbered>) -> Vec<Numbered>) -> Rules {
+    Rules { order, ..RULES }
 }
 
 /// The rules with `fails` for the check at the place `at`.
@@ -91,14 +106,21 @@ fn eight_digits(word: &str) -> Option<u64> {
     }
 }
 
-/// Whether `said` is a cost line with more than `most` cents or more than `high` per cent.
+/// Whether `said` is a cost line with a price of more than `most` cents or more than `high` per cent.
 fn is_over(said: &Form, most: u64, high: u64) -> bool {
-    matches!(said, Form::Cost(_, cents, per_cent) if *cents > most || *per_cent > high)
+    matches!(said, Form::Cost(_, cents, per_cent) if price(*cents, *per_cent) > most || *per_cent > high)
 }
 
-/// Whether `said` is a cost line with a price, or a supplement, past the limits.
-fn is_over_worked_out(_: &Reading, said: &Form) -> bool {
-    matches!(said, Form::Cost(_, cents, per_cent) if price(*cents, *per_cent) > CENTS || *per_cent > PER_CENT)
+/// Whether `said` is a cost line with more than `most` cents before its supplement, or a supplement past its limit.
+fn is_over_before(said: &Form, most: u64) -> bool {
+    matches!(said, Form::Cost(_, cents, per_cent) if *cents > most || *per_cent > PER_CENT)
+}
+
+/// Whether `said` is a cost line with a price past the limit where its supplement is rounded down, or a supplement past
+/// its own.
+fn is_over_rounded_down(_: &Reading, said: &Form) -> bool {
+    let lower = |cents: u64, per_cent: u64| cents + cents * per_cent / 100;
+    matches!(said, Form::Cost(_, cents, per_cent) if lower(*cents, *per_cent) > CENTS || *per_cent > PER_CENT)
 }
 
 /// Whether `said` is a cost line of a name that has a price above 0.
@@ -106,10 +128,10 @@ fn has_price(reading: &Reading, said: &Form) -> bool {
     matches!(said, Form::Cost(name, ..) if reading.prices_of(name).iter().any(|price| *price > 0))
 }
 
-/// `lines` with the cost lines behind the others, or before them.
-fn cost_lines_apart(mut lines: Vec<Numbered>, behind: bool) -> Vec<Numbered> {
-    let is_cost = |line: &[u8]| tokens(&String::from_utf8_lossy(line)).get(1).is_some_and(|word| word == "cost");
-    lines.sort_by_key(|(_, line)| is_cost(line) == behind);
+/// `lines` with those of the form's word `word` behind the others, or before them.
+fn lines_apart<'a>(mut lines: Vec<Numbered<'a>>, word: &str, behind: bool) -> Vec<Numbered<'a>> {
+    let is_one = |line: &[u8]| tokens(&String::from_utf8_lossy(line)).get(1).is_some_and(|w| w == word);
+    lines.sort_by_key(|(_, line)| is_one(line) == behind);
     lines
 }
 

@@ -5,16 +5,29 @@ use crate::file::{ATOMS, CAUSES, CENTS, CLAUSES, CONSTRAINTS, DEPTH, FILE_BYTES,
 use crate::form::DIGITS;
 use crate::layout::joined;
 use crate::names::drawn_name;
-use crate::prices::cost_line;
+use crate::prices::{cost_line, most_cents};
 use crate::random::Random;
 
 /// Bytes that have no place in a form, and some that have.
 const ODD_BYTES: [u8; 18] = *b"\0\t\r\x0b\x7f\x80\xff;()_.,AZ-9\n";
 
 /// Tokens of which odd lines are made.
-const TOKENS: [&str; 23] = [
-    "(", "(", "(", ")", ")", ")", "if", "query", "seen", "never", "avoid", "cost", "not", "and", "true", "a", "n0",
-    "low", "9a", "-", "7", "100", "01000000",
+const TOKENS: [&str; 24] = [
+    "(", "(", "(", ")", ")", ")", "if", "query", "seen", "never", "avoid", "cost", "atom", "not", "and", "true", "a",
+    "n0", "low", "9a", "-", "7", "100", "02000000",
+];
+
+/// Atom lines that are none, and lines that are.
+const ODD_ATOM_LINES: [&str; 9] = [
+    "(atom)",
+    "(atom n0 n1)",
+    "(atom (not n0))",
+    "(atom (n0))",
+    "(atom 7)",
+    "(atom -n0)",
+    "(atoms n0)",
+    "( atom atom )",
+    "(atom(n0)",
 ];
 
 /// What stands for a word of a cost line.
@@ -63,7 +76,7 @@ fn damaged_bytes(random: &mut Random, mut bytes: Vec<u8>) -> Vec<u8> {
 /// `;` as their first byte, some as their second.
 fn damage_lines(random: &mut Random, lines: &mut Vec<Vec<u8>>) {
     let at = random.below(lines.len());
-    match random.below(11) {
+    match random.below(12) {
         0 => lines.insert(at, lines[at].clone()),
         1 => drop(lines.remove(at)),
         2 => {
@@ -87,6 +100,7 @@ fn damage_lines(random: &mut Random, lines: &mut Vec<Vec<u8>>) {
         6 => lengthen_word(random, &mut lines[at], |b| b.is_ascii_lowercase(), (b"ab0-", 17)),
         8 => lengthen_word(random, &mut lines[at], |b| b.is_ascii_digit(), (b"0019", DIGITS)),
         9 => lines[at] = odd_cost_line(random),
+        10 => lines[at] = random.pick(&ODD_ATOM_LINES).as_bytes().to_vec(),
         7 => {
             let length = random.between(LINE_BYTES - 2, LINE_BYTES + 3).max(lines[at].len());
             lines[at].resize(length, *random.pick(b"  ;a)"));
@@ -130,7 +144,8 @@ fn past_a_limit(random: &mut Random, mut bytes: Vec<u8>) -> Vec<u8> {
         1 => String::from("(if n1 n0)\n"),
         _ => String::from("(false n1)\n"),
     };
-    let more: String = match random.below(11) {
+    let more: String = match random.below(12) {
+        10 => (0..ATOMS - 6 + 6 * around).map(|i| format!("(atom x{i})\n")).collect(),
         0 => (0..ATOMS / 2 + around).map(|i| format!("(true x{i})\n(false y{i})\n")).collect(),
         1 => (0..CLAUSES - 20 + 10 * around).map(line).collect(),
         2 => (0..CONSTRAINTS - 2 + around).map(|_| constraint(random, "n0 (not n0)") + "\n").collect(),
@@ -159,10 +174,14 @@ fn past_a_limit(random: &mut Random, mut bytes: Vec<u8>) -> Vec<u8> {
 fn costs_at_limits(random: &mut Random, around: usize) -> String {
     let width = DIGITS - 1 + around;
     match random.below(5) {
-        0 => format!("(cost n0 {} {})\n", CENTS as usize - 1 + around, random.below(PER_CENT as usize)),
-        1 => format!("(cost n0 {} {})\n", random.below(CENTS as usize), PER_CENT as usize - 1 + around),
+        0 => {
+            let per_cent = random.between(0, PER_CENT as usize);
+            format!("(cost n0 {} {per_cent})\n", most_cents(per_cent) - 1 + around)
+        }
+        1 => format!("(cost n0 {} {})\n", random.below(CENTS as usize / 2), PER_CENT as usize - 1 + around),
         2 => {
-            format!("(cost n0 {:0width$} {:0width$})\n", random.below(CENTS as usize), random.below(PER_CENT as usize))
+            let (cents, per_cent) = (random.below(CENTS as usize / 2), random.below(PER_CENT as usize));
+            format!("(cost n0 {cents:0width$} {per_cent:0width$})\n")
         }
         3 => format!("(cost n0 0 0)\n(cost n0 5 {})\n", PER_CENT as usize - 1 + around),
         _ => (0..around).map(|_| cost_line(random, "n0") + "\n").collect(),

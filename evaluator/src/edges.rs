@@ -1,9 +1,9 @@
 //! Files at the limits of documents 01 and 02, each limit from both sides.
 //!
-//! From: document 01, The file; What each operation refuses (Reading); Edges; document 02, [1], [2], [5], [7].
+//! From: document 01, The file; What each operation refuses (Reading); Edges; document 02, [1], [2], [5], [7], [8].
 
 use crate::constraint::KINDS;
-use crate::families::{constraint, formula, literal, queries};
+use crate::families::{atom_lines, constraint, formula, literal, queries};
 use crate::file::{
     ATOMS, CAUSES, CENTS, CLAUSES, CONSTRAINTS, DEPTH, FILE_BYTES, LINE_BYTES, NAME_BYTES, PER_CENT, QUERIES,
 };
@@ -60,6 +60,9 @@ fn atom_count(random: &mut Random, past: usize) -> Sample {
     } else if random.chance(30) {
         lines.push(format!("(query {})", heads[1]));
         lines.extend(rest.iter().map(|name| cost_line(random, name)));
+    } else if random.chance(30) {
+        lines.push(format!("(query {})", heads[1]));
+        lines.extend(atom_lines(rest));
     } else if past == 1 && random.chance(30) {
         lines.push(format!("(query (or (and {} {}) {}))", rest[0], rest[1], rest[2]));
         lines.push(format!("(cost {} {} 0)", rest[3], CENTS + 1));
@@ -74,7 +77,8 @@ fn atom_count(random: &mut Random, past: usize) -> Sample {
 fn name_length(random: &mut Random, past: usize) -> Sample {
     let name = drawn_name(random, NAME_BYTES + past);
     let mut lines = vec![String::from("(query (or low shut))")];
-    lines.push(match random.below(8) {
+    lines.push(match random.below(9) {
+        8 => format!("(atom {name})"),
         0 => format!("(true {name})"),
         1 => format!("(if {name} shut)"),
         6 => cost_line(random, &name),
@@ -97,6 +101,8 @@ fn cause_count(random: &mut Random, past: usize) -> Sample {
     let mut lines = vec![format!("(if low {})", all[..cut].join(" "))];
     if random.chance(30) {
         lines.extend(all[cut..].iter().map(|cause| cost_line(random, cause)));
+    } else if random.chance(30) {
+        lines.extend(atom_lines(&all[cut..]));
     } else {
         lines.push(constraint(random, &all[cut..].join(" ")));
     }

@@ -182,13 +182,28 @@ fn asked(random: &mut Random, mut clauses: Vec<String>, heads: &[String], atoms:
     finished(random, clauses, queries, atoms)
 }
 
-/// `lines`, one of them repeated now and then, with cost lines of `atoms` and with `queries` behind them or, in half of
-/// the draws, in a drawn order.
+/// An atom line for each of `names`, in their order.
+pub fn atom_lines(names: &[String]) -> Vec<String> {
+    names.iter().map(|name| format!("(atom {name})")).collect()
+}
+
+/// Some of `names`, now and then all and often none, in a drawn order.
+fn some_names(random: &mut Random, names: &[String]) -> Vec<String> {
+    let percent = *random.pick(&[0, 0, 0, 30, 100]);
+    let mut kept: Vec<String> = names.iter().filter(|_| random.chance(percent)).cloned().collect();
+    random.shuffle(&mut kept);
+    kept
+}
+
+/// `lines`, one of them repeated now and then, with atom lines of some of `atoms` before them and cost lines and
+/// `queries` behind them or, in half of the draws, in a drawn order.
 fn finished(random: &mut Random, mut lines: Vec<String>, queries: Vec<String>, atoms: &[String]) -> Vec<String> {
     if !lines.is_empty() && random.chance(25) {
         let again = random.pick(&lines).clone();
         lines.insert(0, again);
     }
+    let named = some_names(random, atoms);
+    lines.splice(0..0, atom_lines(&named));
     lines.extend(cost_lines(random, atoms));
     lines.extend(queries);
     if random.chance(50) {

@@ -1,7 +1,7 @@
 //! Reading a case file: each line that is no comment is taken through the checks, 3 to 9, 16, 17 and 10, one after the
 //! other over the whole line.
 //!
-//! From: document 01, The file; What each operation refuses (Reading); document 02, [1], [2], [5], [7].
+//! From: document 01, The file; What each operation refuses (Reading); document 02, [1], [2], [5], [7], [8].
 //!
 //! | name | meaning |
 //! |---|---|
@@ -26,7 +26,7 @@ pub const CLAUSES: usize = 256;
 pub const CONSTRAINTS: usize = 32;
 pub const CAUSES: usize = 10;
 pub const QUERIES: usize = 16;
-pub const CENTS: u64 = 1_000_000;
+pub const CENTS: u64 = 2_000_000;
 pub const PER_CENT: u64 = 100;
 
 /// A refusal: its number and the line, 0 where no line is at fault.
@@ -56,26 +56,31 @@ pub const CHECKS: [Check; 7] = [
     (7, |_, said| said.depth() > DEPTH),
     (8, |reading, _| reading.names.len() > ATOMS),
     (9, |reading, said| reading.is_full_for(said)),
-    (16, |_, said| matches!(said, Form::Cost(_, cents, per_cent) if *cents > CENTS || *per_cent > PER_CENT)),
+    (16, |_, said| matches!(said, Form::Cost(_, cents, per_cent) if is_dear(*cents, *per_cent))),
     (17, |reading, said| matches!(said, Form::Cost(name, ..) if !reading.prices_of(name).is_empty())),
     (10, |reading, said| matches!(said, Form::Query(_)) && reading.queries.len() == QUERIES),
 ];
 
+/// Whether the cents, the supplement, or the price worked out of both is over its limit.
+fn is_dear(cents: u64, per_cent: u64) -> bool {
+    cents > CENTS || per_cent > PER_CENT || price(cents, per_cent) > CENTS
+}
+
 /// A line of a file, and its number counted from 1.
 pub type Numbered<'a> = (usize, &'a [u8]);
 
-/// How a file is read: the order of its lines, the numbers, the checks from 6 on, whether a cost line names an atom,
-/// and the price of cents with a supplement in per cent.
+/// How a file is read: the order of its lines, the numbers, the checks from 6 on, whether a form's names are atoms, and
+/// the price of cents with a supplement in per cent.
 pub struct Rules {
     pub order: fn(Vec<Numbered>) -> Vec<Numbered>,
     pub number: Number,
     pub checks: [Check; 7],
-    pub cost_names: bool,
+    pub names_atoms: fn(&Form) -> bool,
     pub price: fn(u64, u64) -> u64,
 }
 
 /// The rules of the documents.
-pub const RULES: Rules = Rules { order: |lines| lines, number: decimal, checks: CHECKS, cost_names: true, price };
+pub const RULES: Rules = Rules { order: |lines| lines, number: decimal, checks: CHECKS, names_atoms: |_| true, price };
 
 /// The case that `bytes` describes, or the refusal.
 pub fn read(bytes: &[u8]) -> Result<Case, Refusal> {
@@ -129,8 +134,7 @@ impl Reading {
             return Ok(());
         };
         for name in said.names() {
-            let names_atom = rules.cost_names || !matches!(said, Form::Cost(..));
-            if names_atom && !self.names.contains(name) {
+            if (rules.names_atoms)(&said) && !self.names.contains(name) {
                 self.names.push(name.clone());
             }
         }
@@ -146,7 +150,7 @@ impl Reading {
         match said {
             Form::Fact(_) | Form::Assumption(_) | Form::Rule(..) => self.clauses.len() == CLAUSES,
             Form::Constraint(..) => self.constraints.len() == CONSTRAINTS,
-            Form::Seen(_) | Form::Query(_) | Form::Cost(..) => false,
+            Form::Atom(_) | Form::Seen(_) | Form::Query(_) | Form::Cost(..) => false,
         }
     }
 
@@ -174,6 +178,7 @@ impl Reading {
     fn add(&mut self, said: Form, price: fn(u64, u64) -> u64) {
         let clause = |head, body| Clause { head, body };
         match said {
+            Form::Atom(_) => (),
             Form::Fact(n) => self.clauses.push(clause(self.atom(&n), Body::True)),
             Form::Assumption(n) => self.clauses.push(clause(self.atom(&n), Body::False)),
             Form::Rule(n, body) => self.clauses.push(clause(self.atom(&n), Body::All(self.numbered(&body)))),

@@ -1,6 +1,6 @@
 //! The form that a tree of words is.
 //!
-//! From: document 01, The file; document 02, [5], [7].
+//! From: document 01, The file; document 02, [5], [7], [8].
 
 use crate::constraint::Kind;
 use crate::formula::{Connective, Formula, Literal};
@@ -20,6 +20,7 @@ pub fn decimal(word: &str) -> Option<u64> {
 
 /// What a line says, with atoms by their names; of a cost line the price in cents and the supplement in per cent.
 pub enum Form {
+    Atom(String),
     Fact(String),
     Assumption(String),
     Rule(String, Vec<Literal<String>>),
@@ -93,6 +94,7 @@ fn formula(tree: &Tree) -> Option<Formula<String>> {
 /// The form that `tree` is, with length of names and depth left aside, and with numbers by `digits`.
 pub fn form(tree: &Tree, digits: Number) -> Option<Form> {
     match parts(tree)? {
+        ("atom", [n]) => Some(Form::Atom(name(n)?)),
         ("true", [n]) => Some(Form::Fact(name(n)?)),
         ("false", [n]) => Some(Form::Assumption(name(n)?)),
         ("if", [n, body @ ..]) => Some(Form::Rule(name(n)?, literals(body)?)),
@@ -109,7 +111,7 @@ impl Form {
     /// The names of this form in the order of the line, with repeats.
     pub fn names(&self) -> Vec<&String> {
         match self {
-            Form::Fact(n) | Form::Assumption(n) | Form::Cost(n, ..) => vec![n],
+            Form::Atom(n) | Form::Fact(n) | Form::Assumption(n) | Form::Cost(n, ..) => vec![n],
             Form::Rule(n, body) => std::iter::once(n).chain(body.iter().map(|l| &l.atom)).collect(),
             Form::Constraint(_, body) => body.iter().map(|l| &l.atom).collect(),
             Form::Seen(l) => vec![&l.atom],

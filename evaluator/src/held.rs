@@ -1,12 +1,14 @@
 //! The record and the tables that hold a case, made from it and read back.
 //!
-//! From: document 01, Case tables and sound cases; document 02, [1], [5], [7].
+//! From: document 01, Case tables and sound cases; document 02, [1], [5], [7], [8].
 //!
 //! | name | meaning |
 //! |---|---|
 //! | `Record`, `Held` | a case record; a record with tables of their full sizes, of any contents |
 //! | `Held::of` | the record and the tables that hold a case, zeros in unused entries |
 //! | `Held::case` | the case that a record and tables hold, if they are sound |
+//! | `Held::is_full` | whether no table is shorter than its size |
+//! | `Held::used` | the same in its used entries, with zeros in the others |
 
 use crate::case::{causes, Body, Case, Clause};
 use crate::constraint::{Constraint, Kind};
@@ -159,6 +161,33 @@ impl Held {
             fill(row, name.as_bytes());
         }
         fill(&mut held.prices, &case.prices);
+        held
+    }
+
+    /// Whether no table is shorter than its size.
+    pub fn is_full(&self) -> bool {
+        let full = Held::zeros();
+        self.clauses.len() >= full.clauses.len()
+            && self.constraints.len() >= full.constraints.len()
+            && self.formulas.len() >= full.formulas.len()
+            && self.names.len() >= full.names.len()
+            && self.prices.len() >= full.prices.len()
+    }
+
+    /// This record and these tables, which hold a sound case, with zeros in the entries that are not used and none past
+    /// the sizes.
+    pub fn used(&self) -> Held {
+        let mut held = Held::zeros();
+        let Record { atoms, clauses, constraints, formulas, nodes, .. } = self.record;
+        held.record = self.record.clone();
+        held.record.nodes[formulas as usize..].fill(0);
+        fill(&mut held.clauses, &self.clauses[..3 * clauses as usize]);
+        fill(&mut held.constraints, &self.constraints[..3 * constraints as usize]);
+        for (at, nodes) in nodes.into_iter().enumerate().take(formulas as usize) {
+            fill(&mut held.formulas[PART_BYTES * at..], &self.formulas[PART_BYTES * at..][..nodes as usize]);
+        }
+        fill(&mut held.names, &self.names[..NAME_BYTES * atoms as usize]);
+        fill(&mut held.prices, &self.prices[..atoms as usize]);
         held
     }
 

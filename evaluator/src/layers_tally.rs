@@ -22,7 +22,7 @@ const ROWS: [Row; 10] = [
     ("refused with 16 or 17", |own| own.as_ref().is_err_and(|refusal| [16, 17].contains(&refusal.number))),
     ("a number of 54 and more", |own| own.as_ref().is_ok_and(is_high)),
     ("an atom in its own body", |own| own.as_ref().is_ok_and(names_itself)),
-    ("an atom of a cost line alone", |own| own.as_ref().is_ok_and(|l| has_only_priced(&l.case))),
+    ("an atom of a cost or an atom line alone", |own| own.as_ref().is_ok_and(|l| has_only_priced(&l.case))),
     ("other without negated atoms", |own| own.as_ref().is_ok_and(|l| differs(l, without_negated))),
     ("other with first bodies only", |own| own.as_ref().is_ok_and(|l| differs(l, with_first_bodies))),
     ("other with constraints as rules", |own| own.as_ref().is_ok_and(|l| differs(l, with_constraints))),

@@ -9,13 +9,16 @@
 //! | verdict, question, answer | the verdict on a query, minimal explanations, the text of the answer |
 //! | layers, layers_answer | which atoms depend on which: least numbers and rings; what `layers` should write |
 //! | lookup | a word compared with an entry of the names table |
-//! | held, plain, vectors | the record and the tables of a case, the plain form, the vectors of operations |
+//! | held, writing | the record and the tables of a case; its text |
+//! | plain, vectors | the plain form, the vectors of operations |
 //! | random, names, prices, layout, families | drawn lawful files |
-//! | shapes | drawn files with chains and rings |
+//! | shapes, text_edges | drawn files with chains and rings; files whose text stands at a limit |
 //! | edges, cost_edges, lists, damage, sample | files at the limits, damaged files, the file of a seed |
 //! | run, compare, tally, row_tally, bench, check | the driver |
 //! | kinds_tally, decided_tally, costs_tally, cheapest_tally | how many files tell wrong readings apart |
+//! | drive | what the drivers of `layers` and `tidy` share |
 //! | layers_tally, layers_check | the driver of the program `layers` |
+//! | tidy_tally, tidy_check | the driver of the program `tidy` |
 //! | lookup_pairs, lookup_tally, lookup_check | the driver of the program `compare`, and the pairs that it draws |
 //! | tables | tables of the manual |
 
@@ -32,6 +35,7 @@ pub mod cost_edges;
 pub mod costs_tally;
 pub mod damage;
 pub mod decided_tally;
+pub mod drive;
 pub mod edges;
 pub mod families;
 pub mod file;
@@ -61,6 +65,10 @@ pub mod sample;
 pub mod shapes;
 pub mod tables;
 pub mod tally;
+pub mod text_edges;
+pub mod tidy_check;
+pub mod tidy_tally;
 pub mod tree;
 pub mod vectors;
 pub mod verdict;
+pub mod writing;

@@ -2,7 +2,7 @@
 
 use evaluator::case::Case;
 use evaluator::vectors::Vector;
-use evaluator::{answer, check, file, layers_check, lookup_check, sample, tables};
+use evaluator::{answer, check, file, layers_check, lookup_check, sample, tables, tidy_check, writing};
 use std::io::{Read, Write};
 use std::path::Path;
 use std::process::ExitCode;
@@ -10,20 +10,22 @@ use std::time::Duration;
 
 /// How the program is called.
 const USAGE: &str = "evaluator answer < FILE
+evaluator text < FILE
 evaluator operation NAME.args
 evaluator check PROGRAM SECONDS FOLDER..
 evaluator layers PROGRAM SECONDS FOLDER..
+evaluator tidy PROGRAM SECONDS FOLDER..
 evaluator compare PROGRAM SECONDS FOLDER..
 evaluator sample SEED
 evaluator settings NAME.. < FILE
 evaluator caps < FILE
 evaluator limits";
 
-/// Writes the answer to the file on standard input.
-fn answer_input() -> std::io::Result<()> {
+/// Writes what `text` makes of the file on standard input.
+fn answer_input(text: impl Fn(&[u8]) -> String) -> std::io::Result<()> {
     let mut bytes = Vec::new();
     std::io::stdin().read_to_end(&mut bytes)?;
-    std::io::stdout().write_all(answer::answer(&bytes).text.as_bytes())
+    std::io::stdout().write_all(text(&bytes).as_bytes())
 }
 
 /// Writes what the operation in the file `path` should answer; whether that can be done.
@@ -55,10 +57,12 @@ fn main() -> ExitCode {
     let arguments: Vec<String> = std::env::args().skip(1).collect();
     let words: Vec<&str> = arguments.iter().map(String::as_str).collect();
     let done = match words.as_slice() {
-        ["answer"] => answer_input().is_ok(),
+        ["answer"] => answer_input(|bytes| answer::answer(bytes).text).is_ok(),
+        ["text"] => answer_input(|bytes| writing::tidy_text(&writing::tidied(bytes))).is_ok(),
         ["operation", path] => operation(path),
         ["check", program, seconds, folders @ ..] => checked(check::check, program, seconds, folders),
         ["layers", program, seconds, folders @ ..] => checked(layers_check::check, program, seconds, folders),
+        ["tidy", program, seconds, folders @ ..] => checked(tidy_check::check, program, seconds, folders),
         ["compare", program, seconds, folders @ ..] => checked(lookup_check::check, program, seconds, folders),
         ["sample", seed] => seed.parse().is_ok_and(|s| std::io::stdout().write_all(&sample::sample(s).bytes).is_ok()),
         ["settings", shown @ ..] => rows(|case| tables::settings(case, shown)),

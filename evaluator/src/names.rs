@@ -4,8 +4,8 @@ use crate::file::NAME_BYTES;
 use crate::random::Random;
 
 /// Words of the file's forms, which are lawful names.
-const FORM_WORDS: [&str; 13] =
-    ["true", "false", "if", "never", "avoid", "seen", "query", "cost", "not", "and", "or", "then", "same"];
+const FORM_WORDS: [&str; 14] =
+    ["atom", "true", "false", "if", "never", "avoid", "seen", "query", "cost", "not", "and", "or", "then", "same"];
 
 /// Names as an engineer would give them.
 const PLAIN: [&str; 12] = [

@@ -36,6 +36,7 @@ pub enum Operation {
     Question { slots: usize, bytes: usize },
     Layers,
     Compare(Pair),
+    Writeback { bytes: usize },
 }
 
 /// What the question answers over all settings: the rounds and the decided atoms; of the minimal ones the lowest cost
@@ -56,6 +57,7 @@ pub enum Answered {
     Layered(Vec<u64>),
     Rings(Vec<Vec<usize>>),
     Compared(Outcome),
+    Written(String),
 }
 
 /// The number that `word` is.
@@ -166,6 +168,7 @@ impl Operation {
             ["settle", setting] => Ok(Operation::Settle { setting: decimal(setting)? }),
             ["question", slots, bytes] => Ok(Operation::Question { slots: decimal(slots)?, bytes: decimal(bytes)? }),
             ["layers"] => Ok(Operation::Layers),
+            ["writeback", bytes] => Ok(Operation::Writeback { bytes: decimal(bytes)? }),
             ["compare", word, entry] if !word.is_empty() && (1..=NAME_BYTES).contains(&entry.len()) => {
                 Ok(Operation::Compare(Pair { word: String::from(*word), entry: String::from(*entry) }))
             }
@@ -197,6 +200,7 @@ impl Answered {
                 joined(rings, "", ring)
             }
             Answered::Compared(outcome) => String::from(outcome.line()),
+            Answered::Written(text) => text.clone(),
         }
     }
 }

@@ -1,19 +1,31 @@
 //! Cost lines for generated files: prices of which few are different, so that costs are often equal, supplements that
 //! end in half a cent or next to it, any price, and the limits.
 
+use crate::cost;
 use crate::file::{CENTS, PER_CENT};
 use crate::form::DIGITS;
 use crate::random::Random;
 
-/// Cents with a supplement in per cent, at a limit of one or of both.
-const AT_LIMITS: [(usize, usize); 6] = [
-    (CENTS as usize, PER_CENT as usize),
+/// Cents with a supplement in per cent, at a limit of one, of both, or of the price worked out.
+const AT_LIMITS: [(usize, usize); 8] = [
+    (CENTS as usize / 2, PER_CENT as usize),
     (CENTS as usize, 0),
-    (CENTS as usize - 1, PER_CENT as usize - 1),
+    (CENTS as usize - 1, 0),
     (0, PER_CENT as usize),
     (1, PER_CENT as usize),
     (1, 1),
+    (1_333_333, 50),
+    (1_980_198, 1),
 ];
+
+/// The most cents of which the price with a supplement of `per_cent` is not over the limit.
+pub fn most_cents(per_cent: usize) -> usize {
+    let mut cents = 100 * CENTS / (100 + per_cent as u64) + 1;
+    while cost::price(cents, per_cent as u64) > CENTS {
+        cents -= 1;
+    }
+    cents as usize
+}
 
 /// An odd number below `2 * n`.
 fn odd(random: &mut Random, n: usize) -> usize {
@@ -29,7 +41,10 @@ fn price(random: &mut Random) -> (usize, usize) {
         4 => (odd(random, 200), 50),
         5 => (100 * random.below(30) + *random.pick(&[49, 51]), 1),
         6 => *random.pick(&AT_LIMITS),
-        _ => (random.between(0, CENTS as usize), random.between(0, PER_CENT as usize)),
+        _ => {
+            let per_cent = random.between(0, PER_CENT as usize);
+            (random.between(0, most_cents(per_cent)), per_cent)
+        }
     }
 }
 

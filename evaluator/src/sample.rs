@@ -8,12 +8,16 @@ use crate::layout::file;
 use crate::lists::{list_edge, KINDS};
 use crate::random::Random;
 use crate::shapes::{shaped, Shaped};
+use crate::text_edges::{line_edge, text_edge, Edged};
 
 /// The number of generated files; their seeds are the numbers below it.
 pub const SAMPLES: u64 = 6_000;
 
 /// The number of generated files with chains and rings; their seeds are the numbers from `SAMPLES` on.
 pub const SHAPES: u64 = 4_000;
+
+/// The number of generated files whose text stands at a limit; their seeds are the numbers from `SAMPLES` + `SHAPES` on.
+pub const TEXTS: u64 = 400;
 
 /// What the generator knows of a file's answer.
 #[derive(Clone, Copy)]
@@ -31,7 +35,13 @@ pub struct Sample {
 
 /// The file with chains and rings of `seed`, if it is the seed of one.
 pub fn shape(seed: u64) -> Option<Shaped> {
-    (seed >= SAMPLES).then(|| shaped(&mut Random::new(seed)))
+    (SAMPLES..SAMPLES + SHAPES).contains(&seed).then(|| shaped(&mut Random::new(seed)))
+}
+
+/// The file whose text stands at a limit of `seed`, if it is the seed of one.
+pub fn edged(seed: u64) -> Option<Edged> {
+    let edge = [line_edge, text_edge][seed as usize % 2];
+    (seed >= SAMPLES + SHAPES).then(|| edge(&mut Random::new(seed)))
 }
 
 /// The file of `seed`: below `SAMPLES` one of 20 stands at a limit, one of 100 at one of cost lines, half are damaged,
@@ -39,6 +49,9 @@ pub fn shape(seed: u64) -> Option<Shaped> {
 pub fn sample(seed: u64) -> Sample {
     if let Some(shaped) = shape(seed) {
         return Sample { bytes: shaped.bytes, due: Due::Read };
+    }
+    if let Some(edged) = edged(seed) {
+        return Sample { bytes: edged.bytes, due: Due::Read };
     }
     let mut random = Random::new(seed);
     match seed % 100 {

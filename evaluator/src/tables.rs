@@ -25,7 +25,7 @@ const LIMITS: [(&str, usize, usize); 8] = [
 
 /// The limits of cost lines in the manual's order: the words, the number, and a line one past it, behind a first one.
 const COST_LIMITS: [(&str, usize, &str); 4] = [
-    ("cents of a price, before its supplement", CENTS as usize, "(cost b 1000001 0)"),
+    ("cents of a price, with its supplement", CENTS as usize, "(cost b 1980199 1)"),
     ("per cent of a supplement", PER_CENT as usize, "(cost b 0 101)"),
     ("digits of a price or of a supplement", DIGITS, "(cost b 00000001 0)"),
     ("`cost` lines for a name", 1, "(cost a 0 0)"),

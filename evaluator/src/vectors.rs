@@ -9,6 +9,7 @@ use crate::layers::{dependence, numbers, rings};
 use crate::model::mask;
 use crate::plain::{tables, Answered, Operation, Sums};
 use crate::question::{ask, Engine};
+use crate::writing::written;
 use std::path::Path;
 
 /// What an operation runs on: a case file that is read first, a record and tables, or its arguments alone.
@@ -83,6 +84,12 @@ impl Vector {
         Ok(Vector { operation, subject, expected: text("out")? })
     }
 
+    /// The vector on the case file `path`, if there is one.
+    pub fn beside(path: &Path) -> Result<Option<Vector>, String> {
+        let arguments = path.with_extension("args");
+        arguments.exists().then(|| Vector::load(&arguments)).transpose()
+    }
+
     /// Whether an operation with the answer `text` answers as it should: with the stored answer, or with one ring of
     /// those stored.
     pub fn allows(&self, text: &str) -> bool {
@@ -103,6 +110,9 @@ impl Vector {
         match (&self.operation, held.case()) {
             (Operation::Compare(pair), _) => Answered::Compared(pair.outcome()),
             (Operation::Read, _) => Answered::Read(held),
+            (Operation::Writeback { bytes }, _) => {
+                written(&held, *bytes).map_or_else(Answered::Refused, Answered::Written)
+            }
             (_, None) => Answered::Refused(13),
             (Operation::Settle { setting }, Some(case)) => settled(case, *setting),
             (Operation::Question { slots, bytes }, Some(case)) => asked(case, *slots, *bytes),

@@ -11,7 +11,7 @@
 #include <string.h>
 #include <sys/mman.h>
 
-enum { STACK_BYTES = 1 << 20, SPARE_BYTES = 1 << 16, PAINT = 0xa5, LISTED = 1024, FUNCTIONS = 5 };
+enum { STACK_BYTES = 1 << 20, SPARE_BYTES = 1 << 16, PAINT = 0xa5, LISTED = 1024, FUNCTIONS = 6 };
 
 /* Files up to one byte past the longest that is read. */
 enum { ROOM = CAUSES_FILE_BYTES + 1 };
@@ -60,6 +60,12 @@ static void call_layers(void) {
                             CAUSES_CONSTRAINT_WORDS, formula, CAUSES_FORMULA_BYTES, answer, CAUSES_LAYERS_WORDS);
 }
 
+static void call_write(void) {
+    refusal = causes_write(record, CAUSES_RECORD_WORDS, clauses, CAUSES_CLAUSE_WORDS, constraints,
+                           CAUSES_CONSTRAINT_WORDS, formula, CAUSES_FORMULA_BYTES, names, CAUSES_NAMES_BYTES, prices,
+                           CAUSES_PRICES, out, CAUSES_FILE_BYTES, answer, CAUSES_WRITE_WORDS);
+}
+
 static void call_report(void) {
     refusal = causes_report(file, file_bytes, out, CAUSES_REPORT_BYTES, answer, CAUSES_REPORT_WORDS);
 }
@@ -70,6 +76,7 @@ static Function function[FUNCTIONS] = {
     {"causes_question", call_question, 0, "-"},
     {"causes_layers", call_layers, 0, "-"},
     {"causes_report", call_report, 0, "-"},
+    {"causes_write", call_write, 0, "-"},
 };
 
 /* Paints the stack below this frame, makes the call, and takes what it used. The paint's own writer must not be below
@@ -110,6 +117,8 @@ static void measure_file(const char *name) {
         if (refusal != 0) fail("a case that was read is refused");
         measured(&function[3], name);
         if (refusal != 0) fail("a case that was read is refused");
+        measured(&function[5], name);
+        if (refusal != 0 && refusal != CAUSES_LONG_TEXT) fail("a case that was read is refused");
     }
     measured(&function[4], name);
 }

@@ -1,38 +1,20 @@
--- Lists by their entries, and the clauses, constraints and formulas of sound tables: each is well formed, as what is
--- read is. Assumes nothing.
+-- The clauses, constraints and formulas of sound tables: each is well formed, as what is read is. Assumes nothing.
 use mathlib.Core.Path.{_≡_}
 use mathlib.Core.Bool.{true, not, _&&_}
-use mathlib.Core.List.{List, [], _∷_}
-use Prim.Native.Nat.{ℕ, zero, suc, _*_, _/_, _%_, _^_, _≤_, _<_}
-use native.Mathlib.Omega.{arith}
+use mathlib.Core.List.{List}
+use Prim.Native.Nat.{ℕ, _*_, _/_, _%_, _^_}
 use lib.Dec.{ltb}
-use lib.ListN.{length, getD, drop, length-take}
+use lib.ListN.{getD}
 use borrow.Author.Tests.{ltb-true, not-true}
-use Rattle.words.specs.Lists.{listOf}
 use Rattle.words.proofs.Tests.{and-true-l, and-true-r}
-use Rattle.words.proofs.Lists.{list-of-length}
-use Rattle.logic.specs.Nodes.{nodes, formulaOf}
+use Rattle.logic.specs.Nodes.{formulaOf}
 use Rattle.logic.proofs.Spelled.{one-formula-accepted}
-use Rattle.program.specs.Case.{partSize, plainAt, negatedAt, forbidden, forbiddenNot, constraintKind, nodesOf}
+use Rattle.program.specs.Case.{plainAt, negatedAt, forbidden, forbiddenNot, constraintKind, nodesOf}
 use Rattle.program.specs.Sound.{within, bare, shaped, soundClause, soundConstraint, soundFormula}
-use Rattle.program.proofs.Soundness.{formula-few, formula-one, clauseTest, constraintTest}
-use Rattle.text.proofs.Each.{Each, each-append}
-use Rattle.reader.proofs.WellFormed.{Rows, BitsBelow, ClauseFormed, ConstraintFormed, QueryFormed}
+use Rattle.program.proofs.Soundness.{formula-one, clauseTest, constraintTest}
+use Rattle.reader.proofs.WellFormed.{BitsBelow, ClauseFormed, ConstraintFormed, QueryFormed}
 use Rattle.writing.specs.Used.{clauseIn, constraintIn}
-
--- Lists by their entries
-
-pub each-list-of : {A : Type 0} (P : A → Type 0) (n : ℕ) (f : ℕ → A) → ((i : ℕ) → i < n → P (f i)) → Each P (listOf n f)
-unfolding listOf
-each-list-of P zero f h = tt
-each-list-of P (suc n) f h =
-    each-append P (listOf n f) (f n ∷ []) (each-list-of P n f (λ i l. h i (omega arith))) (h n (omega arith), tt)
-
-pub rows-list-of : {A : Type 0} (P : A → Type 0) (m n : ℕ) (f : ℕ → A) → n ≤ m → ((i : ℕ) → i < n → P (f i))
-    → Rows P m (listOf n f)
-rows-list-of P m n f l h =
-    let e = list-of-length n f in
-    record { few = omega arith; each = each-list-of P n f h }
+use Rattle.writing.proofs.CaseRoom.{nodes-few}
 
 -- Words
 
@@ -77,17 +59,7 @@ constraint-formed n co k h =
 -- Formulas
 
 module _ (n : ℕ) (ns fo : List ℕ) (q : ℕ) (h : soundFormula n ns fo q ≡ true) where
-  -- the nodes of the formula that the table's nodes spell are those nodes
-  pub formula-nodes : nodes (formulaOf (nodesOf ns fo q)) ≡ nodesOf ns fo q
-  formula-nodes = one-formula-accepted n (nodesOf ns fo q) (formula-one n ns fo q h) .nodes-are
-
-  nodes-few : length (nodesOf ns fo q) ≤ partSize
-  unfolding nodesOf
-  nodes-few =
-      let few = formula-few n ns fo q h in
-      omega (arith, length-take (getD ns q 0) (drop (partSize * q) fo))
-
   pub query-formed : QueryFormed n (formulaOf (nodesOf ns fo q))
   query-formed =
       let s = one-formula-accepted n (nodesOf ns fo q) (formula-one n ns fo q h) in
-      record { over-atoms = s .over-atoms; not-deep = s .not-deep; nodes-few = rw formula-nodes nodes-few }
+      record { over-atoms = s .over-atoms; not-deep = s .not-deep; nodes-few = nodes-few n ns fo q h }

@@ -32,9 +32,9 @@ use Rattle.reader.proofs.EarlyRefusals.{fit-long}
 use Rattle.writing.specs.Used.{clauseIn, constraintIn, formulaIn, costsIn, saidOf}
 use Rattle.writing.specs.Operation.{writable}
 use Rattle.way_back.specs.Claims.{SameUsed}
-use Rattle.way_back.proofs.Formed.{formula-nodes}
+use Rattle.writing.proofs.CaseRoom.{writable-sound, formula-nodes}
 use Rattle.way_back.proofs.Costs.{costs-price}
-use Rattle.way_back.proofs.Writable.{writable-sound, row-is}
+use Rattle.way_back.proofs.Writable.{row-is}
 use Rattle.way_back.proofs.UsedRows.{rows-used, clause-words, constraint-words}
 
 module _ (c : Case) (t v : Lent) (h : writable c t ≡ true) (long : Long t) (room : Long v) where

@@ -27,9 +27,10 @@ use Rattle.reader.proofs.EarlyRefusals.{fit-long}
 use Rattle.writing.specs.Lines.{linesOf, lineText}
 use Rattle.writing.specs.Used.{clauseIn, formulaIn, saidOf}
 use Rattle.spelling.proofs.Pages.{short-lines}
+use Rattle.writing.proofs.CaseRoom.{writable-sound}
 use Rattle.writing.specs.Operation.{caseLines, caseText, writeRefusal}
 use Rattle.way_back.proofs.Costs.{costs-formed, costs-fresh}
-use Rattle.way_back.proofs.Writable.{writable-sound, name-is, name-atom, prices-few, said-formed}
+use Rattle.way_back.proofs.Writable.{name-is, name-atom, prices-few, said-formed}
 use Rattle.way_back.proofs.UsedRows.{rows-taken, clause-words}
 use Rattle.way_back.proofs.Unrefused.{Unrefused, unrefused}
 use Rattle.way_back.proofs.FittingLines.{Reads, lines-alone, lines-read}

@@ -36,7 +36,9 @@ use Rattle.reader.proofs.WellFormed.{NamesFormed, ClauseFormed, ConstraintForme
 use Rattle.reader.proofs.WellFormed.{well-formed}
 use Rattle.writing.specs.Used.{clauseIn, constraintIn, formulaIn, saidOf}
 use Rattle.writing.specs.Operation.{isNameRow, isRepeated, isWritableAtom, writable}
-use Rattle.way_back.proofs.Formed.{rows-list-of, within-formed, clause-formed, constraint-formed, query-formed}
+use Rattle.writing.proofs.Rows.{rows-list-of}
+use Rattle.writing.proofs.CaseRoom.{writable-sound}
+use Rattle.way_back.proofs.Formed.{within-formed, clause-formed, constraint-formed, query-formed}
 
 -- An atom
 
@@ -84,16 +86,15 @@ module _ (t : Lent) (a : ℕ) (h : isWritableAtom (t .names) (t .prices) a ≡ t
 -- The case
 
 module _ (c : Case) (t : Lent) (h : writable c t ≡ true) where
-  pub writable-sound : sound c (t .clauses) (t .constraints) (t .formula) ≡ true
-  unfolding writable
-  writable-sound =
-      and-true-l (sound c (t .clauses) (t .constraints) (t .formula)) (every (c .atoms) (isWritableAtom (t .names) (t .prices))) h
+  is-sound : sound c (t .clauses) (t .constraints) (t .formula) ≡ true
+  is-sound = writable-sound c t h
 
   writable-atom : (a : ℕ) → a < c .atoms → isWritableAtom (t .names) (t .prices) a ≡ true
   unfolding writable
   writable-atom =
       every-at (c .atoms) (isWritableAtom (t .names) (t .prices))
-      (and-true-r (sound c (t .clauses) (t .constraints) (t .formula)) (every (c .atoms) (isWritableAtom (t .names) (t .prices))) h)
+      (and-true-r (sound c (t .clauses) (t .constraints) (t .formula))
+      (every (c .atoms) (isWritableAtom (t .names) (t .prices))) h)
 
   abbrev pub names : List (List ℕ)
   names = listOf (c .atoms) (nameIn (t .names))
@@ -125,7 +126,7 @@ module _ (c : Case) (t : Lent) (h : writable c t ≡ true) where
 
   pub names-formed : NamesFormed names
   names-formed = record {
-    rows = rows-list-of IsName 64 (c .atoms) (nameIn (t .names)) (sound-atoms c _ _ _ writable-sound .1) name-is;
+    rows = rows-list-of IsName 64 (c .atoms) (nameIn (t .names)) (sound-atoms c _ _ _ is-sound .1) name-is;
     distinct = names-distinct;
   }
 
@@ -141,25 +142,25 @@ module _ (c : Case) (t : Lent) (h : writable c t ≡ true) where
   unfolding soundClauses
   each-clause k l =
       clause-formed (c .atoms) (t .clauses) k
-      (every-at (c .clauses) (clauseTest (c .atoms) (t .clauses)) (sound-clause-table c _ _ _ writable-sound) k l)
+      (every-at (c .clauses) (clauseTest (c .atoms) (t .clauses)) (sound-clause-table c _ _ _ is-sound) k l)
 
   pub each-constraint : (k : ℕ) → k < c .constraints → ConstraintFormed (c .atoms) (constraintIn (t .constraints) k)
   unfolding soundConstraints
   each-constraint k l =
       constraint-formed (c .atoms) (t .constraints) k
       (every-at (c .constraints) (constraintTest (c .atoms) (t .constraints))
-      (sound-constraint-table c _ _ _ writable-sound) k l)
+      (sound-constraint-table c _ _ _ is-sound) k l)
 
   pub each-formula : (q : ℕ) → q < c .formulas → QueryFormed (c .atoms) (formulaIn c (t .formula) q)
   each-formula q l =
-      query-formed (c .atoms) (c .nodes) (t .formula) q (sound-each c _ _ _ writable-sound q l)
+      query-formed (c .atoms) (c .nodes) (t .formula) q (sound-each c _ _ _ is-sound q l)
 
   -- All of it
 
   pub said-formed : WellFormed (saidOf c t)
   said-formed =
       let same : length names ≡ c .atoms = list-of-length (c .atoms) (nameIn (t .names)) in
-      let s = writable-sound in
+      let s = is-sound in
       let clauses = rows-list-of (ClauseFormed (c .atoms)) 256 (c .clauses) _ (sound-clauses c _ _ _ s) each-clause in
       let constraints =
       rows-list-of (ConstraintFormed (c .atoms)) 32 (c .constraints) _ (sound-constraints c _ _ _ s) each-constraint in

@@ -6,7 +6,6 @@
 --   WayBack              so of every case that writing does not refuse, and what reading its text gives
 use mathlib.Core.Path.{_≡_}
 use mathlib.Core.Bool.{true}
-use mathlib.Core.List.{List}
 use Prim.Native.Nat.{ℕ, _*_, _<_}
 use lib.ListN.{getD, take}
 use Rattle.program.specs.declared.case.Case.{Case}

@@ -21,7 +21,8 @@ use Rattle.output.specs.Writing.{Room}
 use Rattle.spelling.specs.declared.Page.{Page}
 use Rattle.spelling.specs.Page.{Sets}
 use Rattle.spelling.proofs.Pages.{sets-none}
-use Rattle.writing.specs.Lines.{literalsOn, literalsFor, clauseLine, constraintLine, queryLine, costLine, lineText}
+use Rattle.writing.specs.Lines.{literalsOn, literalsFor, clauseLine, constraintLine, queryLine, costLine}
+use Rattle.writing.specs.Lines.{lineText}
 use Rattle.writing.specs.Used.{clauseIn, constraintIn, formulaIn, costOf, costsIn, saidOf}
 use Rattle.writing.specs.Operation.{caseLines}
 use Rattle.writing.specs.Steps.{atomTexts, clauseTexts, constraintTexts, seenTexts, queryTexts, pricedText}
@@ -96,7 +97,8 @@ module _ (c : Case) (t : Lent) where
   case-texts : caseLines c t ≡ fromAtoms
   case-texts =
       both-texts (map Line.atom (st .names)) _ (texts-of Line.atom (c .atoms) name)
-      (both-texts (map (clauseLine name) (st .clauses)) _ (texts-of (clauseLine name) (c .clauses) (clauseIn (t .clauses)))
+      (both-texts (map (clauseLine name) (st .clauses)) _
+      (texts-of (clauseLine name) (c .clauses) (clauseIn (t .clauses)))
       (both-texts (map (constraintLine name) (st .constraints)) _
       (texts-of (constraintLine name) (c .constraints) (constraintIn (t .constraints)))
       (both-texts (map Line.seen (literalsFor name (c .plain) (c .negated))) _

@@ -1,16 +1,15 @@
 -- What a case that fits gives to the steps of writing it. Assumes nothing.
-use mathlib.Core.Path.{_≡_, refl}
-use mathlib.Core.Bool.{Bool, true, false, not, _&&_, false≢true}
-use mathlib.Core.List.{List}
-use Prim.Native.Nat.{ℕ, zero, suc, _*_, _/_, _%_, _≤_, _<_}
+use mathlib.Core.Path.{_≡_}
+use mathlib.Core.Bool.{Bool, true, _&&_, false≢true}
+use Prim.Native.Nat.{ℕ, zero, suc, _*_, _/_, _%_, _≤_}
 use native.Mathlib.Omega.{arith}
 use lib.Dec.{ltb}
 use lib.ListN.{length, getD}
 use Rattle.words.proofs.Below.{every-at}
-use Rattle.words.proofs.Tests.{and-true-l, and-true-r}
+use Rattle.words.proofs.Tests.{and-true-r}
 use Rattle.logic.proofs.Spelling.{one-formula-spells}
 use Rattle.program.specs.declared.case.Case.{Case}
-use Rattle.program.specs.Case.{formulaSize, nameSize, priceSize, plainAt, negatedAt, kindAt, nodesOf}
+use Rattle.program.specs.Case.{formulaSize, nameSize, priceSize, plainAt, negatedAt, nodesOf}
 use Rattle.program.specs.Sound.{within, bare, shaped, soundClause, soundClauses, sound}
 use Rattle.program.proofs.Soundness.{clauseTest, sound-clause-table, sound-atoms, sound-clauses, sound-constraints}
 use Rattle.program.proofs.Soundness.{sound-formulas, sound-each, sound-kind, formula-few, formula-one}

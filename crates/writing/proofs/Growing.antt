@@ -1,5 +1,5 @@
 -- Lines written one entry of a table after another: those of the first k entries are written. Assumes nothing.
-use mathlib.Core.Path.{_≡_, refl, sym, ap, _∙_}
+use mathlib.Core.Path.{_≡_, refl, ap, _∙_}
 use mathlib.Core.List.{List, [], _∷_, _++_}
 use mathlib.Core.Logic.{⊎-elim}
 use Prim.Native.Nat.{ℕ, zero, suc, _+_, _≤_, _<_}
@@ -62,7 +62,8 @@ module _ {lines entry : ℕ → List (List ℕ)} (grows : Grows lines entry) whe
       fits = omega (arith, h .sets .place-is, size-more grows k, size-le grows (k + 1) n (omega arith), r .fits);
     }
 
-    pub entry-more : {r : Page} {out₂ : List ℕ} → k < n → Sets (entry k) out₁ q r out₂ → AtEntry lines n out g (k + 1) r out₂
+    pub entry-more : {r : Page} {out₂ : List ℕ} → k < n → Sets (entry k) out₁ q r out₂
+        → AtEntry lines n out g (k + 1) r out₂
     entry-more l e = record { within = omega arith; sets = rw (grows .more k) (sets-both (h .sets) (entry k) e) }
 
     pub entry-end : n ≤ k → Sets (lines n) out g q out₁

@@ -4,7 +4,7 @@ use mathlib.Core.Bool.{false}
 use mathlib.Core.List.{List, [], _∷_, _++_, append-assoc}
 use Prim.Native.Nat.{ℕ, _+_, _≤_}
 use native.Mathlib.Omega.{arith}
-use lib.ListN.{length, getD}
+use lib.ListN.{getD}
 use Rattle.text.specs.Bytes.{bytes}
 use Rattle.text.specs.Tokens.{Token}
 use Rattle.text.specs.Spelled.{spelledFrom, spelled, textOf}
@@ -18,12 +18,10 @@ use Rattle.spelling.specs.declared.Page.{Page}
 use Rattle.spelling.specs.Pen.{inked, Spells}
 use Rattle.spelling.specs.Page.{startOf, Ends, Sets}
 use Rattle.spelling.proofs.Pens.{spelled-append, spells-both, room-before, room-behind}
-use Rattle.spelling.proofs.Pages.{line-room, end-room, line-set}
+use Rattle.spelling.proofs.Pages.{line-room, line-set}
 use Rattle.writing.specs.Lines.{lineText}
 use Rattle.writing.specs.Steps.{openedBy, Closes}
-
-abbrev closer : List Token
-closer = Token.closing ∷ []
+use Rattle.writing.proofs.Parts.{closer}
 
 -- ---- what closes a line
 module _ (g : Page) (p : Pen) where
@@ -34,7 +32,10 @@ module _ (g : Page) (p : Pen) where
   module _ {q : Pen} {out out₁ : List ℕ} (c : Spells closer out p q out₁) where
     pub feed-room : (g .at ≤ p .at) × Room (41 ∷ (10 ∷ [])) (p .at) → (g .at ≤ q .at) × Room (10 ∷ []) (q .at)
     unfolding spelledFrom
-    feed-room h = (omega (arith, c .place-is, h .0), laying.room-behind (41 ∷ []) (10 ∷ []) (p .at) (h .1) (c .place-is))
+    feed-room h = (
+      omega (arith, c .place-is, h .0),
+      laying.room-behind (41 ∷ []) (10 ∷ []) (p .at) (h .1) (c .place-is),
+    )
 
     pub closes : {r : Page} {out₂ : List ℕ} → Ends g q out₁ r out₂ → Closes g p out r out₂
     closes e ts before h = line-set g (spells-both h closer c) e

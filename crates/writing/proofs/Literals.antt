@@ -19,7 +19,8 @@ use Rattle.writing.proofs.Bits.{onTokens}
 
 -- ---- a bracket and a word
 module _ (w : List ℕ) (p : Pen) where
-  pub open-room : Room (inked p (Token.opening ∷ (Token.word w ∷ []))) (p .at) → Room (inked p (Token.opening ∷ [])) (p .at)
+  pub open-room : Room (inked p (Token.opening ∷ (Token.word w ∷ []))) (p .at)
+      → Room (inked p (Token.opening ∷ [])) (p .at)
   open-room r = room-before (Token.opening ∷ []) (Token.word w ∷ []) p r
 
   module _ {q : Pen} {out out₁ : List ℕ} (h : Spells (Token.opening ∷ []) out p q out₁) where

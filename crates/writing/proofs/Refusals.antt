@@ -1,10 +1,9 @@
 -- The refusals of writing one after the other, and the text where there is none. Assumes nothing.
-use mathlib.Core.Path.{_≡_, sym, ap, _∙_}
-use mathlib.Core.Bool.{Bool, true, false, not, _&&_}
+use mathlib.Core.Path.{_≡_, sym, _∙_}
+use mathlib.Core.Bool.{Bool, true, false, not}
 use mathlib.Core.List.{List}
-use Prim.Native.Nat.{ℕ, suc, _+_, _≤_, _<_}
+use Prim.Native.Nat.{ℕ, suc, _≤_, _<_}
 use native.Mathlib.Nat.{zero-add}
-use native.Mathlib.Omega.{arith}
 use lib.Dec.{leb}
 use lib.ListN.{length}
 use borrow.Author.Tests.{le-leb, lt-leb, not-true, not-false}
@@ -13,7 +12,7 @@ use Rattle.store.specs.Lent.{Lent}
 use Rattle.reader.specs.Operation.{tablesFit}
 use Rattle.output.proofs.Showing.{refusedWith, ofLength, shown-refused, shown-written}
 use Rattle.spelling.specs.declared.Page.{Page}
-use Rattle.spelling.specs.Page.{someLongLine, Sets}
+use Rattle.spelling.specs.Page.{Sets}
 use Rattle.spelling.proofs.Pages.{sets-writes}
 use Rattle.writing.specs.Operation.{writable, caseLines, caseText, writeRefusal, WrittenAs}
 use Rattle.writing.specs.Steps.{Fit, firstPage}
@@ -69,8 +68,15 @@ module _ (c : Case) (t : Lent) (out : List ℕ) where
           where
             fourth : writeRefusal c t (length out) ≡ 19
             fourth =
-                rw (f .tables-fit, f .is-writable, ← s .long-is, h, ← size, le-leb (g .at) 32768 l,
-                lt-leb (g .at) (length out) k)
+                rw (
+                  f .tables-fit,
+                  f .is-writable,
+                  ← s .long-is,
+                  h,
+                  ← size,
+                  le-leb (g .at) 32768 l,
+                  lt-leb (g .at) (length out) k,
+                )
 
         pub text-written : g .at ≤ length out → {r : Page} {u : List ℕ} → Sets (caseLines c t) out firstPage r u
             → WrittenAs c t out (ofLength (g .at)) u
@@ -79,5 +85,12 @@ module _ (c : Case) (t : Lent) (out : List ℕ) where
           where
             none : writeRefusal c t (length out) ≡ 0
             none =
-                rw (f .tables-fit, f .is-writable, ← s .long-is, h, ← size, le-leb (g .at) 32768 l,
-                le-leb (g .at) (length out) k)
+                rw (
+                  f .tables-fit,
+                  f .is-writable,
+                  ← s .long-is,
+                  h,
+                  ← size,
+                  le-leb (g .at) 32768 l,
+                  le-leb (g .at) (length out) k,
+                )

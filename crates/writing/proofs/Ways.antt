@@ -1,6 +1,6 @@
 -- Things written one behind another: what is written so far and what is left make up the whole. Assumes nothing.
 use mathlib.Core.Path.{_≡_, refl, sym, ap, _∙_}
-use mathlib.Core.List.{List, [], _∷_, _++_, append-assoc, append-nil}
+use mathlib.Core.List.{List, [], _++_, append-assoc, append-nil}
 use Prim.Native.Nat.{ℕ}
 use Rattle.text.specs.Tokens.{Token}
 use Rattle.text.specs.Spelled.{textOf}

@@ -10,7 +10,7 @@
 --   linesOf name st         the lines of what st says
 --   lineText x              the text of the line x, without its LF
 use mathlib.Core.Bool.{Bool, true, false}
-use mathlib.Core.List.{List, [], _∷_, _++_, map}
+use mathlib.Core.List.{List, [], _++_, map}
 use Prim.Native.Nat.{ℕ}
 use Rattle.logic.specs.Formula.{Formula}
 use Rattle.program.specs.Cause.{atomsIn}

@@ -7,7 +7,7 @@
 --   formulaIn c fo q    formula q of the case c
 --   costsIn pr n        the prices above 0 of the first n atoms, in atom order
 --   saidOf c t          what the case c with the tables t says
-use mathlib.Core.List.{List, [], _∷_, _++_}
+use mathlib.Core.List.{List, [], _++_}
 use Prim.Native.Nat.{ℕ, zero, suc}
 use lib.Dec.{ltb}
 use lib.ListN.{getD}

@@ -145,10 +145,10 @@ fn cost_lines(out: &mut [u8], g: Page, names: &[u8], prices: &[u32], n: usize) -
         (now (out .exit)) ⌝ }
 {
     let mut page = g;
-    let mut a = 0;
-    while a < n {
-        page = priced_line(out, page, names, prices, a);
-        a += 1;
+    let mut atom = 0;
+    while atom < n {
+        page = priced_line(out, page, names, prices, atom);
+        atom += 1;
     }
     page
 }

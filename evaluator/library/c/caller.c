@@ -3,7 +3,7 @@
  *
  *   constants                  NAME VALUE, a line each
  *   texts                      NUMBER TEXT, a line for each number up to 40 that has one; then the version
- *   calls SETTING SLOTS WORK OUT
+ *   calls SETTING SLOTS WORK OUT TEXT
  *                              what each function answers and writes: by the plain calls, then by the struct's
  *   short                      what each function answers with one element too few of each lent memory
  */
@@ -94,10 +94,17 @@ static void print_tables(void)
     printf("\n");
 }
 
-static void plain_calls(uint64_t setting, size_t slots, size_t bytes, size_t out_bytes)
+/* The output as it is lent. */
+static void print_out(size_t bytes)
+{
+    fwrite(out, 1, bytes, stdout);
+    printf("\n");
+}
+
+static void plain_calls(uint64_t setting, size_t slots, size_t bytes, size_t out_bytes, size_t text_bytes)
 {
     uint64_t settled[CAUSES_SETTLE_WORDS], answer[CAUSES_QUESTION_WORDS], layers[CAUSES_LAYERS_WORDS];
-    uint64_t length[CAUSES_REPORT_WORDS];
+    uint64_t length[CAUSES_REPORT_WORDS], written[CAUSES_WRITE_WORDS];
     uint32_t refusal;
     memset(&lent, 0xee, sizeof lent);
     printf("read %s\n", refusal_name(read_file()));
@@ -123,18 +130,25 @@ static void plain_calls(uint64_t setting, size_t slots, size_t bytes, size_t out
     refusal = causes_report(file, file_bytes, out, out_bytes, length, CAUSES_REPORT_WORDS);
     printf("report %s\n", refusal_name(refusal));
     print_words("length", length, CAUSES_REPORT_WORDS);
-    fwrite(out, 1, out_bytes, stdout);
-    printf("\n");
+    print_out(out_bytes);
+    blank();
+    refusal = causes_write(found + 1, CAUSES_RECORD_WORDS, lent.clauses, CAUSES_CLAUSE_WORDS,
+                           lent.constraints, CAUSES_CONSTRAINT_WORDS, lent.formula, CAUSES_FORMULA_BYTES,
+                           lent.names, CAUSES_NAMES_BYTES, lent.prices, CAUSES_PRICES, out, text_bytes,
+                           written, CAUSES_WRITE_WORDS);
+    printf("write %s\n", refusal_name(refusal));
+    print_words("length", written, CAUSES_WRITE_WORDS);
+    print_out(text_bytes);
 }
 
-static void struct_calls(uint64_t setting, size_t slots, size_t bytes)
+static void struct_calls(uint64_t setting, size_t slots, size_t bytes, size_t text_bytes)
 {
     struct causes_settled settled;
     struct causes_answer answer;
     struct causes_layering layering;
     uint8_t causes[CAUSES_ATOMS];
     char name[CAUSES_NAME_BYTES + 1];
-    uint64_t line;
+    uint64_t line, length;
     size_t i;
     uint32_t refusal;
     memset(&lent, 0xee, sizeof lent);
@@ -160,10 +174,13 @@ static void struct_calls(uint64_t setting, size_t slots, size_t bytes)
     print_bytes("work", work, bytes);
     refusal = causes_case_layers(&lent, &layering);
     print_layers(refusal, layering.layered, layering.count, layering.entries);
+    refusal = causes_case_write(&lent, out, text_bytes, &length);
+    printf("write %s %" PRIu64 "\n", refusal_name(refusal), length);
+    print_out(text_bytes);
     printf("read %s\n", refusal_name(causes_case_read(&lent, file, file_bytes, NULL)));
 }
 
-/* Each lent memory in its turn, one element short: of reading, settling, the question, layers and the report. */
+/* Each lent memory in its turn, one element short: of reading, settling, the question, layers, writing and the report. */
 static void short_calls(void)
 {
     uint64_t answer[CAUSES_LAYERS_WORDS];
@@ -193,6 +210,12 @@ static void short_calls(void)
         refusal = causes_layers(found + 1, CAUSES_RECORD_WORDS - less[3], lent.clauses, CAUSES_CLAUSE_WORDS - less[0],
                                 lent.constraints, CAUSES_CONSTRAINT_WORDS - less[1],
                                 lent.formula, CAUSES_FORMULA_BYTES - less[2], answer, CAUSES_LAYERS_WORDS - less[5]);
+        printf(" %s", refusal_name(refusal));
+        refusal = causes_write(found + 1, CAUSES_RECORD_WORDS - less[6], lent.clauses, CAUSES_CLAUSE_WORDS - less[0],
+                               lent.constraints, CAUSES_CONSTRAINT_WORDS - less[1],
+                               lent.formula, CAUSES_FORMULA_BYTES - less[2], lent.names, CAUSES_NAMES_BYTES - less[3],
+                               lent.prices, CAUSES_PRICES - less[4], out, CAUSES_FILE_BYTES,
+                               answer, CAUSES_WRITE_WORDS - less[5]);
         printf(" %s", refusal_name(refusal));
         refusal = causes_report(file, file_bytes, out, CAUSES_REPORT_BYTES, answer, CAUSES_REPORT_WORDS - less[5]);
         printf(" %s\n", refusal_name(refusal));
@@ -230,12 +253,14 @@ int main(int count, char **words)
         short_calls();
         return 0;
     }
-    if (strcmp(what, "calls") == 0 && count == 6 && number(words, 3) <= CAUSES_MINIMAL
-        && number(words, 4) <= CAUSES_SETTINGS && number(words, 5) <= CAUSES_REPORT_BYTES) {
-        plain_calls(number(words, 2), (size_t)number(words, 3), (size_t)number(words, 4), (size_t)number(words, 5));
-        struct_calls(number(words, 2), (size_t)number(words, 3), (size_t)number(words, 4));
+    if (strcmp(what, "calls") == 0 && count == 7 && number(words, 3) <= CAUSES_MINIMAL
+        && number(words, 4) <= CAUSES_SETTINGS && number(words, 5) <= CAUSES_REPORT_BYTES
+        && number(words, 6) <= CAUSES_REPORT_BYTES) {
+        plain_calls(number(words, 2), (size_t)number(words, 3), (size_t)number(words, 4), (size_t)number(words, 5),
+                    (size_t)number(words, 6));
+        struct_calls(number(words, 2), (size_t)number(words, 3), (size_t)number(words, 4), (size_t)number(words, 6));
         return 0;
     }
-    fprintf(stderr, "caller: constants | texts | short | calls SETTING SLOTS WORK OUT\n");
+    fprintf(stderr, "caller: constants | texts | short | calls SETTING SLOTS WORK OUT TEXT\n");
     return 2;
 }

@@ -1,6 +1,6 @@
 /* Makes one call on a case file from standard input in a thread whose stack has the header's size for it.
  *
- *   thread read|settle|question|layers|report [BYTES]
+ *   thread read|settle|question|layers|write|report [BYTES]
  *
  * The status is 0 if the call is answered, or ends where the file is one that reading refuses. BYTES is another size, to
  * find the least with which the call ends. */
@@ -20,6 +20,7 @@ static uint16_t list[CAUSES_MINIMAL];
 static uint8_t work[CAUSES_SETTINGS];
 static uint8_t out[CAUSES_REPORT_BYTES];
 static uint64_t length[CAUSES_REPORT_WORDS];
+static uint64_t text_length;
 static uint32_t refusal = 1;
 
 static void *run_read(void *unused)
@@ -46,6 +47,12 @@ static void *run_layers(void *unused)
     return unused;
 }
 
+static void *run_write(void *unused)
+{
+    refusal = causes_case_write(&lent, out, CAUSES_FILE_BYTES, &text_length);
+    return unused;
+}
+
 static void *run_report(void *unused)
 {
     refusal = causes_report(file, file_bytes, out, CAUSES_REPORT_BYTES, length, CAUSES_REPORT_WORDS);
@@ -61,6 +68,7 @@ static const struct {
     {"settle", CAUSES_SETTLE_STACK, run_settle},
     {"question", CAUSES_QUESTION_STACK, run_question},
     {"layers", CAUSES_LAYERS_STACK, run_layers},
+    {"write", CAUSES_WRITE_STACK, run_write},
     {"report", CAUSES_REPORT_STACK, run_report},
 };
 
@@ -84,6 +92,6 @@ int main(int count, char **words)
             size_t bytes = count > 2 ? strtoul(words[2], NULL, 10) : operations[i].bytes;
             return in_thread(operations[i].run, bytes) && (refusal == 0 || !accepted) ? 0 : 1;
         }
-    fprintf(stderr, "thread: read|settle|question|layers|report [BYTES]\n");
+    fprintf(stderr, "thread: read|settle|question|layers|write|report [BYTES]\n");
     return 2;
 }

@@ -135,16 +135,17 @@ pub fn read(file: &[u8], sizes: Sizes, nowhere: bool, due: &ReadDue) -> Complain
     complaints.into_iter().flatten().collect()
 }
 
-/// The record and the tables lent to settling, the question or the layers.
-struct LentCase {
-    record: Lent<u64>,
-    clauses: Lent<u64>,
-    constraints: Lent<u64>,
-    formula: Lent<u8>,
+/// The record and the tables lent to settling, the question, the layers or writing.
+pub struct LentCase {
+    pub record: Lent<u64>,
+    pub clauses: Lent<u64>,
+    pub constraints: Lent<u64>,
+    pub formula: Lent<u8>,
 }
 
 impl LentCase {
-    fn of(held: &Held) -> LentCase {
+    /// The record of `held` and those of its tables.
+    pub fn of(held: &Held) -> LentCase {
         LentCase {
             record: Lent::holding(&held.record),
             clauses: Lent::holding(&held.clauses),
@@ -154,7 +155,7 @@ impl LentCase {
     }
 
     /// The complaints that some of it was touched.
-    fn touched(&self) -> [Option<String>; 4] {
+    pub fn touched(&self) -> [Option<String>; 4] {
         [
             self.record.complaint("record", &[]),
             self.clauses.complaint("clauses", &[]),

@@ -49,13 +49,14 @@ pub fn refused(tests: &mut Tests, what: &str, held: &Held, number: u32) {
 }
 
 /// `held` with a table of `length` elements, cut or with garbage behind.
-fn resized(held: &Held, table: &str, length: usize) -> Held {
+pub fn resized(held: &Held, table: &str, length: usize) -> Held {
     let mut random = Random::new(length as u64);
     let mut other = held.clone();
     match table {
         "clauses" => other.clauses.resize_with(length, || word(&mut random)),
         "constraints" => other.constraints.resize_with(length, || word(&mut random)),
         "formula" => other.formula.resize_with(length, || word(&mut random) as u8),
+        "names" => other.names.resize_with(length, || word(&mut random) as u8),
         "prices" => other.prices.resize_with(length, || word(&mut random) as u32),
         _ => other.record.resize_with(length, || word(&mut random)),
     }

@@ -11,13 +11,14 @@ use crate::corpus::M4;
 use crate::due::{refused, unasked, Asking, Settling};
 use crate::held::{Held, FORMULA_BYTES};
 use crate::tests::{differing, Tests};
+use crate::write_call::WRITE_WORDS;
 use causes::{sizes, stack};
 use evaluator::answer::LIST_SLOTS;
 use evaluator::file::{self, ATOMS, CAUSES, CLAUSES, CONSTRAINTS, FILE_BYTES, NAME_BYTES, QUERIES};
 use std::path::Path;
 
 /// The refusals of documents 01 and 02.
-pub const REFUSALS: [(&str, u32); 18] = [
+pub const REFUSALS: [(&str, u32); 19] = [
     ("SHORT", 1),
     ("LONG_FILE", 2),
     ("LONG_LINE", 3),
@@ -35,6 +36,7 @@ pub const REFUSALS: [(&str, u32); 18] = [
     ("SHORT_WORK", 15),
     ("HIGH_PRICE", 16),
     ("SECOND_COST", 17),
+    ("LONG_TEXT", 18),
     ("SHORT_OUTPUT", 19),
 ];
 
@@ -111,6 +113,7 @@ pub fn due() -> Vec<(&'static str, u64)> {
         ("QUESTION_WORDS", unasked(13).answer.len() as u64),
         ("LAYERS_WORDS", 2 + ATOMS as u64),
         ("REPORT_WORDS", 1),
+        ("WRITE_WORDS", WRITE_WORDS as u64),
         ("UNEXPLAINED", verdict("(if p q)\n(if q p)\n(seen p)\n(query q)")),
         ("FOLLOWS", verdict("(query (then a a))")),
         ("DENIED", verdict("(if b a (not a))\n(seen (not b))\n(query b)")),
@@ -120,6 +123,7 @@ pub fn due() -> Vec<(&'static str, u64)> {
         ("QUESTION_STACK", stack::QUESTION as u64),
         ("LAYERS_STACK", stack::LAYERS as u64),
         ("REPORT_STACK", stack::REPORT as u64),
+        ("WRITE_STACK", stack::WRITE as u64),
     ];
     rows.extend(REFUSALS.map(|(name, number)| (name, u64::from(number))));
     rows

@@ -10,6 +10,7 @@ use crate::held::Held;
 use crate::lent::fenced_in_front;
 use crate::reports::lengths;
 use crate::tests::Tests;
+use crate::writing::{self, strewn_names};
 use evaluator::answer::answer;
 use evaluator::file;
 use evaluator::random::Random;
@@ -56,6 +57,15 @@ fn reports(tests: &mut Tests, inputs: &[Input]) {
     }
 }
 
+/// Writes each case, with garbage past its counts.
+fn writes(tests: &mut Tests, inputs: &[Input]) {
+    tests.family("a fence in front: write");
+    for (at, input) in inputs.iter().enumerate() {
+        let Ok(case) = file::read(&input.bytes) else { continue };
+        writing::lengths(tests, &input.name, &strewn_names(&mut Random::new(at as u64), &Held::of(&case)));
+    }
+}
+
 /// All families with the fence in front.
 pub fn run(tests: &mut Tests, folder: &Path) {
     let made = |bytes: &[u8]| Input { name: String::from("made here"), bytes: bytes.to_vec(), report: None };
@@ -69,5 +79,6 @@ pub fn run(tests: &mut Tests, folder: &Path) {
         reads(tests, &inputs);
         cases(tests, &inputs);
         reports(tests, &inputs);
+        writes(tests, &inputs);
     });
 }

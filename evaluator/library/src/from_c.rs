@@ -11,6 +11,7 @@ use crate::tests::{differing, Complaints, Tests};
 use evaluator::answer::answer;
 use evaluator::case::causes;
 use evaluator::file;
+use evaluator::writing::{self, tidied, tidy_text};
 use std::fmt::{Display, Write as _};
 use std::io::Write as _;
 use std::path::Path;
@@ -76,6 +77,7 @@ struct Lent {
     slots: usize,
     work: usize,
     out: usize,
+    text: usize,
 }
 
 /// What settling and the question of a file answer: a number and the words each, then the list and the work area.
@@ -161,6 +163,19 @@ fn told(bytes: &[u8], printed: &[u8]) -> Vec<u8> {
     all.join(&b'\n')
 }
 
+/// What writing the case of `bytes` answers with an output of `lent.text` bytes: the number, the length, the output; a
+/// refused file leaves a record that is not sound.
+fn written_back(bytes: &[u8], lent: &Lent) -> (u32, usize, Vec<u8>) {
+    let mut out = vec![OUT; lent.text];
+    let text = file::read(bytes).map_err(|_| 13).and_then(|case| writing::written(&Held::of(&case).full(), lent.text));
+    let text = match text {
+        Ok(text) => text,
+        Err(number) => return (number, 0, out),
+    };
+    out[..text.len()].copy_from_slice(text.as_bytes());
+    (0, text.len(), out)
+}
+
 /// What the plain calls print for `bytes`.
 fn plain(bytes: &[u8], lent: &Lent) -> Vec<u8> {
     let read = due::read(bytes);
@@ -178,7 +193,9 @@ fn plain(bytes: &[u8], lent: &Lent) -> Vec<u8> {
     lines += &layers_line(bytes);
     lines += &line("report", [refusal(if short { 19 } else { 0 })]);
     lines += &line("length", [if short { 0 } else { text.len() }]);
-    [lines.as_bytes(), &out, b"\n"].concat()
+    let (number, length, text) = written_back(bytes, lent);
+    let rest = line("write", [refusal(number)]) + &line("length", [length]);
+    [lines.as_bytes(), &out, b"\n", rest.as_bytes(), &text, b"\n"].concat()
 }
 
 /// What the struct's calls print for `bytes`.
@@ -204,8 +221,10 @@ fn by_struct(bytes: &[u8], lent: &Lent) -> Vec<u8> {
     rest += &(question_line(&answers.question, answered) + &line("verdicts", verdicts) + &line("counts", counts));
     rest += &(line("list", &answers.list) + &line("work", &answers.work));
     rest += &layers_line(bytes);
-    rest += &line("read", [refusal(read.refusal)]);
-    [lines.into_bytes(), rows.concat(), rest.into_bytes()].concat()
+    let (number, length, text) = written_back(bytes, lent);
+    rest += &line("write", [refusal(number).to_owned(), length.to_string()]);
+    let last = line("read", [refusal(read.refusal)]);
+    [lines.into_bytes(), rows.concat(), rest.into_bytes(), text, b"\n".to_vec(), last.into_bytes()].concat()
 }
 
 /// Calls every function on each of `inputs`: once with enough of everything, once past each limit.
@@ -213,14 +232,14 @@ fn calls(tests: &mut Tests, program: &Path, inputs: &[Input]) {
     tests.family("C: every function on files");
     for input in inputs {
         let settings = file::read(&input.bytes).map_or(1, |case| Settling::of(case).settings());
-        let text = answer(&input.bytes).text.len();
+        let (out, text) = (answer(&input.bytes).text.len(), tidy_text(&tidied(&input.bytes)).len());
         let rows = [
-            Lent { setting: settings - 1, slots: 3, work: settings as usize, out: text },
-            Lent { setting: settings, slots: 0, work: settings as usize - 1, out: text - 1 },
-            Lent { setting: 0, slots: 1, work: settings as usize, out: text + 2 },
+            Lent { setting: settings - 1, slots: 3, work: settings as usize, out, text },
+            Lent { setting: settings, slots: 0, work: settings as usize - 1, out: out - 1, text: text - 1 },
+            Lent { setting: 0, slots: 1, work: settings as usize, out: out + 2, text: text + 2 },
         ];
         for lent in rows {
-            let numbers = [lent.setting, lent.slots as u64, lent.work as u64, lent.out as u64];
+            let numbers = [lent.setting, lent.slots as u64, lent.work as u64, lent.out as u64, lent.text as u64];
             let words: Vec<String> =
                 [String::from("calls")].into_iter().chain(numbers.iter().map(u64::to_string)).collect();
             let due = [plain(&input.bytes, &lent), by_struct(&input.bytes, &lent)].concat();
@@ -236,10 +255,11 @@ fn calls(tests: &mut Tests, program: &Path, inputs: &[Input]) {
 /// Each lent memory one element short: 1 wherever it has a least size.
 fn short(tests: &mut Tests, program: &Path) {
     tests.family("C: memory one element short");
-    let row = |answers: [u32; 5]| line(refusal(answers[0]), answers[1..].iter().map(|number| refusal(*number)));
-    let tables = row([1, 1, 1, 1, 0]);
-    let prices = row([1, 0, 1, 0, 0]);
-    let due = line("read", ["none"]) + &tables.repeat(4) + &prices + &row([1; 5]) + &row([0; 5]).repeat(2);
+    let row = |answers: [u32; 6]| line(refusal(answers[0]), answers[1..].iter().map(|number| refusal(*number)));
+    let tables = row([1, 1, 1, 1, 1, 0]).repeat(4);
+    let prices = row([1, 0, 1, 0, 1, 0]);
+    let record = row([0, 0, 0, 0, 1, 0]);
+    let due = line("read", ["none"]) + &tables + &prices + &row([1; 6]) + &record + &row([0; 6]);
     for file in [M4, EACH] {
         tests.call(|| String::from("short"), compared(program, &[String::from("short")], file, due.as_bytes()));
     }

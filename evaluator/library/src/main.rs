@@ -8,6 +8,7 @@
 //! | corpus, drawn | files, and cases that no file need give |
 //! | reading, read_sizes | reading |
 //! | settling, asking, layering, case_sizes | settling, the question, the layers |
+//! | write_call, writing, write_sizes, write_rows | one call of writing, and its families |
 //! | marked, chains, pricing | M1 to M10 with their tables, chains of atoms, and prices, worked out by hand |
 //! | vectors | operations that stand in files with their answers |
 //! | breaches, unsound, limits | each phrase of soundness broken alone, and each limit met |
@@ -49,6 +50,10 @@ mod threads;
 mod unsound;
 mod vectors;
 mod wrappers;
+mod write_call;
+mod write_rows;
+mod write_sizes;
+mod writing;
 
 use std::path::PathBuf;
 use std::process::ExitCode;
@@ -72,6 +77,9 @@ fn main() -> ExitCode {
     asking::run(&mut tests, &folder);
     layering::run(&mut tests, &folder);
     case_sizes::run(&mut tests);
+    writing::run(&mut tests, &folder);
+    write_sizes::run(&mut tests);
+    write_rows::run(&mut tests);
     unsound::run(&mut tests);
     limits::run(&mut tests);
     reports::run(&mut tests, &folder);

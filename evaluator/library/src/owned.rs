@@ -9,8 +9,9 @@ use crate::wrappers::{inputs, layers_inputs, record};
 use causes::{Case, Layer, Layers, Refusal};
 use evaluator::answer::{answer, LIST_SLOTS};
 use evaluator::case::causes;
-use evaluator::file;
+use evaluator::file::{self, FILE_BYTES};
 use evaluator::question::digits;
+use evaluator::writing::written;
 use std::path::Path;
 
 /// What reading gives: record, tables, names and causes of an accepted file, the refusal of another.
@@ -139,6 +140,17 @@ fn reports(tests: &mut Tests, inputs: &[Input]) {
     }
 }
 
+/// The text of each case, or the refusal.
+fn texts(tests: &mut Tests, inputs: &[Input]) {
+    tests.family("case: write");
+    for input in inputs {
+        let (Ok(said), Ok(case)) = (file::read(&input.bytes), Case::read(&input.bytes)) else { continue };
+        let due = written(&Held::of(&said).full(), FILE_BYTES).map(String::into_bytes);
+        let due = due.map_err(|number| Refusal::from_number(number, 0));
+        tests.call(|| input.name.clone(), differing(due, case.write()));
+    }
+}
+
 /// All families of the case that owns its tables.
 pub fn run(tests: &mut Tests, folder: &Path) {
     let mut inputs = inputs(folder);
@@ -149,4 +161,5 @@ pub fn run(tests: &mut Tests, folder: &Path) {
     tests.require("a case with more explanations than the program lists", longer);
     layers(tests, &layers_inputs(folder));
     reports(tests, &inputs);
+    texts(tests, &inputs);
 }

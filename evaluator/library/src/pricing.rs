@@ -18,7 +18,7 @@ use evaluator::random::Random;
 const SEEDS: u64 = 1_200;
 
 /// The two numbers of a cost line, and the price that they give.
-const LINES: [(&str, &str, u32); 16] = [
+const LINES: [(&str, &str, u32); 20] = [
     ("0", "0", 0),
     ("0", "100", 0),
     ("1", "0", 1),
@@ -35,6 +35,10 @@ const LINES: [(&str, &str, u32); 16] = [
     ("0000007", "0000100", 14),
     ("999999", "100", 1_999_998),
     ("1000000", "100", 2_000_000),
+    ("2000000", "0", 2_000_000),
+    ("1333333", "50", 2_000_000),
+    ("1000001", "99", 1_990_002),
+    ("1980198", "1", 2_000_000),
 ];
 
 /// Reads a cost line for each atom of a file with 64, alone and behind one for the first atom.

@@ -4,7 +4,7 @@
 use crate::calls::{read, ReadDue, Sizes};
 use crate::corpus::{folders, generated, refused_files, Input, EACH, M4};
 use crate::due;
-use crate::held::{Held, FORMULAS, NODES, PART_BYTES, QUERIES};
+use crate::held::{Held, ATOMS, FORMULAS, NODES, PART_BYTES, QUERIES};
 use crate::tests::Tests;
 use std::path::Path;
 
@@ -123,6 +123,40 @@ fn constraints(tests: &mut Tests) {
     }
 }
 
+/// What reading is due for `count` atom lines `n0`, `n1` and so on, a fact of each from the last on, and a query of
+/// `n0`.
+fn atoms_due(count: usize) -> ReadDue {
+    if count > ATOMS {
+        return due::refused(8, 65);
+    }
+    let mut held = Held::zeros();
+    (held.record[0], held.record[1]) = (count as u64, count as u64);
+    (held.record[FORMULAS], held.record[NODES]) = (1, 1);
+    for (atom, row) in held.names.chunks_exact_mut(16).enumerate().take(count) {
+        let name = format!("n{atom}");
+        row[..name.len()].copy_from_slice(name.as_bytes());
+    }
+    for (at, entry) in held.clauses.chunks_exact_mut(3).enumerate().take(count) {
+        entry[0] = (count - 1 - at) as u64;
+    }
+    ReadDue { refusal: 0, answer: [&[0], held.record.as_slice()].concat(), tables: Some(held) }
+}
+
+/// Files with 1 to 70 atom lines, tables worked out by hand: atoms are numbered by them, and a 65th is refused.
+fn atoms(tests: &mut Tests) {
+    tests.family("read: 1 to 70 atom lines, tables by hand");
+    for count in 1..=70 {
+        let atoms: String = (0..count).map(|atom| format!("(atom n{atom})\n")).collect();
+        let facts: String = (0..count).rev().map(|atom| format!("(true n{atom})\n")).collect();
+        let due = atoms_due(count);
+        for again in ["", "(atom n0)\n", "( atom  n0 )\n(atom n0)\n"] {
+            let file = format!("{atoms}{facts}{again}(query n0)\n{again}");
+            tests.require(&format!("{count} atoms: the evaluator's tables"), due::read(file.as_bytes()) == due);
+            tests.call(|| format!("{count} atoms"), read(file.as_bytes(), Sizes::FULL, false, &due));
+        }
+    }
+}
+
 /// A line that is a comment of `length` bytes, all but LF in turn behind the first.
 fn comment(length: usize) -> Vec<u8> {
     let free = (0..=u8::MAX).filter(|b| *b != b'\n').cycle();
@@ -176,6 +210,7 @@ pub fn run(tests: &mut Tests, folder: &Path) {
     bytewise(tests);
     queries(tests);
     constraints(tests);
+    atoms(tests);
     comments(tests);
     refusals(tests);
 }

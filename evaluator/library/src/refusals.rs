@@ -27,6 +27,7 @@ fn named(name: &str) -> Refusal {
         "SHORT_WORK" => Refusal::ShortWork,
         "HIGH_PRICE" => Refusal::HighPrice { line },
         "SECOND_COST" => Refusal::SecondCost { line },
+        "LONG_TEXT" => Refusal::LongText,
         _ => Refusal::ShortOutput,
     }
 }
@@ -47,7 +48,7 @@ fn refusals(tests: &mut Tests, root: &Path) {
         let place = if line.is_some() { " in line 7" } else { "" };
         tests.call(what, differing(format!("refused with {number}{place}: {text}"), got.to_string()));
     }
-    for number in [18, 20, 21, 99] {
+    for number in [20, 21, 22, 99] {
         let got = Refusal::from_number(number, 3);
         let due = Refusal::Other { number, line: 3 };
         tests.call(|| number.to_string(), differing((due, number, Some(3)), (got, got.number(), got.line())));

@@ -6,6 +6,7 @@ use crate::corpus::{generated, Input};
 use crate::due::{self, Asking, Layering, Settling};
 use crate::held::Held;
 use crate::tests::{Complaints, Tests};
+use crate::write_call::{as_due, PAGE};
 use evaluator::file;
 use std::thread;
 
@@ -20,6 +21,7 @@ fn calls(input: &Input) -> Vec<Complaints> {
         let held = Held::of(&case);
         let due = Settling::of(case.clone()).words(0);
         found.push(settle(&held, 0, SETTLED_WORDS, (0, &due)));
+        found.push(as_due(&held, PAGE));
         found.push(layers(&held, LAYERS_WORDS, &LayersDue::Told(&Layering::of(&case))));
         let asking = Asking::of(case);
         let room = Room { list: 2, work: asking.settings(), answer: ASKED_WORDS };

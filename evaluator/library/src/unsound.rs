@@ -1,13 +1,14 @@
 //! Families of cases that are not sound: each phrase of documents 01 and 02 broken alone, refused with 13 by settling,
-//! the question and the layers; counts far past the limits; and drawn changes.
+//! the question, the layers and writing; counts far past the limits; and drawn changes.
 
 use crate::breaches::{Breach, COUNTS, ENTRIES, FORMULA};
-use crate::case_sizes::refused;
+use crate::case_sizes;
 use crate::drawn::{drawn, rich, small, strewn, word, Shape};
 use crate::held::{Held, NODES, PART_BYTES, QUERIES};
 use crate::limits::accepted;
 use crate::sound::broken;
 use crate::tests::Tests;
+use crate::write_call::{as_due, write, Page, WriteDue, PAGE};
 use evaluator::case::Case;
 use evaluator::random::Random;
 
@@ -16,6 +17,14 @@ const ROUNDS: u64 = 150;
 
 /// Counts that are past every limit and small when cut to fewer bits.
 const FAR: [u64; 8] = [1 << 8, 1 << 16, 1 << 31, 1 << 32, (1 << 32) + 1, 1 << 62, 1 << 63, u64::MAX - 1];
+
+/// Calls the operations on `held`, writing too, to be refused with 13.
+fn refused(tests: &mut Tests, what: &str, held: &Held) {
+    case_sizes::refused(tests, what, held, 13);
+    for page in [Page::of(0), PAGE] {
+        tests.call(|| format!("write, {what}"), write(held, page, &WriteDue::refused(13)));
+    }
+}
 
 /// The sound case that the breach `name` starts from.
 fn base(random: &mut Random, name: &str) -> Case {
@@ -38,7 +47,7 @@ fn breach(tests: &mut Tests, (name, phrase, breaks): Breach) {
         breaks(&mut random, &mut held);
         tests.require(&format!("seed {seed}: {:?} alone", broken(&held)), broken(&held) == [phrase]);
         tests.require(&format!("seed {seed}: not sound by the evaluator"), held.full().case().is_none());
-        refused(tests, &format!("seed {seed}"), &held, 13);
+        refused(tests, &format!("seed {seed}"), &held);
     }
 }
 
@@ -52,7 +61,7 @@ fn far_counts(tests: &mut Tests) {
             let mut held = Held::of(&drawn(&mut random, shape));
             let at = if name == "nodes" { NODES + random.below(held.formulas()) } else { at };
             held.record[at] = held.record[at].wrapping_add(*random.pick(&FAR)).max(257);
-            refused(tests, &format!("seed {seed}, {}", held.record[at]), &held, 13);
+            refused(tests, &format!("seed {seed}, {}", held.record[at]), &held);
         }
     }
     tests.family("unsound: no atom");
@@ -65,16 +74,16 @@ fn far_counts(tests: &mut Tests) {
             held.record[1..3].fill(0);
             held.record[4..6].fill(0);
         }
-        refused(tests, &format!("seed {seed}"), &held, 13);
+        refused(tests, &format!("seed {seed}"), &held);
     }
 }
 
 /// The record of zeros that a refused reading gives, with tables of zeros and with drawn ones.
 fn zeros(tests: &mut Tests) {
     tests.family("unsound: a record of zeros");
-    refused(tests, "tables of zeros", &Held::zeros(), 13);
+    refused(tests, "tables of zeros", &Held::zeros());
     for seed in 1..ROUNDS {
-        refused(tests, &format!("seed {seed}"), &strewn(&mut Random::new(seed), &Held::zeros()), 13);
+        refused(tests, &format!("seed {seed}"), &strewn(&mut Random::new(seed), &Held::zeros()));
     }
 }
 
@@ -94,8 +103,9 @@ fn changed(tests: &mut Tests) {
         met[usize::from(sound)] += 1;
         if sound {
             accepted(tests, &format!("seed {seed}"), held.case(), &held);
+            tests.call(|| format!("seed {seed}, write"), as_due(&held, PAGE));
         } else {
-            refused(tests, &format!("seed {seed}, {:?}", broken(&held)), &held, 13);
+            refused(tests, &format!("seed {seed}, {:?}", broken(&held)), &held);
         }
     }
     tests.require("both sound and unsound cases", met.iter().all(|n| *n > 400));

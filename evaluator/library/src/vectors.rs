@@ -72,6 +72,15 @@ impl Lent {
         })
     }
 
+    /// The text written to an output of `bytes` bytes; those behind it are to keep theirs.
+    fn written(&self, bytes: usize) -> Result<Answered, Refusal> {
+        let mut out = vec![b'?'; bytes];
+        let written = lent::write(&self.record, &self.tables, &mut out);
+        let length = written.unwrap_or(0);
+        assert!(out[length..].iter().all(|byte| *byte == b'?'), "bytes behind the text are touched");
+        written.map(|_| Answered::Written(String::from_utf8_lossy(&out[..length]).into_owned()))
+    }
+
     /// The answer of the question, with a list of `slots` slots and a work area of `bytes` bytes.
     fn asked(&self, slots: usize, bytes: usize) -> Result<Answered, Refusal> {
         let (mut list, mut work) = (vec![0; slots], vec![0; bytes]);
@@ -102,6 +111,7 @@ fn answered(vector: &Vector) -> Option<Answered> {
         Operation::Settle { setting } => lent.settled(setting),
         Operation::Question { slots, bytes } => lent.asked(slots, bytes),
         Operation::Layers => lent.layered(),
+        Operation::Writeback { bytes } => lent.written(bytes),
         Operation::Compare(_) => return None,
     };
     Some(answer.unwrap_or_else(|refusal| Answered::Refused(refusal.number())))

@@ -8,10 +8,11 @@ use crate::tests::{differing, Complaints, Tests};
 use causes::lent::{self, Record, Tables};
 use causes::Refusal;
 use evaluator::case::Case;
-use evaluator::file;
+use evaluator::file::{self, FILE_BYTES};
 use evaluator::formula::{FALSE, TRUE};
 use evaluator::model::mask;
-use evaluator::sample::SAMPLES;
+use evaluator::sample::{SAMPLES, SHAPES, TEXTS};
+use evaluator::writing::written;
 use std::path::Path;
 
 /// The tables of `held` as the safe calls have them.
@@ -173,6 +174,35 @@ fn reports(tests: &mut Tests, inputs: &[Input]) {
     }
 }
 
+/// Writes each case by the safe call, refusals too.
+fn writes(tests: &mut Tests, inputs: &[Input]) {
+    tests.family("safe calls: write");
+    let mut long = false;
+    for input in inputs {
+        let Ok(said) = file::read(&input.bytes) else { continue };
+        let held = Held::of(&said);
+        let (record, mut tables) = (record(&said, &held), tables(&held));
+        let name = || input.name.clone();
+        let text = match written(&held.full(), FILE_BYTES) {
+            Ok(text) => text.into_bytes(),
+            Err(number) => {
+                long |= number == 18;
+                let got = lent::write(&record, &tables, &mut [9; 4]);
+                tests.call(name, differing(Err(Refusal::from_number(number, 0)), got));
+                continue;
+            }
+        };
+        let mut out = vec![9; text.len() + 3];
+        let got = lent::write(&record, &tables, &mut out);
+        tests.call(name, differing((Ok(text.len()), [&text[..], &[9; 3]].concat()), (got, out.clone())));
+        let got = lent::write(&record, &tables, &mut out[..text.len() - 1]);
+        tests.call(name, differing(Err(Refusal::ShortOutput), got));
+        tables.names[0] = b'X';
+        tests.call(name, differing(Err(Refusal::Unsound), lent::write(&record, &tables, &mut out)));
+    }
+    tests.require("a case whose text is too long", long);
+}
+
 /// The files of the families of layers: all stored ones, generated ones and those with chains and rings.
 pub fn layers_inputs(folder: &Path) -> Vec<Input> {
     let mut inputs: Vec<Input> = all_folders(folder).into_values().flatten().collect();
@@ -186,6 +216,8 @@ pub fn inputs(folder: &Path) -> Vec<Input> {
     inputs.extend(stored(folder, "vectors"));
     inputs.extend(stored(folder, "requests"));
     inputs.extend(generated(400, |s| s % 20 != 0));
+    let texts = SAMPLES + SHAPES;
+    inputs.extend(generated(texts + TEXTS / 10, |s| s >= texts));
     let refused = |(number, _, bytes)| Input { name: format!("refusal {number}"), bytes, report: None };
     inputs.extend(refused_files().into_iter().map(refused));
     inputs
@@ -199,4 +231,5 @@ pub fn run(tests: &mut Tests, folder: &Path) {
     cases(tests, &inputs);
     layers(tests, &layers_inputs(folder));
     reports(tests, &inputs);
+    writes(tests, &inputs);
 }

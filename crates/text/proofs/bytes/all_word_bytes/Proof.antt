@@ -1,5 +1,5 @@
--- `text::bytes::all_word_bytes` meets its contract. The invariant is `AllFrom`: every byte stands in words if those from i
--- on do. Assumes nothing.
+-- `text::bytes::all_word_bytes` meets its contract. The invariant is `AllFrom`: every byte stands in words if those
+-- from i on do. Assumes nothing.
 use borrow.Author.Needs.{needs}
 use Prim.Native.Nat.{_-_}
 use lib.ListN.{length}

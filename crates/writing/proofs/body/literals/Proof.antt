@@ -9,7 +9,8 @@ use Rattle.writing.proofs.body.literals.Statement.{statement}
 use Rattle.writing.proofs.body.literals.Tie as tie
 
 abbrev Inv-loop : tie.InvT-loop
-Inv-loop out₀ names atoms negated pen₀ left₀ out pen left = AtLiteral (nameIn names) negated atoms out₀ pen₀ left pen out
+Inv-loop out₀ names atoms negated pen₀ left₀ out pen left =
+    AtLiteral (nameIn names) negated atoms out₀ pen₀ left pen out
 
 abbrev μ-loop : tie.MeasureT-loop
 μ-loop out₀ names atoms negated pen₀ left₀ out pen left = left
@@ -30,7 +31,9 @@ without-requires : tie.Need-without-requires Inv-loop μ-loop
 without-requires c κs = search needs
 
 loop-less : tie.Need-loop-less Inv-loop μ-loop
-loop-less c = rw (c .without .ensures) (without-less _ _ (c .before .before .before .before .before .lowest-bit .ensures .bit))
+loop-less c =
+    let b = c .before .before .before .before .before in
+    rw (c .without .ensures) (without-less _ _ (b .lowest-bit .ensures .bit))
 
 loop-again : tie.Need-loop-again Inv-loop μ-loop
 loop-again c = search literal-more

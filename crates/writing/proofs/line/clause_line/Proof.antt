@@ -4,9 +4,23 @@ use mathlib.Core.List.{[], _∷_}
 use native.Mathlib.Omega.{arith}
 use Rattle.text.specs.Tokens.{Token}
 use Rattle.spelling.proofs.Pens.{spells-both}
-use Rattle.writing.proofs.LineTexts.{begin-room, part-room, close-room, line-written, first-room, second-room, clause-form}
+use Rattle.writing.proofs.LineTexts.{begin-room, part-room, close-room, line-written, first-room}
+use Rattle.writing.proofs.LineTexts.{second-room, clause-form}
 use Rattle.writing.proofs.line.clause_line.Statement.{statement}
 use Rattle.writing.proofs.line.clause_line.Tie as tie
+
+-- the entry, and behind each part
+abbrev entry : tie.After-begin-clause → tie.Start
+entry c = c .before .before .before .before
+
+abbrev begun : tie.After-name → tie.After-begin-clause
+begun c = c .before .before .before .before
+
+abbrev headed : tie.After-body → tie.After-name
+headed c = c .before .before .before .before
+
+abbrev told : tie.After-close → tie.After-body
+told c = c .before .before .before .before
 
 begin-clause-requires : tie.Need-begin-clause-requires
 begin-clause-requires c κs =
@@ -16,7 +30,7 @@ begin-clause-requires c κs =
 name-requires : tie.Need-name-requires
 name-requires c κs =
     let b = c .before .before .before in
-    let s = b .before .before .before .before in (
+    let s = entry b in (
       omega arith,
       first-room (Token.word _ ∷ []) _ _
           (part-room (clause-form _ _ _) (s .args .g) (b .begin-clause .ensures) (s .pre .2)),
@@ -25,8 +39,8 @@ name-requires c κs =
 body-requires : tie.Need-body-requires
 body-requires c κs =
     let n = c .before .before .before in
-    let b = n .before .before .before .before in
-    let s = b .before .before .before .before in (
+    let b = begun n in
+    let s = entry b in (
       s .pre .1,
       second-room (Token.word _ ∷ []) _ _
           (part-room (clause-form _ _ _) (s .args .g) (b .begin-clause .ensures) (s .pre .2)) (n .name .ensures),
@@ -35,9 +49,9 @@ body-requires c κs =
 close-requires : tie.Need-close-requires
 close-requires c κs =
     let m = c .before .before .before in
-    let n = m .before .before .before .before in
-    let b = n .before .before .before .before in
-    let s = b .before .before .before .before in
+    let n = headed m in
+    let b = begun n in
+    let s = entry b in
     close-room (clause-form _ _ _) (s .args .g) (b .begin-clause .ensures)
     (spells-both (n .name .ensures) _ (m .body .ensures)) (s .pre .2)
 
@@ -47,10 +61,10 @@ same-length c = search needs
 returns : tie.Need-returns
 returns c =
     let e = c .before .before in
-    let m = e .before .before .before .before in
-    let n = m .before .before .before .before in
-    let b = n .before .before .before .before in
-    let s = b .before .before .before .before in
+    let m = told e in
+    let n = headed m in
+    let b = begun n in
+    let s = entry b in
     line-written (clause-form _ _ _) (s .args .g) (b .begin-clause .ensures)
     (spells-both (n .name .ensures) _ (m .body .ensures)) (e .close .ensures)
 

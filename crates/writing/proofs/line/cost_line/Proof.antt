@@ -3,9 +3,26 @@ use borrow.Author.Needs.{needs}
 use mathlib.Core.List.{[], _∷_}
 use Rattle.text.specs.Tokens.{Token}
 use Rattle.spelling.proofs.Pens.{spells-both}
-use Rattle.writing.proofs.LineTexts.{begin-room, part-room, close-room, line-written, first-room, second-room, cost-form}
+use Rattle.writing.proofs.LineTexts.{begin-room, part-room, close-room, line-written, first-room}
+use Rattle.writing.proofs.LineTexts.{second-room, cost-form}
 use Rattle.writing.proofs.line.cost_line.Statement.{statement}
 use Rattle.writing.proofs.line.cost_line.Tie as tie
+
+-- the entry, and behind each part
+abbrev entry : tie.After-begin → tie.Start
+entry c = c .before .before .before .before .before
+
+abbrev begun : tie.After-name → tie.After-begin
+begun c = c .before .before .before .before
+
+abbrev named : tie.After-number → tie.After-name
+named c = c .before .before .before .before
+
+abbrev priced : tie.After-number2 → tie.After-number
+priced c = c .before .before .before .before
+
+abbrev told : tie.After-close → tie.After-number2
+told c = c .before .before .before .before
 
 slice-aggregate-begin : tie.Need-slice-aggregate-begin
 slice-aggregate-begin c = search needs
@@ -18,7 +35,7 @@ begin-requires c κs =
 name-requires : tie.Need-name-requires
 name-requires c κs =
     let b = c .before .before .before in
-    let s = b .before .before .before .before .before in (
+    let s = entry b in (
       s .pre .0,
       first-room (Token.word _ ∷ []) _ _
           (part-room (cost-form _ _ _) (s .args .g) (b .begin .ensures) (s .pre .1)),
@@ -27,8 +44,8 @@ name-requires c κs =
 number-requires : tie.Need-number-requires
 number-requires c κs =
     let n = c .before .before .before in
-    let b = n .before .before .before .before in
-    let s = b .before .before .before .before .before in
+    let b = begun n in
+    let s = entry b in
     first-room (Token.word _ ∷ []) _ _
     (second-room (Token.word _ ∷ []) _ _
     (part-room (cost-form _ _ _) (s .args .g) (b .begin .ensures) (s .pre .1)) (n .name .ensures))
@@ -36,9 +53,9 @@ number-requires c κs =
 number-requires-2 : tie.Need-number-requires-2
 number-requires-2 c κs =
     let p = c .before .before .before in
-    let n = p .before .before .before .before in
-    let b = n .before .before .before .before in
-    let s = b .before .before .before .before .before in
+    let n = named p in
+    let b = begun n in
+    let s = entry b in
     second-room (Token.word _ ∷ []) _ _
     (second-room (Token.word _ ∷ []) _ _
     (part-room (cost-form _ _ _) (s .args .g) (b .begin .ensures) (s .pre .1)) (n .name .ensures)) (p .number .ensures)
@@ -46,10 +63,10 @@ number-requires-2 c κs =
 close-requires : tie.Need-close-requires
 close-requires c κs =
     let q = c .before .before .before in
-    let p = q .before .before .before .before in
-    let n = p .before .before .before .before in
-    let b = n .before .before .before .before in
-    let s = b .before .before .before .before .before in
+    let p = priced q in
+    let n = named p in
+    let b = begun n in
+    let s = entry b in
     close-room (cost-form _ _ _) (s .args .g) (b .begin .ensures)
     (spells-both (n .name .ensures) _ (spells-both (p .number .ensures) _ (q .number2 .ensures))) (s .pre .1)
 
@@ -59,11 +76,11 @@ same-length c = search needs
 returns : tie.Need-returns
 returns c =
     let e = c .before .before in
-    let q = e .before .before .before .before in
-    let p = q .before .before .before .before in
-    let n = p .before .before .before .before in
-    let b = n .before .before .before .before in
-    let s = b .before .before .before .before .before in
+    let q = told e in
+    let p = priced q in
+    let n = named p in
+    let b = begun n in
+    let s = entry b in
     line-written (cost-form _ _ _) (s .args .g) (b .begin .ensures)
     (spells-both (n .name .ensures) _ (spells-both (p .number .ensures) _ (q .number2 .ensures))) (e .close .ensures)
 

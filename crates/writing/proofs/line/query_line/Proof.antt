@@ -5,6 +5,16 @@ use Rattle.writing.proofs.Formulas.{one-room, one-written}
 use Rattle.writing.proofs.line.query_line.Statement.{statement}
 use Rattle.writing.proofs.line.query_line.Tie as tie
 
+-- the entry, and behind each part
+abbrev entry : tie.After-begin → tie.Start
+entry c = c .before .before .before .before .before .before
+
+abbrev begun : tie.After-formula → tie.After-begin
+begun c = c .before .before .before .before
+
+abbrev told : tie.After-close → tie.After-formula
+told c = c .before .before .before .before
+
 slice-aggregate-begin : tie.Need-slice-aggregate-begin
 slice-aggregate-begin c = search needs
 
@@ -16,7 +26,7 @@ begin-requires c κs =
 formula-requires : tie.Need-formula-requires
 formula-requires c κs =
     let b = c .before .before .before in
-    let s = b .before .before .before .before .before .before in (
+    let s = entry b in (
       s .pre .0,
       one-room _ _ (s .pre .1) _
           (part-room (query-form _) (s .args .g) (b .begin .ensures) (s .pre .2)),
@@ -25,8 +35,8 @@ formula-requires c κs =
 close-requires : tie.Need-close-requires
 close-requires c κs =
     let m = c .before .before .before in
-    let b = m .before .before .before .before in
-    let s = b .before .before .before .before .before .before in
+    let b = begun m in
+    let s = entry b in
     close-room (query-form _) (s .args .g) (b .begin .ensures) (one-written _ _ (s .pre .1) _ (m .formula .ensures))
     (s .pre .2)
 
@@ -36,9 +46,9 @@ same-length c = search needs
 returns : tie.Need-returns
 returns c =
     let e = c .before .before in
-    let m = e .before .before .before .before in
-    let b = m .before .before .before .before in
-    let s = b .before .before .before .before .before .before in
+    let m = told e in
+    let b = begun m in
+    let s = entry b in
     line-written (query-form _) (s .args .g) (b .begin .ensures) (one-written _ _ (s .pre .1) _ (m .formula .ensures))
     (e .close .ensures)
 

@@ -146,8 +146,12 @@ cost-lines-requires c κs =
     let h₃ = case-more x t _ _ h₂ (d .constraint-lines .ensures) in
     let h₄ = case-more x t _ _ h₃ (e .seen-lines .ensures) in
     let h₅ = case-more x t _ _ h₄ (f .seen-lines2 .ensures) in
-    let h₆ = case-more x t _ _ h₅ (q .query-lines .ensures) in
-    (fit-atoms x t (s .pre .0), fit-names x t (s .pre .0), fit-prices x t (s .pre .0), case-room-last x t h₆ (s .pre .1))
+    let h₆ = case-more x t _ _ h₅ (q .query-lines .ensures) in (
+      fit-atoms x t (s .pre .0),
+      fit-names x t (s .pre .0),
+      fit-prices x t (s .pre .0),
+      case-room-last x t h₆ (s .pre .1),
+    )
 
 same-length : tie.Need-same-length
 same-length c =

@@ -10,7 +10,8 @@ use Rattle.writing.proofs.lines.constraint_lines.Statement.{statement}
 use Rattle.writing.proofs.lines.constraint_lines.Tie as tie
 
 abbrev Inv-loop : tie.InvT-loop
-Inv-loop out₀ names constraints n page₀ k₀ out page k = AtEntry (λ j. constraintTexts names constraints j) n out₀ page₀ k page out
+Inv-loop out₀ names constraints n page₀ k₀ out page k =
+    AtEntry (λ j. constraintTexts names constraints j) n out₀ page₀ k page out
 
 abbrev μ-loop : tie.MeasureT-loop
 μ-loop out₀ names constraints n page₀ k₀ out page k = n - k

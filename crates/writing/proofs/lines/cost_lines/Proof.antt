@@ -10,10 +10,11 @@ use Rattle.writing.proofs.lines.cost_lines.Statement.{statement}
 use Rattle.writing.proofs.lines.cost_lines.Tie as tie
 
 abbrev Inv-loop : tie.InvT-loop
-Inv-loop out₀ names prices n page₀ a₀ out page a = AtEntry (λ j. costTexts names prices j) n out₀ page₀ a page out
+Inv-loop out₀ names prices n page₀ atom₀ out page atom =
+    AtEntry (λ j. costTexts names prices j) n out₀ page₀ atom page out
 
 abbrev μ-loop : tie.MeasureT-loop
-μ-loop out₀ names prices n page₀ a₀ out page a = n - a
+μ-loop out₀ names prices n page₀ atom₀ out page atom = n - atom
 
 loop-holds : tie.Need-loop-holds Inv-loop μ-loop
 loop-holds c = entry-start (costs-grow _ _) _ _ _
@@ -24,8 +25,8 @@ priced-line-requires c κs =
     let s = l .before .before .before .before in
     (omega arith, omega arith, entry-room (costs-grow _ _) (l .loop .inv) (omega arith) (s .pre .3))
 
-add-a : tie.Need-add-a Inv-loop μ-loop
-add-a c = search needs
+add-atom : tie.Need-add-atom Inv-loop μ-loop
+add-atom c = search needs
 
 loop-less : tie.Need-loop-less Inv-loop μ-loop
 loop-less c = search needs
@@ -50,7 +51,7 @@ cost-lines-spec =
     μ-loop
     loop-holds
     priced-line-requires
-    add-a
+    add-atom
     loop-less
     loop-again
     same-length

@@ -40,7 +40,9 @@ without-requires : tie.Need-without-requires Inv-loop μ-loop
 without-requires c κs = search needs
 
 loop-less : tie.Need-loop-less Inv-loop μ-loop
-loop-less c = rw (c .without .ensures) (without-less _ _ (c .before .before .before .before .before .lowest-bit .ensures .bit))
+loop-less c =
+    let b = c .before .before .before .before .before in
+    rw (c .without .ensures) (without-less _ _ (b .lowest-bit .ensures .bit))
 
 loop-again : tie.Need-loop-again Inv-loop μ-loop
 loop-again c =

@@ -1,6 +1,5 @@
 -- `operation::write` meets its contract: a law for each refusal, and for the text. Assumes nothing.
 use borrow.Author.Needs.{needs}
-use native.Mathlib.Omega.{arith}
 use mathlib.Core.Path.{sym, _∙_}
 use borrow.Author.Tests.{not-false}
 use Rattle.store.specs.Lent.{Lent, lent}
@@ -80,8 +79,8 @@ returns-6 c =
     let q = c .before .before in
     let i = q .before .before in
     let p = i .before .before .before .before .before .before in
-    text-written _ _ _ (fits (p .before)) (p .case-lines .ensures) (i .before .before .before .before .if3 .left) (i .before .before .if4 .left)
-    (i .if5 .left) (q .case-lines2 .ensures)
+    text-written _ _ _ (fits (p .before)) (p .case-lines .ensures) (i .before .before .before .before .if3 .left)
+    (i .before .before .if4 .left) (i .if5 .left) (q .case-lines2 .ensures)
 
 pub write-spec : {M : Type 1} → statement M
 write-spec =
