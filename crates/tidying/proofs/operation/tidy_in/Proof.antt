@@ -1,5 +1,5 @@
--- `tidy_in` meets its contract: where reading refuses, the text is the refusal's, and otherwise the tables hold what the
--- file says, and the text is that of their case. Assumes nothing.
+-- `tidy_in` meets its contract: where reading refuses, the text is the refusal's, and otherwise the tables hold what
+-- the file says, and the text is that of their case. Assumes nothing.
 use borrow.Author.Needs.{needs}
 use Rattle.store.specs.Lent.{Lent, lent}
 use Rattle.report.proofs.Reported.{Accepted, refused-shown, accepted-report}
