@@ -1,11 +1,11 @@
--- What a line that passes its checks is known to be. Assumes nothing.
+-- What a line that passes its checks is known to be, and that such a line is not refused. Assumes nothing.
 use mathlib.Core.Path.{_≡_, refl, sym, _∙_}
 use mathlib.Core.Bool.{Bool, true, false, _&&_}
 use mathlib.Core.List.{List, [], _∷_}
 use Prim.Native.Nat.{ℕ, _+_, _≤_, _<_}
 use lib.Dec.{leb}
 use lib.ListN.{length}
-use borrow.Author.Tests.{leb-true, not-true}
+use borrow.Author.Tests.{leb-true, le-leb, not-true}
 use Rattle.words.specs.Choice.{firstOf, Check, check, firstFailed}
 use Rattle.words.proofs.Tests.{and-true-l, and-true-r}
 use Rattle.words.proofs.Checks.{Passes, none-failed, first-failed-append, first-of-none}
@@ -115,3 +115,28 @@ line-passes st l e a =
     let p = first-of-none (lookRefusal l) _ e in
     let look = look-passes l a (p .0) in
     (look .0, form-passes st (tokens l) (look .1) (rw a at (p .1)))
+
+-- a line that passes is not refused
+
+pub room-none : (n cl co q : ℕ) (s : Bool) (b : Brings) → RoomPasses n cl co q s b
+    → firstFailed (roomChecks n cl co q s b) ≡ 0
+room-none n cl co q s b r = rw (
+  le-leb n 64 (r .names-few),
+  le-leb (cl + b .clauses) 256 (r .clauses-few),
+  le-leb (co + b .constraints) 32 (r .constraints-few),
+  le-leb (b .price) 2000000 (r .price-few),
+  le-leb _ 2000000 (r .worked-out-few),
+  le-leb (b .supplement) 100 (r .supplement-few),
+  r .not-second,
+  le-leb (q + b .queries) 16 (r .queries-few),
+)
+
+pub look-none : (l : List ℕ) → isComment l ≡ false → length l ≤ 200 → allOf isAllowed l ≡ true
+    → isLine (lineOf (tokens l)) ≡ true → lookRefusal l ≡ 0
+unfolding lookRefusal
+look-none l c s a f = rw (c, le-leb (length l) 200 s, a, f)
+
+pub line-none : (st : Said) (l : List ℕ) → isComment l ≡ false → lookRefusal l ≡ 0 → formRefusal st (tokens l) ≡ 0
+    → lineRefusal st l ≡ 0
+unfolding lineRefusal
+line-none st l c a f = rw (a, c, f)

@@ -6,6 +6,8 @@
 -- Atoms: the forms of atom lines, by these words.
 -- Spelling: lines are read as they are spelled.
 -- LineLaws: the names of a line, what it brings, and how many literals and nodes it has.
+-- LineTokens: the tokens of a line of each kind.
+-- LineWords: the words of a line's tokens.
 -- Theorems: a proof of each claim of specs/Claims.antt.
 pub mod Literals
 pub mod KindLaws
@@ -15,4 +17,6 @@ pub mod Costs
 pub mod Atoms
 pub mod Spelling
 pub mod LineLaws
+pub mod LineTokens
+pub mod LineWords
 pub mod Theorems

@@ -16,15 +16,16 @@ use lib.Dec.{ltb}
 use lib.ListN.{length, getD}
 use denote.Enum.Declared.{tagOf}
 use types.Run.{OneOf, miss}
-use borrow.Author.Tests.{ltb-true, eqb-true}
+use borrow.Author.Tests.{ltb-true, eqb-true, lt-ltb}
 use Rattle.text.specs.Tokens.{Token}
-use Rattle.text.specs.Words.{namesIn}
+use Rattle.text.specs.Words.{namesIn, beginsWithLetter}
 use Rattle.text.proofs.NameLaws.{names-end, names-closing, names-name, names-other, names-form}
 use Rattle.text.proofs.NumberLaws.{number-unlettered}
 use Rattle.text.proofs.ByteLaws.{and-true-both}
 use Rattle.text.proofs.Each.{Each}
-use Rattle.formulas.specs.Sentence.{sentenceNames, formTokens, tokensOf, isSentence}
-use Rattle.formulas.proofs.NameSentence.{name-names, negation-names}
+use Rattle.formulas.specs.Sentence.{Sentence, sentenceNames, formTokens, tokensOf, isSentence}
+use Rattle.formulas.proofs.NameSentence.{name-is-sentence, name-names, negation-names}
+use Rattle.formulas.proofs.FormSentence.{negation-is-sentence}
 use Rattle.formulas.proofs.Sentences.{sentence-names}
 use Rattle.formulas.proofs.Spelling.{Lettered, sentence-lettered}
 use Rattle.formulas.specs.Parsing.{sizeOf}
@@ -39,7 +40,7 @@ use Rattle.grammar.specs.declared.line.Form.the-variants.{Skipped, NoFor
 use Rattle.grammar.specs.declared.line.Form.the-variants.{Atom}
 use Rattle.grammar.specs.declared.brings.Brings.{Brings}
 use Rattle.grammar.proofs.line.Form.{the-type}
-use Rattle.grammar.proofs.Spelling.{sentence-read, clause-parts, constraint-parts}
+use Rattle.grammar.proofs.Spelling.{sentence-read, ClauseParts, clause-parts, ConstraintParts, constraint-parts}
 use Rattle.grammar.proofs.Spelling.{Right, line-right, line-spells}
 
 -- Names
@@ -122,6 +123,42 @@ line-lettered (Line.seen x) h = rw (literal-names x) at (sentence-lettered (ofLi
 line-lettered (Line.query f) h = sentence-lettered f h
 line-lettered (Line.cost w p s) h = (and-true-both _ _ (and-true-both _ _ h .0) .0, tt)
 line-lettered (Line.atom w) h = (h, tt)
+
+-- and where they do, literals are of names
+pub literal-sentence : (x : Literal) → Each Lettered (bodyNames (x ∷ [])) → isSentence (ofLiteral x) ≡ true
+literal-sentence (Literal.literal false w) h = name-is-sentence w ∙ h .0
+literal-sentence (Literal.literal true w) h = negation-is-sentence (Sentence.name w) ∙ name-is-sentence w ∙ h .0
+
+pub lettered-body : (ls : List Literal) → Each Lettered (bodyNames ls) → areNamed ls ≡ true
+unfolding areNamed
+lettered-body [] h = refl
+lettered-body (Literal.literal b w ∷ ls) h =
+    rw (literal-sentence (Literal.literal b w) (h .0, tt), lettered-body ls (h .1))
+
+-- when a line of each kind is one
+pub clause-is-line : {k : ℕ} {w : List ℕ} {ls : List Literal} → ClauseParts k w ls → isLine (Line.clause k w ls) ≡ true
+unfolding isLine
+clause-is-line {k} p = rw (lt-ltb k 3 (p .kind-lt), p .head, p .body, p .fits)
+
+pub constraint-is-line : {k : ℕ} {ls : List Literal} → ConstraintParts k ls → isLine (Line.constraint k ls) ≡ true
+unfolding isLine
+constraint-is-line {k} p = rw (lt-ltb k 2 (p .kind-lt), p .body, p .fits)
+
+pub numbers-are-line : (w p s : List ℕ) → isLine (Line.cost w p s) ≡ isCost w p s
+unfolding isLine
+numbers-are-line w p s = refl
+
+pub literal-is-line : (x : Literal) → isLine (Line.seen x) ≡ isSentence (ofLiteral x)
+unfolding isLine
+literal-is-line x = refl
+
+pub sentence-is-line : (f : Sentence) → isLine (Line.query f) ≡ isSentence f
+unfolding isLine
+sentence-is-line f = refl
+
+pub name-is-line : (w : List ℕ) → isLine (Line.atom w) ≡ beginsWithLetter w
+unfolding isLine
+name-is-line w = refl
 
 -- What a line brings, by its form
 

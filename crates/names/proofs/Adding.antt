@@ -61,6 +61,10 @@ module _ (ns : List (List ℕ)) (w : List ℕ) where
   unfolding withName
   with-name-new h = rw (le-ltb _ _ h)
 
+  pub with-names-new : length ns ≤ atomOf ns w → withNames ns (w ∷ []) ≡ ns ++ (w ∷ [])
+  unfolding withNames
+  with-names-new h = with-name-new h
+
   -- either way
   by-name : {P : Type 0} → (withName ns w ≡ ns → atomOf ns w < length ns → P)
       → (withName ns w ≡ ns ++ (w ∷ []) → length ns ≤ atomOf ns w → P) → P

@@ -1,6 +1,9 @@
--- The atoms of a word are as many as its ones, and below 64, and its lowest bit comes first. Assumes nothing.
+-- The atoms of a word are as many as its ones, and below 64, its lowest bit comes first, and they are its bits.
+--
+--   isIn l a      a is one of the atoms l
+-- Assumes nothing.
 use mathlib.Core.Path.{_≡_, refl, sym, ap, ap₂, _∙_}
-use mathlib.Core.Bool.{Bool, true, false}
+use mathlib.Core.Bool.{Bool, true, false, _&&_, _||_, and-false, and-true, or-false}
 use mathlib.Core.List.{List, [], _∷_}
 use mathlib.Core.Logic.{⊎-elim}
 use Prim.Native.Nat.{ℕ, zero, suc, _+_, _*_, _/_, _%_, _^_, _≤_, _<_}
@@ -8,9 +11,10 @@ use native.Mathlib.Nat.{not-suc-le-zero, le-of-suc-le-suc, pow-suc, div-one, le-
 use native.Mathlib.Numerals.{add-one}
 use native.Mathlib.Omega.{arith}
 use lib.Count.{ones, ones-step, ones-le}
+use lib.Dec.{eqb}
 use lib.ListN.{length, getD}
 use lib.Pow.{shr-shr}
-use borrow.Author.Tests.{eqb-true, eqb-false}
+use borrow.Author.Tests.{eqb-true, eqb-false, eq-eqb, ne-eqb}
 use Rattle.words.specs.Choice.{consIf}
 use Rattle.words.specs.Bits.{odd, has}
 use Rattle.words.specs.OneBit.{withoutBit, LowestOf}
@@ -95,3 +99,42 @@ module _ (w a : ℕ) (h : LowestOf w a) where
 
   pub atoms-lowest : atomsIn w ≡ a ∷ atomsIn (withoutBit w a)
   atoms-lowest = lowest-from 64 0 (omega arith) (h .bit .small) (omega arith)
+
+-- ---- at most so many
+pub cons-few : {A : Type 0} (b : Bool) (x : A) (n : ℕ) (l : List A) → length l ≤ n → length (consIf b x l) ≤ suc n
+cons-few true x n l h = omega arith
+cons-few false x n l h = omega arith
+
+pub atoms-few : (w a n : ℕ) → length (atomsFrom w a n) ≤ n
+unfolding atomsFrom
+atoms-few w a zero = omega arith
+atoms-few w a (suc n) = cons-few (has w a) a n (atomsFrom w (suc a) n) (atoms-few w (suc a) n)
+
+-- ---- which
+abbrev pub isIn : List ℕ → ℕ → Bool
+isIn [] a = false
+isIn (c ∷ l) a = eqb c a || isIn l a
+
+cons-in : (t : Bool) (c : ℕ) (l : List ℕ) (a : ℕ) → isIn (consIf t c l) a ≡ ((t && eqb c a) || isIn l a)
+cons-in true c l a = refl
+cons-in false c l a = refl
+
+-- those from k on hold none below k
+in-below : (w n k a : ℕ) → a < k → isIn (atomsFrom w k n) a ≡ false
+unfolding atomsFrom
+in-below w zero k a h = refl
+in-below w (suc n) k a h =
+    cons-in (has w k) k (atomsFrom w (suc k) n) a
+    ∙ rw (ne-eqb k a (λ e. omega arith), in-below w n (suc k) a (omega arith), and-false (has w k))
+
+pub in-atoms : (w n k a : ℕ) → k ≤ a → a < k + n → isIn (atomsFrom w k n) a ≡ has w a
+unfolding atomsFrom
+in-atoms w zero k a h l = absurd (omega arith)
+in-atoms w (suc n) k a h l =
+    cons-in (has w k) k (atomsFrom w (suc k) n) a
+    ∙ ⊎-elim
+    (λ (e : k ≡ a).
+    rw (eq-eqb k a e, in-below w n (suc k) a (omega arith), and-true (has w k), or-false (has w k)) (ap (has w) e))
+    (λ (q : k < a).
+    rw (ne-eqb k a (λ e. omega arith), and-false (has w k)) (in-atoms w n (suc k) a q (omega arith)))
+    (eq-or-lt-of-le h)

@@ -6,6 +6,7 @@
 -- Sets: the sets of causes that settings are.
 -- Entries: the entries of a table, tested one by one.
 -- Soundness: the kinds of clauses, and what a sound case is sound of.
+-- SoundEntries: what is known of the entries of a sound case's tables.
 -- Dependence: which atoms a clause names, and which atom depends on which.
 -- MakingSound: what makes a case sound.
 -- Theorems: the claims of specs/Claims.antt.
@@ -17,6 +18,7 @@ pub mod NextSetting
 pub mod Sets
 pub mod Entries
 pub mod Soundness
+pub mod SoundEntries
 pub mod Dependence
 pub mod MakingSound
 pub mod Theorems

@@ -16,9 +16,9 @@ use Rattle.output.specs.Writing.{Room, Writes}
 use Rattle.output.proofs.Laying as laying
 use Rattle.spelling.specs.declared.Pen.{Pen}
 use Rattle.spelling.specs.declared.Page.{Page}
-use Rattle.spelling.specs.Pen.{inked, Spells}
+use Rattle.spelling.specs.Pen.{Spells}
 use Rattle.spelling.specs.Page.{someLongLine, startOf, Ends, Sets}
-use Rattle.spelling.proofs.Pens.{spells-writes, room-before, room-behind}
+use Rattle.spelling.proofs.Pens.{spells-writes}
 
 -- someLongLine
 
@@ -98,19 +98,6 @@ pub line-room : (ts : List Token) (g : Page) → Room (textOf (spelled ts ∷ []
 line-room ts g k = laying.room-front (spelled ts) (10 ∷ []) (g .at) (rw text-one at k)
 
 module _ {ts : List Token} (g : Page) {p : Pen} {out out₁ : List ℕ} (h : Spells ts out (startOf g) p out₁) where
-  -- the tokens us are next, the tokens vs behind them
-  pub next-room : (us vs : List Token) → Room (textOf (spelled (ts ++ (us ++ vs)) ∷ [])) (g .at)
-      → Room (inked p us) (p .at)
-  next-room us vs k =
-      room-before us vs p (room-behind h (us ++ vs) (line-room (ts ++ (us ++ vs)) g k))
-
-  -- what ending the line asks for
-  pub end-room : Room (textOf (spelled ts ∷ [])) (g .at) → (g .at ≤ p .at) × Room (10 ∷ []) (p .at)
-  end-room k = (
-    omega (arith, h .place-is),
-    laying.room-behind (spelled ts) (10 ∷ []) (g .at) (rw text-one at k) (h .place-is),
-  )
-
   pub line-set : {r : Page} {out₂ : List ℕ} → Ends g p out₁ r out₂ → Sets (spelled ts ∷ []) out g r out₂
   unfolding someLongLine
   line-set {r} {out₂} e =

@@ -1,4 +1,5 @@
--- Laws of formulas by a lookup of names: their nodes, their depth and the atoms they are over. Assumes nothing.
+-- Laws of formulas by a lookup of names: by their form, their nodes, their depth and the atoms they are over.
+-- Assumes nothing.
 use mathlib.Core.Path.{_≡_, refl, ap, _∙_}
 use mathlib.Core.Bool.{true}
 use mathlib.Core.List.{List}
@@ -6,7 +7,7 @@ use Prim.Native.Nat.{ℕ, suc, _-_, _<_}
 use native.Mathlib.Omega.{arith}
 use lib.ListN.{length}
 use borrow.Author.Tests.{lt-ltb}
-use Rattle.logic.specs.Formula.{depth, over}
+use Rattle.logic.specs.Formula.{Formula, depth, over}
 use Rattle.logic.specs.Nodes.{nodes, joined}
 use Rattle.logic.proofs.Spelling.{joined-over, joined-depth}
 use Rattle.text.proofs.Each.{Each, each-split}
@@ -24,6 +25,19 @@ abbrev pub Known : List (List ℕ) → List ℕ → Type 0
 Known ns w = Below (atomOf ns) (length ns) w
 
 module _ (at : List ℕ → ℕ) where
+  pub encoded-name : (w : List ℕ) → encodedBy at (Sentence.name w) ≡ Formula.atom (at w)
+  unfolding encodedBy
+  encoded-name w = refl
+
+  pub encoded-negation : (f : Sentence) → encodedBy at (Sentence.negation f) ≡ Formula.negation (encodedBy at f)
+  unfolding encodedBy
+  encoded-negation f = refl
+
+  pub encoded-joined : (k : ℕ) (f g : Sentence)
+      → encodedBy at (Sentence.joined k f g) ≡ joined (k - 65) (encodedBy at f) (encodedBy at g)
+  unfolding encodedBy
+  encoded-joined k f g = refl
+
   -- the formula has a node for each name and each form
   pub encoded-length : (f : Sentence) → length (nodes (encodedBy at f)) ≡ sizeOf f
   unfolding encodedBy sizeOf nodes

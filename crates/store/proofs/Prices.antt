@@ -1,7 +1,7 @@
--- Laws of prices: the bound of a price, the rows of costs with one more, and the table of prices.
--- Assumes nothing.
+-- Laws of prices: the bound of a price, the rows of costs one list behind another and with one more, and the table of
+-- prices. Assumes nothing.
 use mathlib.Core.Path.{_≡_, refl, sym, ap, _∙_, subst}
-use mathlib.Core.Bool.{Bool, true, false, _||_, true≢false, or-false, or-assoc}
+use mathlib.Core.Bool.{Bool, true, false, _||_, or-false, or-assoc}
 use mathlib.Core.List.{List, [], _∷_, _++_}
 use Prim.Native.Nat.{ℕ, _+_, _*_, _≤_, _<_}
 use native.Mathlib.Nat.{mul-le-mul}
@@ -10,8 +10,9 @@ use lib.Dec.{eqb, ltb}
 use lib.ListN.{length, getD, set}
 use lib.Seq.{getD-set-same, getD-set-other}
 use borrow.Author.Tests.{eqb-true, eqb-false, eq-eqb, ne-eqb, lt-ltb, ltb-true}
+use Rattle.words.specs.Choice.{pick, consIf}
 use Rattle.words.proofs.Lists.{list-of-at}
-use Rattle.words.proofs.Tests.{by-test}
+use Rattle.words.proofs.Tests.{by-test, or-false-l, or-false-r}
 use Rattle.program.specs.Case.{priceSize}
 use Rattle.table.specs.Filled.{filled}
 use Rattle.table.proofs.Filled.{filled-at}
@@ -28,9 +29,50 @@ pub supplement-near : (p s : ℕ) → (100 * supplement p s ≤ p * s + 50) × (
 unfolding supplement
 supplement-near p s = (omega arith, omega arith)
 
-or-false-both : (x y : Bool) → (x || y) ≡ false → (x ≡ false) × (y ≡ false)
-or-false-both true y h = absurd (true≢false h)
-or-false-both false y h = (refl, h)
+-- rows, one list behind another
+
+pub no-cost : (a : ℕ) → hasCost [] a ≡ false
+unfolding hasCost
+no-cost a = refl
+
+pub has-cost-append : (cs ds : List CostRow) (a : ℕ) → hasCost (cs ++ ds) a ≡ (hasCost cs a || hasCost ds a)
+unfolding hasCost
+has-cost-append [] ds a = refl
+has-cost-append (r ∷ cs) ds a = rw (has-cost-append cs ds a, or-assoc)
+
+first-other : (r : CostRow) (cs : List CostRow) (a : ℕ) → hasCost (r ∷ cs) a ≡ false
+    → (eqb (r .atom) a ≡ false) × (hasCost cs a ≡ false)
+unfolding hasCost
+first-other r cs a h = (or-false-l (eqb (r .atom) a) (hasCost cs a) h, or-false-r (eqb (r .atom) a) (hasCost cs a) h)
+
+pub price-front : (cs ds : List CostRow) (a : ℕ) → priceIn ds a ≡ 0 → priceIn (cs ++ ds) a ≡ priceIn cs a
+unfolding priceIn
+price-front [] ds a h = h
+price-front (r ∷ cs) ds a h = rw (price-front cs ds a h)
+
+pub price-behind : (cs ds : List CostRow) (a : ℕ) → hasCost cs a ≡ false → priceIn (cs ++ ds) a ≡ priceIn ds a
+unfolding priceIn
+price-behind [] ds a h = refl
+price-behind (r ∷ cs) ds a h = let k = first-other r cs a h in rw (k .0) (price-behind cs ds a (k .1))
+
+-- one row, where the test holds
+
+module _ (r : CostRow) where
+  pub one-price : (b : Bool) → priceIn (consIf b r []) (r .atom) ≡ pick b (r .price) 0
+  unfolding priceIn
+  one-price true = rw (eq-eqb (r .atom) (r .atom) refl)
+  one-price false = refl
+
+  module _ (i : ℕ) (n : r .atom ≡ i → ⊥) where
+    pub one-without : (b : Bool) → hasCost (consIf b r []) i ≡ false
+    unfolding hasCost
+    one-without true = rw (ne-eqb (r .atom) i n)
+    one-without false = refl
+
+    pub one-other : (b : Bool) → priceIn (consIf b r []) i ≡ 0
+    unfolding priceIn
+    one-other true = rw (ne-eqb (r .atom) i n)
+    one-other false = refl
 
 -- rows with one more, of atom a with the price p
 
@@ -43,20 +85,11 @@ module _ (a p : ℕ) where
   cost-push [] i = or-false (eqb a i)
   cost-push (r ∷ cs) i = rw (cost-push cs i, or-assoc)
 
-  first-fresh : (r : CostRow) (cs : List CostRow) → hasCost (r ∷ cs) a ≡ false
-      → (eqb (r .atom) a ≡ false) × (hasCost cs a ≡ false)
-  unfolding hasCost
-  first-fresh r cs h = or-false-both (eqb (r .atom) a) (hasCost cs a) h
-
   push-same : (cs : List CostRow) → hasCost cs a ≡ false → priceIn (cs ++ (row a p ∷ [])) a ≡ p
-  unfolding priceIn
-  push-same [] h = rw (eq-eqb a a refl)
-  push-same (r ∷ cs) h = let k = first-fresh r cs h in rw (k .0) (push-same cs (k .1))
+  push-same cs h = price-behind cs (row a p ∷ []) a h ∙ one-price (row a p) true
 
   push-other : (cs : List CostRow) (i : ℕ) → (a ≡ i → ⊥) → priceIn (cs ++ (row a p ∷ [])) i ≡ priceIn cs i
-  unfolding priceIn
-  push-other [] i h = rw (ne-eqb a i h)
-  push-other (r ∷ cs) i h = rw (push-other cs i h)
+  push-other cs i h = price-front cs (row a p ∷ []) i (one-other (row a p) i h true)
 
 -- the table
 

@@ -5,8 +5,12 @@ use mathlib.Core.List.{List, [], _∷_, _++_}
 use Prim.Native.Nat.{ℕ, _^_, _<_}
 use Rattle.words.specs.Bits.{has}
 use Rattle.words.proofs.Words.{has-word, is-word}
+use Rattle.formulas.specs.Sentence.{Sentence}
 use Rattle.grammar.specs.Line.{Line, Literal}
-use Rattle.store.specs.Saying.{Said, someOn, atomsBy, saidBy}
+use Rattle.names.specs.Names.{atomOf}
+use Rattle.store.specs.Prices.{hasCost}
+use Rattle.store.specs.Saying.{Said, someOn, atomsBy, encoded, clauseRow, constraintRow, costRow, withClause}
+use Rattle.store.specs.Saying.{withConstraint, withObserved, withQuery, withCost, saidBy, isSecondCost}
 
 pub said-names : (st : Said) (x : Line) → saidBy st x .names ≡ st .names
 unfolding saidBy
@@ -18,6 +22,60 @@ said-names st (Line.seen x) = refl
 said-names st (Line.query f) = refl
 said-names st (Line.cost w p s) = refl
 said-names st (Line.atom w) = refl
+
+-- by the kind of the line
+
+module _ (st : Said) where
+  pub clause-said : (k : ℕ) (w : List ℕ) (l : List Literal)
+      → saidBy st (Line.clause k w l) ≡ withClause st (clauseRow (st .names) k w l)
+  unfolding saidBy
+  clause-said k w l = refl
+
+  pub constraint-said : (k : ℕ) (l : List Literal)
+      → saidBy st (Line.constraint k l) ≡ withConstraint st (constraintRow (st .names) k l)
+  unfolding saidBy
+  constraint-said k l = refl
+
+  pub seen-said : (x : Literal) → saidBy st (Line.seen x) ≡ withObserved st (x ∷ [])
+  unfolding saidBy
+  seen-said x = refl
+
+  pub query-said : (f : Sentence) → saidBy st (Line.query f) ≡ withQuery st (encoded (st .names) f)
+  unfolding saidBy
+  query-said f = refl
+
+  pub cost-said : (w p s : List ℕ) → saidBy st (Line.cost w p s) ≡ withCost st (costRow (st .names) w p s)
+  unfolding saidBy
+  cost-said w p s = refl
+
+  pub atom-said : (w : List ℕ) → saidBy st (Line.atom w) ≡ st
+  unfolding saidBy
+  atom-said w = refl
+
+  pub clause-no-cost : (k : ℕ) (w : List ℕ) (l : List Literal) → isSecondCost st (Line.clause k w l) ≡ false
+  unfolding isSecondCost
+  clause-no-cost k w l = refl
+
+  pub constraint-no-cost : (k : ℕ) (l : List Literal) → isSecondCost st (Line.constraint k l) ≡ false
+  unfolding isSecondCost
+  constraint-no-cost k l = refl
+
+  pub seen-no-cost : (x : Literal) → isSecondCost st (Line.seen x) ≡ false
+  unfolding isSecondCost
+  seen-no-cost x = refl
+
+  pub query-no-cost : (f : Sentence) → isSecondCost st (Line.query f) ≡ false
+  unfolding isSecondCost
+  query-no-cost f = refl
+
+  pub cost-second : (w p s : List ℕ)
+      → isSecondCost st (Line.cost w p s) ≡ hasCost (st .costs) (atomOf (st .names) w)
+  unfolding isSecondCost
+  cost-second w p s = refl
+
+  pub atom-no-cost : (w : List ℕ) → isSecondCost st (Line.atom w) ≡ false
+  unfolding isSecondCost
+  atom-no-cost w = refl
 
 -- the literals by a lookup of names
 

@@ -10,7 +10,7 @@ use lib.Dec.{eqb, leb}
 use lib.ListN.{length, drop, getD, drop-of-length-le}
 use lib.Seq.{drop-cons}
 use borrow.Author.Tests.{le-leb, lt-leb, ne-eqb, eq-eqb}
-use Rattle.text.specs.Bytes.{isWordByte, isAllowed, allOf}
+use Rattle.text.specs.Bytes.{isLetter, isDigit, isWordByte, isAllowed, allOf}
 
 -- isWordByte
 
@@ -36,6 +36,14 @@ word-byte-not-zero b t e =
     let f : isWordByte b ≡ false = rw e in
     let z : _≡_ {A = ℕ} 0 1 = cc in
     omega arith
+
+pub letter-word-byte : (b : ℕ) → isLetter b ≡ true → isWordByte b ≡ true
+unfolding isWordByte
+letter-word-byte b h = rw h
+
+pub digit-word-byte : (b : ℕ) → isDigit b ≡ true → isWordByte b ≡ true
+unfolding isWordByte
+digit-word-byte b h = rw (h, or-true (isLetter b))
 
 -- isAllowed
 

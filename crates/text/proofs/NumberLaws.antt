@@ -14,12 +14,12 @@ use lib.ListN.{length, getD}
 use lib.Pow.{pow-add, pow-mono}
 use lib.Seq.{slice, slice-cons, slice-empty, length-slice}
 use borrow.Author.Tests.{leb-true, le-leb, lt-leb}
-use Rattle.text.specs.Bytes.{isDigit, allOf}
+use Rattle.text.specs.Bytes.{isDigit, isWordByte, allOf}
 use Rattle.text.specs.Numbers.{numberFrom, numberOf, isNumber}
-use Rattle.text.specs.Words.{beginsWithLetter}
+use Rattle.text.specs.Words.{beginsWithLetter, IsWord}
 use Rattle.text.specs.Scanning.{NumberRead}
 use Rattle.text.specs.declared.number.Number.the-variants.{NoNumber, Value}
-use Rattle.text.proofs.ByteLaws.{and-true-both}
+use Rattle.text.proofs.ByteLaws.{digit-word-byte, and-true-both, all-gives}
 
 pub number-none : (n : ℕ) → numberFrom n [] ≡ n
 unfolding numberFrom
@@ -46,6 +46,19 @@ number-unlettered (b ∷ w) h =
     let a = and-true-both t (allOf isDigit (b ∷ w)) h in
     let d = digit-between b (and-true-both (isDigit b) (allOf isDigit w) (a .1) .0) in
     rw (lt-leb 97 b (omega arith))
+
+-- and a word
+pub number-word : (w : List ℕ) → isNumber w ≡ true → IsWord w
+unfolding isNumber
+number-word w h =
+    let a = and-true-both (leb 1 (length w) && leb (length w) 7) (allOf isDigit w) h in
+    let b = and-true-both (leb 1 (length w)) (leb (length w) 7) (a .0) in
+    (leb-true 1 (length w) (b .0), all-gives isDigit isWordByte digit-word-byte w (a .1))
+
+-- one to seven digits are a number
+pub digits-number : (w : List ℕ) → 0 < length w → length w ≤ 7 → allOf isDigit w ≡ true → isNumber w ≡ true
+unfolding isNumber
+digits-number w some few d = rw (le-leb 1 (length w) some, le-leb (length w) 7 few, d)
 
 -- words that are no number by their length
 

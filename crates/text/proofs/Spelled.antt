@@ -52,6 +52,11 @@ spelled-behind (b ∷ w) (Token.word v ∷ ts) h = ap (λ us. Token.word (b ∷ 
 pub spelled-read : (ts : List Token) → WordBytes ts → tokens (spelled ts) ≡ ts
 spelled-read ts h = spelled-behind [] ts h
 
+-- a bracket's text is the bracket
+pub spelled-closing : (b : Bool) → spelledFrom b (Token.closing ∷ []) ≡ 41 ∷ []
+unfolding spelledFrom
+spelled-closing b = refl
+
 -- ---- bytes
 word-allowed : (w l : List ℕ) → IsWord w → allOf isAllowed l ≡ true → allOf isAllowed (w ++ l) ≡ true
 word-allowed w l h k = all-append isAllowed w l (all-gives isWordByte isAllowed allowed-word w (h .1)) k
@@ -67,7 +72,11 @@ allowed-from true (Token.word w ∷ ts) h = word-allowed w _ (h .0) (allowed-fro
 pub spelled-allowed : (ts : List Token) → WordBytes ts → allOf isAllowed (spelled ts) ≡ true
 spelled-allowed ts h = allowed-from false ts h
 
--- a line that begins with a bracket is no comment
+-- a line without tokens is no comment, nor one that begins with a bracket
+pub nothing-no-comment : isComment (spelled []) ≡ false
+unfolding spelledFrom isComment
+nothing-no-comment = refl
+
 pub spelled-no-comment : (ts : List Token) → isComment (spelled (Token.opening ∷ ts)) ≡ false
 unfolding spelledFrom isComment
 spelled-no-comment ts = refl

@@ -1,19 +1,24 @@
 -- What the words of a line are made of: at least one byte, and bytes that stand in words only; that none is longer than
--- the line; and what a name begins with. Assumes nothing.
+-- the line; what a name begins with; and that a word of letters is a word.
+--
+--   areLetters w       each byte of w is a letter
+--   areLettered ws     each of the words ws has a byte, and letters only
+-- Assumes nothing.
 use mathlib.Core.Path.{_≡_, refl}
-use mathlib.Core.Bool.{Bool, true, false}
+use mathlib.Core.Bool.{Bool, true, false, _&&_, false≢true}
 use mathlib.Core.List.{List, [], _∷_, _++_}
 use Prim.Native.Nat.{ℕ, _+_, _≤_, _<_}
 use native.Mathlib.Omega.{arith}
-use lib.Dec.{eqb}
+use lib.Dec.{eqb, leb}
 use lib.ListN.{length, getD, length-append}
 use lib.Seq.{slice, slice-cons}
+use borrow.Author.Tests.{leb-true}
 use Rattle.words.specs.Choice.{pick, consIf}
 use Rattle.text.specs.Bytes.{isLetter, isWordByte, allOf}
 use Rattle.text.specs.Tokens.{Token, ended, bracket, tokensFrom, tokens}
 use Rattle.text.specs.Words.{beginsWithLetter, isNameBehind, namesFrom, namesIn, IsWord, EachWord, WordBytes}
 use Rattle.text.proofs.Each.{Each}
-use Rattle.text.proofs.ByteLaws.{all-push}
+use Rattle.text.proofs.ByteLaws.{letter-word-byte, and-true-both, all-push}
 
 -- ---- what holds of each word of a list of tokens
 module _ (P : List ℕ → Type 0) where
@@ -80,3 +85,31 @@ line-names-are-short n l h = names-each (AtMost n) false (tokens l) (tokens-from
 pub name-first : (l : List ℕ) (a e : ℕ) → a < e → e ≤ length l → beginsWithLetter (slice a e l) ≡ isLetter (getD l a 0)
 unfolding beginsWithLetter
 name-first l a e h k = rw (slice-cons a e l 0 h k)
+
+pub lettered-some : (w : List ℕ) → beginsWithLetter w ≡ true → 0 < length w
+unfolding beginsWithLetter
+lettered-some [] e = absurd (false≢true e)
+lettered-some (b ∷ w) e = omega arith
+
+-- ---- words of letters
+abbrev areLetters : List ℕ → Bool
+areLetters [] = true
+areLetters (b ∷ w) = isLetter b && areLetters w
+
+abbrev pub areLettered : List (List ℕ) → Bool
+areLettered [] = true
+areLettered (w ∷ ws) = leb 1 (length w) && areLetters w && areLettered ws
+
+letters-bytes : (w : List ℕ) → areLetters w ≡ true → allOf isWordByte w ≡ true
+unfolding allOf
+letters-bytes [] h = refl
+letters-bytes (b ∷ w) h =
+    let a = and-true-both (isLetter b) (areLetters w) h in
+    rw (letter-word-byte b (a .0)) (letters-bytes w (a .1))
+
+pub lettered-words : (ws : List (List ℕ)) → areLettered ws ≡ true → Each IsWord ws
+lettered-words [] h = tt
+lettered-words (w ∷ ws) h =
+    let a = and-true-both (leb 1 (length w) && areLetters w) (areLettered ws) h in
+    let b = and-true-both (leb 1 (length w)) (areLetters w) (a .0) in
+    ((leb-true 1 (length w) (b .0), letters-bytes w (b .1)), lettered-words ws (a .1))

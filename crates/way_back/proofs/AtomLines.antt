@@ -1,6 +1,6 @@
 -- Atom lines, which name one atom each, are read as these names. Assumes nothing.
 use mathlib.Core.Path.{_≡_, sym, ap, subst, _∙_}
-use mathlib.Core.Bool.{true, false}
+use mathlib.Core.Bool.{false}
 use mathlib.Core.List.{List, [], _∷_, _++_, map, append-assoc}
 use Prim.Native.Nat.{ℕ, _+_, _≤_, _<_}
 use native.Mathlib.Omega.{arith}
@@ -10,14 +10,16 @@ use lib.Seq.{getD-append-seam}
 use borrow.Author.Tests.{ltb-true, ltb-false}
 use Rattle.words.proofs.Tests.{by-test}
 use Rattle.text.proofs.Places.{place-name}
-use Rattle.grammar.specs.Line.{Line, isLine, brings}
-use Rattle.names.specs.Names.{atomOf, withNames}
+use Rattle.grammar.specs.Line.{Line, brings}
+use Rattle.grammar.proofs.LineLaws.{name-is-line}
+use Rattle.names.specs.Names.{atomOf}
 use Rattle.names.proofs.Distinct.{Distinct}
-use Rattle.names.proofs.Adding.{with-name-new}
-use Rattle.store.specs.Saying.{Said, said, saidBy, isSecondCost}
+use Rattle.names.proofs.Adding.{with-names-new}
+use Rattle.store.specs.Saying.{Said, said, isSecondCost}
+use Rattle.store.proofs.Saying.{atom-said, atom-no-cost}
 use Rattle.checks.specs.Naming.{IsName}
 use Rattle.checks.proofs.Naming.{name-lettered}
-use Rattle.way_back.proofs.Fits.{namedBy, RoomFor}
+use Rattle.way_back.proofs.Fits.{namedBy, RoomFor, Fits}
 use Rattle.way_back.proofs.FittingLines.{Reads, Step, segment, Written, Left, left-room, left-on}
 use Rattle.way_back.proofs.KnownNames.{room-rows}
 
@@ -41,35 +43,45 @@ withAtoms ns = said ns [] [] 0 0 [] []
 abbrev Ready : List (List ℕ) → List (List ℕ) → Type 0
 Ready done rest = Left AtomWritten 64 done rest × Distinct (done ++ rest)
 
-atom-is-line : (w : List ℕ) → IsName w → isLine (Line.atom w) ≡ true
-unfolding isLine
-atom-is-line w h = name-lettered w h
-
 one-more : (ns : List (List ℕ)) (w : List ℕ) → length ns ≤ atomOf ns w → namedBy (withAtoms ns) (Line.atom w)
     ≡ withAtoms (ns ++ (w ∷ []))
-unfolding withNames
-one-more ns w h = ap withAtoms (with-name-new ns w h)
+one-more ns w h = ap withAtoms (with-names-new ns w h)
 
-atom-step : (done : List (List ℕ)) (w : List ℕ) (rest : List (List ℕ)) → Ready done (w ∷ rest)
-    → Step Line.atom withAtoms Ready done w rest
-unfolding saidBy isSecondCost
-atom-step done w rest (l, d) =
-    let e = one-more done w (front-new done rest w d) in
-    let m = left-room AtomWritten 64 done w rest l in
-    let few = length-append done (w ∷ []) in
-    let name = l .each .0 .0 in
-    record {
-      fits = record {
-        is-line = atom-is-line w name;
+module _ (done : List (List ℕ)) (w : List ℕ) (rest : List (List ℕ)) (r : Ready done (w ∷ rest)) where
+  grown : namedBy (withAtoms done) (Line.atom w) ≡ withAtoms (done ++ (w ∷ []))
+  grown = one-more done w (front-new done rest w (r .1))
+
+  abbrev AtomRoom : Said → Type 0
+  AtomRoom st = RoomFor st (isSecondCost st (Line.atom w)) (brings (Line.atom w))
+
+  atom-room : AtomRoom (namedBy (withAtoms done) (Line.atom w))
+  atom-room =
+      let m = left-room AtomWritten 64 done w rest (r .0) in
+      let few = length-append done (w ∷ []) in
+      let st = withAtoms (done ++ (w ∷ [])) in
+      subst AtomRoom (sym grown)
+      (rw (atom-no-cost st w) (room-rows st 0 0 0 0 (omega arith) (omega arith) (omega arith) (omega arith)))
+
+  atom-fits : Fits (withAtoms done) (Line.atom w)
+  atom-fits =
+      let name = r .0 .each .0 .0 in
+      record {
+        is-line = name-is-line w ∙ name-lettered w name;
         named = (name, tt);
-        short = l .each .0 .1;
+        short = r .0 .each .0 .1;
         not-deep = omega arith;
-        room = subst (λ st. RoomFor st false (brings (Line.atom w))) (sym e)
-            (room-rows (withAtoms (done ++ (w ∷ []))) 0 0 0 0 (omega arith) (omega arith) (omega arith) (omega arith));
-      };
-      says = e;
-      on = (left-on AtomWritten 64 done w rest l, subst Distinct (sym (append-assoc done (w ∷ []) rest)) d);
-    }
+        room = atom-room;
+      }
+
+  atom-step : Step Line.atom withAtoms Ready done w rest
+  atom-step = record {
+    fits = atom-fits;
+    says = atom-said (namedBy (withAtoms done) (Line.atom w)) w ∙ grown;
+    on = (
+      left-on AtomWritten 64 done w rest (r .0),
+      subst Distinct (sym (append-assoc done (w ∷ []) rest)) (r .1),
+    );
+  }
 
 pub atoms-read : (ns : List (List ℕ)) → Left AtomWritten 64 [] ns → Distinct ns
     → Reads (said [] [] [] 0 0 [] []) (map Line.atom ns) (said ns [] [] 0 0 [] [])

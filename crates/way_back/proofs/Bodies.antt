@@ -1,17 +1,17 @@
 -- The bodies of clauses and constraints, and readings: literals on the atoms of two words. Assumes nothing.
-use mathlib.Core.Path.{_≡_, refl}
+use mathlib.Core.Path.{_≡_}
 use mathlib.Core.Bool.{true, false, _&&_, false≢true}
-use mathlib.Core.List.{List, [], _∷_}
+use mathlib.Core.List.{List}
 use Prim.Native.Nat.{ℕ, zero, suc, _+_, _<_}
 use native.Mathlib.Omega.{arith}
 use lib.Dec.{ltb, eqb}
 use lib.ListN.{length}
 use borrow.Author.Tests.{lt-ltb, not-true}
 use Rattle.program.specs.Sound.{bare, shaped}
-use Rattle.text.specs.Words.{beginsWithLetter}
-use Rattle.text.proofs.Each.{Each}
-use Rattle.formulas.specs.Sentence.{isSentence}
-use Rattle.grammar.specs.Line.{Literal, ofLiteral, areNamed, takes, bodyNames}
+use Rattle.text.proofs.Each.{Each, each-gives}
+use Rattle.formulas.proofs.Spelling.{Lettered}
+use Rattle.grammar.specs.Line.{Literal, areNamed, takes, bodyNames}
+use Rattle.grammar.proofs.LineLaws.{lettered-body}
 use Rattle.names.specs.Names.{atomOf}
 use Rattle.store.specs.Saying.{plainAtoms, negatedAtoms}
 use Rattle.checks.proofs.Naming.{name-lettered}
@@ -20,18 +20,10 @@ use Rattle.writing.specs.Lines.{literalsFor}
 use Rattle.way_back.proofs.Masks.{plain-back, negated-back, literals-some, literals-none, literal-names}
 use Rattle.way_back.proofs.KnownNames.{NamedBy, Usable, usable}
 
-pub literal-sentence : (x : Literal) → Each (λ w. beginsWithLetter w ≡ true) (bodyNames (x ∷ []))
-    → isSentence (ofLiteral x) ≡ true
-unfolding isSentence
-literal-sentence (Literal.literal false w) h = h .0
-literal-sentence (Literal.literal true w) h = h .0
-
 module _ (ns : List (List ℕ)) where
   pub body-named : (ls : List Literal) → Each (Usable ns) (bodyNames ls) → areNamed ls ≡ true
-  unfolding areNamed
-  body-named [] h = refl
-  body-named (Literal.literal b w ∷ ls) h =
-      rw (literal-sentence (Literal.literal b w) (name-lettered w (h .0 .0), tt), body-named ls (h .1))
+  body-named ls h =
+      lettered-body ls (each-gives (Usable ns) Lettered (λ w u. name-lettered w (u .0)) (bodyNames ls) h)
 
   module _ (name : ℕ → List ℕ) (h : NamedBy ns name) (p q : ℕ) (b : BitsBelow (length ns) p q) where
     abbrev ls : List Literal

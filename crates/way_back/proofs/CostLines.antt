@@ -5,19 +5,21 @@ use mathlib.Core.List.{List, [], _∷_, _++_, map}
 use Prim.Native.Nat.{ℕ, _+_, _≤_}
 use native.Mathlib.Omega.{arith}
 use lib.ListN.{length}
-use borrow.Author.Tests.{le-leb}
 use Rattle.logic.specs.Formula.{Formula}
 use Rattle.text.specs.Numbers.{numberOf, isNumber}
 use Rattle.text.proofs.Each.{Each}
+use Rattle.text.proofs.NumberLaws.{digits-number}
 use Rattle.grammar.specs.Line.{isLine, lineNames, brings, pricing}
+use Rattle.grammar.proofs.LineLaws.{numbers-are-line}
 use Rattle.store.specs.Prices.{CostRow, hasCost}
-use Rattle.store.specs.Saying.{ClauseRow, ConstraintRow, Said, said, costRow, saidBy, isSecondCost}
+use Rattle.store.specs.Saying.{ClauseRow, ConstraintRow, Said, said, costRow, isSecondCost}
+use Rattle.store.proofs.Saying.{cost-said, cost-second}
 use Rattle.checks.proofs.Naming.{name-lettered}
 use Rattle.output.specs.Decimal.{decimal}
 use Rattle.output.proofs.Decimals.{decimal-some, decimal-short}
 use Rattle.output.proofs.Theorems.{decimal-exact}
 use Rattle.writing.specs.Lines.{costLine}
-use Rattle.way_back.proofs.Costs.{CostFormed, Fresh}
+use Rattle.writing.proofs.Costs.{CostFormed, Fresh}
 use Rattle.way_back.proofs.Fits.{RoomFor}
 use Rattle.way_back.proofs.FittingLines.{Reads, Step, segment, Written}
 use Rattle.way_back.proofs.KnownNames.{NamedBy, Usable, usable, known-says, known-fits, price-alone}
@@ -28,13 +30,9 @@ module _ (n : ℕ) (h : n ≤ 2000000) where
   number-back = decimal-exact n (omega arith) .stands-for
 
   is-number : isNumber (decimal n) ≡ true
-  unfolding isNumber
   is-number =
-      rw (
-        le-leb 1 (length (decimal n)) (decimal-some n),
-        le-leb (length (decimal n)) 7 (decimal-short 6 n (omega arith)),
-        decimal-exact n (omega arith) .are-digits,
-      )
+      digits-number (decimal n) (decimal-some n) (decimal-short 6 n (omega arith))
+      (decimal-exact n (omega arith) .are-digits)
 
 zero-back : numberOf (decimal 0) ≡ 0
 zero-back = number-back 0 (omega arith)
@@ -53,12 +51,13 @@ module _ (ns : List (List ℕ)) (name : ℕ → List ℕ) (h : NamedBy ns name) 
     )
 
     cost-is-line : isLine (costLine name r) ≡ true
-    unfolding isLine
-    cost-is-line = rw (
-      name-lettered (name (r .atom)) (cost-usable .0 .0),
-      is-number (r .price) (f .price-few),
-      is-number 0 (omega arith),
-    )
+    cost-is-line =
+        numbers-are-line (name (r .atom)) (decimal (r .price)) (decimal 0)
+        ∙ rw (
+          name-lettered (name (r .atom)) (cost-usable .0 .0),
+          is-number (r .price) (f .price-few),
+          is-number 0 (omega arith),
+        )
 
     cost-brings : brings (costLine name r) ≡ pricing (r .price) 0
     cost-brings = rw (number-back (r .price) (f .price-few), zero-back)
@@ -77,8 +76,9 @@ module _ (ns : List (List ℕ)) (name : ℕ → List ℕ) (h : NamedBy ns name) 
     module _ (done : List CostRow) (r : CostRow) (f : CostFormed (length ns) r)
         (fresh : hasCost done (r .atom) ≡ false) where
       not-again : isSecondCost (withCosts done) (costLine name r) ≡ false
-      unfolding isSecondCost
-      not-again = ap (hasCost done) (h .finds (r .atom) (f .atom-lt)) ∙ fresh
+      not-again =
+          cost-second (withCosts done) (name (r .atom)) (decimal (r .price)) (decimal 0)
+          ∙ ap (hasCost done) (h .finds (r .atom) (f .atom-lt)) ∙ fresh
 
       cost-room : RoomFor (withCosts done) (isSecondCost (withCosts done) (costLine name r)) (pricing (r .price) 0)
       cost-room = record {
@@ -94,7 +94,6 @@ module _ (ns : List (List ℕ)) (name : ℕ → List ℕ) (h : NamedBy ns name) 
 
     cost-step : (done : List CostRow) (r : CostRow) (rest : List CostRow) → Ready done (r ∷ rest)
         → Step (costLine name) withCosts Ready done r rest
-    unfolding saidBy
     cost-step done r rest y =
         let f = y .0 .0 .0 in
         let u = cost-usable r f in
@@ -102,7 +101,9 @@ module _ (ns : List (List ℕ)) (name : ℕ → List ℕ) (h : NamedBy ns name) 
         record {
           fits = known-fits st (costLine name r) u (cost-is-line r f) (y .0 .0 .1) (omega arith)
               (rw (cost-brings r f) (cost-room done r f (y .1 .0)));
-          says = known-says st (costLine name r) u ∙ ap (λ k. withCosts (done ++ (k ∷ []))) (cost-back r f);
+          says = known-says st (costLine name r) u
+              ∙ cost-said st (name (r .atom)) (decimal (r .price)) (decimal 0)
+              ∙ ap (λ k. withCosts (done ++ (k ∷ []))) (cost-back r f);
           on = (y .0 .1, y .1 .1);
         }
 

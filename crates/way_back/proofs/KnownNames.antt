@@ -18,9 +18,9 @@ use Rattle.store.specs.Prices.{priceOf}
 use Rattle.store.specs.Saying.{Said, saidBy, isSecondCost}
 use Rattle.store.proofs.Prices.{supplement-near}
 use Rattle.store.proofs.Encoded.{Known}
+use Rattle.store.proofs.Lookups.{Finds}
 use Rattle.checks.specs.Naming.{IsName}
 use Rattle.writing.specs.Lines.{lineText}
-use Rattle.way_back.proofs.Masks.{Finds}
 use Rattle.way_back.proofs.Fits.{namedBy, after, RoomFor, Fits}
 
 pub record NamedBy (ns : List (List ℕ)) (name : ℕ → List ℕ) : Type 0 where

@@ -1,29 +1,22 @@
 -- Laws, in reading order.
 -- Formed: the entries of sound tables are well formed.
--- Costs: the costs of a table of prices.
 -- Writable: what is known of a writable case.
 -- UsedRows: tables filled with the rows of another.
 -- SaidUsed: what holds what a writable case says is the case in its used entries.
 -- Masks: the literals on the atoms of two words.
--- Decoded: a formula with the names of its atoms.
--- LineWords: the words of a line's tokens.
 -- Fits: a line that may stand behind what was read.
 -- FittingLines: lines that may stand one behind the other.
 -- KnownNames: lines all of whose names were read before.
 -- Bodies: the bodies of clauses and constraints, and readings.
 -- AtomLines, ClauseLines, SeenLines, QueryLines, CostLines: the lines of each kind are read as what they are of.
 -- WrittenLines: so are the lines of all that is well formed.
--- Unrefused: what is known of a case that writing does not refuse.
 -- TextRead: reading its text gives what the case says.
 -- Theorems: a proof of each claim of specs/Claims.antt.
 pub mod Formed
-pub mod Costs
 pub mod Writable
 pub mod UsedRows
 pub mod SaidUsed
 pub mod Masks
-pub mod Decoded
-pub mod LineWords
 pub mod Fits
 pub mod FittingLines
 pub mod KnownNames
@@ -34,6 +27,5 @@ pub mod SeenLines
 pub mod QueryLines
 pub mod CostLines
 pub mod WrittenLines
-pub mod Unrefused
 pub mod TextRead
 pub mod Theorems

@@ -7,12 +7,14 @@ use native.Mathlib.Omega.{arith}
 use lib.ListN.{length}
 use Rattle.logic.specs.Formula.{Formula}
 use Rattle.grammar.specs.Line.{isLine}
+use Rattle.grammar.proofs.LineLaws.{sentence-is-line}
 use Rattle.names.specs.Names.{atomOf}
-use Rattle.store.specs.Saying.{ClauseRow, ConstraintRow, Said, said, saidBy, isSecondCost}
+use Rattle.store.specs.Saying.{ClauseRow, ConstraintRow, Said, said}
+use Rattle.store.proofs.Saying.{query-said, query-no-cost}
 use Rattle.checks.proofs.Naming.{name-lettered}
 use Rattle.reader.proofs.WellFormed.{QueryFormed}
 use Rattle.writing.specs.Lines.{decoded, queryLine}
-use Rattle.way_back.proofs.Decoded.{DecodedAs, decoded-depth, decoded-as}
+use Rattle.writing.proofs.Decoded.{DecodedAs, decoded-depth, decoded-as}
 use Rattle.way_back.proofs.FittingLines.{Reads, Step, segment, Written, Left, left-room, left-on}
 use Rattle.way_back.proofs.KnownNames.{NamedBy, Usable, usable, known-says, known-fits, room-rows}
 
@@ -23,8 +25,7 @@ module _ (ns : List (List ℕ)) (name : ℕ → List ℕ) (h : NamedBy ns name) 
       (λ a l. name-lettered (name a) (h .are-names a l)) (usable ns name h) f (q .over-atoms)
 
   query-is-line : (f : Formula) → QueryFormed (length ns) f → isLine (queryLine name f) ≡ true
-  unfolding isLine
-  query-is-line f q = query-as f q .is-sentence
+  query-is-line f q = sentence-is-line (decoded name f) ∙ query-as f q .is-sentence
 
   abbrev pub QueryWritten : Formula → Type 0
   QueryWritten f = Written (queryLine name) (QueryFormed (length ns)) f
@@ -36,7 +37,6 @@ module _ (ns : List (List ℕ)) (name : ℕ → List ℕ) (h : NamedBy ns name) 
 
     query-step : (done : List Formula) (f : Formula) (rest : List Formula) → Left QueryWritten 16 done (f ∷ rest)
         → Step (queryLine name) withQueries (Left QueryWritten 16) done f rest
-    unfolding saidBy isSecondCost
     query-step done f rest r =
         let d = query-as f (r .each .0 .0) in
         let m = left-room QueryWritten 16 done f rest r in
@@ -44,8 +44,10 @@ module _ (ns : List (List ℕ)) (name : ℕ → List ℕ) (h : NamedBy ns name) 
         record {
           fits = known-fits st (queryLine name f) (d .names) (query-is-line f (r .each .0 .0)) (r .each .0 .1)
               (omega (arith, decoded-depth d, r .each .0 .0 .not-deep))
-              (room-rows st 0 0 1 _ (h .few) (omega arith) (omega arith) (omega arith));
-          says = known-says st (queryLine name f) (d .names) ∙ ap (λ g. withQueries (done ++ (g ∷ []))) (d .back);
+              (rw (query-no-cost st (decoded name f))
+              (room-rows st 0 0 1 _ (h .few) (omega arith) (omega arith) (omega arith)));
+          says = known-says st (queryLine name f) (d .names) ∙ query-said st (decoded name f)
+              ∙ ap (λ g. withQueries (done ++ (g ∷ []))) (d .back);
           on = left-on QueryWritten 16 done f rest r;
         }
 

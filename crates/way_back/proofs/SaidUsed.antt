@@ -33,7 +33,7 @@ use Rattle.writing.specs.Used.{clauseIn, constraintIn, formulaIn, costsIn, said
 use Rattle.writing.specs.Operation.{writable}
 use Rattle.way_back.specs.Claims.{SameUsed}
 use Rattle.writing.proofs.CaseRoom.{writable-sound, formula-nodes}
-use Rattle.way_back.proofs.Costs.{costs-price}
+use Rattle.writing.proofs.Costs.{costs-price}
 use Rattle.way_back.proofs.Writable.{row-is}
 use Rattle.way_back.proofs.UsedRows.{rows-used, clause-words, constraint-words}
 
@@ -130,16 +130,24 @@ module _ (c : Case) (t v : Lent) (h : writable c t ≡ true) (long : Long t) (ro
       price-at (costsIn (t .prices) (c .atoms)) (v .prices) (room .prices-long) a (omega arith)
       ∙ costs-price (t .prices) (c .atoms) a l
 
+  -- both tables have a price for each atom
+  filled-count : length (take (c .atoms) filled-prices) ≡ c .atoms
+  filled-count =
+      let n = atoms-few in
+      let full = room .prices-long in
+      let e = filled-length priceSize (pricesOf (costsIn (t .prices) (c .atoms))) (v .prices) in
+      length-take-le (c .atoms) filled-prices (omega arith)
+
+  price-count : length (take (c .atoms) (t .prices)) ≡ c .atoms
+  price-count =
+      let n = atoms-few in
+      let full = long .prices-long in
+      length-take-le (c .atoms) (t .prices) (omega arith)
+
   prices-used : take (c .atoms) filled-prices ≡ take (c .atoms) (t .prices)
   prices-used =
-      let n = atoms-few in
-      let long-t = long .prices-long in
-      let long-v = room .prices-long in
-      let e = filled-length priceSize (pricesOf (costsIn (t .prices) (c .atoms))) (v .prices) in
-      let a : length (take (c .atoms) filled-prices) ≡ c .atoms =
-      length-take-le (c .atoms) filled-prices (omega arith) in
-      let b : length (take (c .atoms) (t .prices)) ≡ c .atoms = length-take-le (c .atoms) (t .prices) (omega arith) in
-      ext-getD 0 (take (c .atoms) filled-prices) (take (c .atoms) (t .prices)) (a ∙ sym b)
+      let e = filled-count in
+      ext-getD 0 (take (c .atoms) filled-prices) (take (c .atoms) (t .prices)) (filled-count ∙ sym price-count)
       (λ i l.
       getD-take (c .atoms) filled-prices i 0 (omega arith) ∙ price-used i (omega arith)
       ∙ sym (getD-take (c .atoms) (t .prices) i 0 (omega arith)))

@@ -10,14 +10,14 @@ use Rattle.words.proofs.Bits.{has-zero}
 use Rattle.words.proofs.Words.{has-word, word-lt}
 use Rattle.text.proofs.Each.{Each, each-gives}
 use Rattle.grammar.specs.Line.{Line, Literal, isLine, bodyNames}
+use Rattle.grammar.proofs.LineLaws.{literal-sentence, literal-is-line}
 use Rattle.names.specs.Names.{atomOf}
 use Rattle.store.specs.Saying.{ClauseRow, ConstraintRow, Said, said, atomsBy, plainAtoms, negatedAtoms, orAtoms}
-use Rattle.store.specs.Saying.{saidBy, isSecondCost}
-use Rattle.store.proofs.Saying.{on-none, on-append, atoms-has, is-atoms}
+use Rattle.store.proofs.Saying.{seen-said, seen-no-cost, on-none, on-append, atoms-has, is-atoms}
 use Rattle.checks.proofs.Naming.{name-lettered}
+use Rattle.way_back.proofs.Fits.{after}
 use Rattle.way_back.proofs.FittingLines.{Reads, Step, segment, Written}
 use Rattle.way_back.proofs.KnownNames.{Usable, known-says, known-fits, room-rows}
-use Rattle.way_back.proofs.Bodies.{literal-sentence}
 
 -- the atoms of no literal, and of literals one behind the other
 module _ (at : List ℕ → ℕ) (b : Bool) where
@@ -41,22 +41,26 @@ module _ (ns : List (List ℕ)) (few : length ns ≤ 64) (cs : List ClauseRow) (
   Ready done rest = Each ReadingWritten rest
 
   seen-is-line : (x : Literal) → Each (Usable ns) (bodyNames (x ∷ [])) → isLine (Line.seen x) ≡ true
-  unfolding isLine
   seen-is-line x u =
-      literal-sentence x (each-gives (Usable ns) _ (λ w h. name-lettered w (h .0)) (bodyNames (x ∷ [])) u)
+      literal-is-line x
+      ∙ literal-sentence x (each-gives (Usable ns) _ (λ w h. name-lettered w (h .0)) (bodyNames (x ∷ [])) u)
+
+  reading-says : (done : List Literal) (x : Literal) → Each (Usable ns) (bodyNames (x ∷ []))
+      → after (withReadings done) (Line.seen x) ≡ withReadings (done ++ (x ∷ []))
+  reading-says done x u =
+      known-says (withReadings done) (Line.seen x) u ∙ seen-said (withReadings done) x
+      ∙ ap₂ (λ p q. said ns cs ds p q [] [])
+      (atoms-more (atomOf ns) false done (x ∷ [])) (atoms-more (atomOf ns) true done (x ∷ []))
 
   reading-step : (done : List Literal) (x : Literal) (rest : List Literal) → Ready done (x ∷ rest)
       → Step Line.seen withReadings Ready done x rest
-  unfolding saidBy isSecondCost
   reading-step done x rest r =
       let u = r .0 .0 in
       let st = withReadings done in
       record {
         fits = known-fits st (Line.seen x) u (seen-is-line x u) (r .0 .1) (omega arith)
-            (room-rows st 0 0 0 0 few (omega arith) (omega arith) (omega arith));
-        says = known-says st (Line.seen x) u
-            ∙ ap₂ (λ p q. said ns cs ds p q [] [])
-            (atoms-more (atomOf ns) false done (x ∷ [])) (atoms-more (atomOf ns) true done (x ∷ []));
+            (rw (seen-no-cost st x) (room-rows st 0 0 0 0 few (omega arith) (omega arith) (omega arith)));
+        says = reading-says done x u;
         on = r .1;
       }
 

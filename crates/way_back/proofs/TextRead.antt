@@ -7,9 +7,8 @@ use native.Mathlib.Omega.{arith}
 use lib.Dec.{leb}
 use lib.ListN.{length, take}
 use lib.Seq.{getD-take}
-use borrow.Author.Tests.{leb-true, le-leb}
+use borrow.Author.Tests.{le-leb}
 use Rattle.words.proofs.Lists.{list-of-length}
-use Rattle.words.proofs.Tests.{and-true-l, and-true-r}
 use Rattle.program.specs.declared.case.Case.{Case}
 use Rattle.program.specs.Sound.{fewCauses}
 use Rattle.program.proofs.MakingSound.{few-causes-ext}
@@ -29,10 +28,10 @@ use Rattle.writing.specs.Used.{clauseIn, formulaIn, saidOf}
 use Rattle.spelling.proofs.Pages.{short-lines}
 use Rattle.writing.proofs.CaseRoom.{writable-sound}
 use Rattle.writing.specs.Operation.{caseLines, caseText, writeRefusal}
-use Rattle.way_back.proofs.Costs.{costs-formed, costs-fresh}
+use Rattle.writing.proofs.Costs.{costs-formed, costs-fresh}
 use Rattle.way_back.proofs.Writable.{name-is, name-atom, prices-few, said-formed}
 use Rattle.way_back.proofs.UsedRows.{rows-taken, clause-words}
-use Rattle.way_back.proofs.Unrefused.{Unrefused, unrefused}
+use Rattle.writing.proofs.Unrefused.{Unrefused, unrefused}
 use Rattle.way_back.proofs.FittingLines.{Reads, lines-alone, lines-read}
 use Rattle.way_back.proofs.KnownNames.{NamedBy}
 use Rattle.way_back.proofs.WrittenLines.{Short, Writes, written-read}

@@ -14,7 +14,7 @@ use Rattle.writing.specs.Used.{saidOf}
 use Rattle.writing.specs.Operation.{caseText, writeRefusal}
 use Rattle.way_back.specs.Claims.{SameUsed, WayBack}
 use Rattle.way_back.proofs.SaidUsed.{said-used}
-use Rattle.way_back.proofs.Unrefused.{Unrefused, unrefused}
+use Rattle.writing.proofs.Unrefused.{Unrefused, unrefused}
 use Rattle.way_back.proofs.TextRead.{text-read}
 
 module _ (c : Case) (t v u : Lent) (n : ℕ) (r : Answer) (h : writeRefusal c t n ≡ 0) (fits : tablesFit v ≡ true)

@@ -6,95 +6,39 @@
 --   said-formed         what it says is well formed
 -- Assumes nothing.
 use mathlib.Core.Path.{_≡_, sym, ap, _∙_}
-use mathlib.Core.Bool.{Bool, true, false, not, _&&_, false≢true}
+use mathlib.Core.Bool.{true}
 use mathlib.Core.List.{List, []}
 use Prim.Native.Nat.{ℕ, _≤_, _<_}
 use native.Mathlib.Omega.{arith}
-use lib.Dec.{leb}
 use lib.ListN.{length, getD}
-use borrow.Author.Tests.{leb-true, not-true}
-use Rattle.words.specs.Below.{every}
 use Rattle.words.specs.Lists.{listOf}
-use Rattle.words.proofs.Below.{any-false, every-at}
 use Rattle.words.proofs.Lists.{list-of-length, list-of-at}
-use Rattle.words.proofs.Tests.{and-true-l, and-true-r}
 use Rattle.program.specs.declared.case.Case.{Case}
-use Rattle.program.specs.Sound.{sound, soundClauses, soundConstraints}
-use Rattle.program.proofs.Soundness.{clauseTest, constraintTest, sound-clause-table, sound-constraint-table}
+use Rattle.program.specs.Sound.{sound}
 use Rattle.program.proofs.Soundness.{sound-within, sound-atoms, sound-clauses, sound-constraints, sound-formulas}
 use Rattle.program.proofs.Soundness.{sound-each}
-use Rattle.text.specs.Bytes.{sameBytes}
-use Rattle.text.proofs.Same.{same-refl, same-eq}
+use Rattle.program.proofs.SoundEntries.{each-clause-sound, each-constraint-sound}
 use Rattle.table.specs.Filled.{padded}
 use Rattle.names.specs.Names.{atomOf}
 use Rattle.names.specs.Row.{rowAt, nameIn}
 use Rattle.names.proofs.Distinct.{Distinct}
 use Rattle.names.proofs.Adding.{distinct-atom}
 use Rattle.store.specs.Lent.{Lent}
-use Rattle.checks.specs.Naming.{isName, IsName}
+use Rattle.checks.specs.Naming.{IsName}
 use Rattle.reader.proofs.WellFormed.{NamesFormed, ClauseFormed, ConstraintFormed, QueryFormed, WellFormed}
 use Rattle.reader.proofs.WellFormed.{well-formed}
 use Rattle.writing.specs.Used.{clauseIn, constraintIn, formulaIn, saidOf}
-use Rattle.writing.specs.Operation.{isNameRow, isRepeated, isWritableAtom, writable}
+use Rattle.writing.specs.Operation.{writable}
 use Rattle.writing.proofs.Rows.{rows-list-of}
 use Rattle.writing.proofs.CaseRoom.{writable-sound}
+use Rattle.writing.proofs.WritableAtoms.{writable-atom, price-few, atom-name, atom-row, row-fresh}
 use Rattle.way_back.proofs.Formed.{within-formed, clause-formed, constraint-formed, query-formed}
-
--- An atom
-
-module _ (t : Lent) (a : ℕ) (h : isWritableAtom (t .names) (t .prices) a ≡ true) where
-  abbrev price-test : Bool
-  price-test = leb (getD (t .prices) a 0) 2000000
-
-  abbrev row-tests : Bool
-  row-tests = isNameRow (t .names) a && not (isRepeated (t .names) a)
-
-  name-row : isNameRow (t .names) a ≡ true
-  unfolding isWritableAtom
-  name-row = and-true-l (isNameRow (t .names) a) (not (isRepeated (t .names) a)) (and-true-l row-tests price-test h)
-
-  not-repeated : isRepeated (t .names) a ≡ false
-  unfolding isWritableAtom
-  not-repeated =
-      not-true (isRepeated (t .names) a)
-      (and-true-r (isNameRow (t .names) a) (not (isRepeated (t .names) a)) (and-true-l row-tests price-test h))
-
-  price-few : getD (t .prices) a 0 ≤ 2000000
-  unfolding isWritableAtom
-  price-few = leb-true (getD (t .prices) a 0) 2000000 (and-true-r row-tests price-test h)
-
-  atom-name : IsName (nameIn (t .names) a)
-  unfolding isNameRow
-  atom-name =
-      and-true-l (isName (nameIn (t .names) a)) (sameBytes (rowAt (t .names) a) (padded 16 (nameIn (t .names) a)))
-      name-row
-
-  atom-row : rowAt (t .names) a ≡ padded 16 (nameIn (t .names) a)
-  unfolding isNameRow
-  atom-row =
-      same-eq (rowAt (t .names) a) (padded 16 (nameIn (t .names) a))
-      (and-true-r (isName (nameIn (t .names) a))
-      (sameBytes (rowAt (t .names) a) (padded 16 (nameIn (t .names) a))) name-row)
-
-  -- no row before it is the same
-  row-fresh : (b : ℕ) → b < a → rowAt (t .names) b ≡ rowAt (t .names) a → ⊥
-  unfolding isRepeated
-  row-fresh b l e =
-      let same = ap (λ r. sameBytes r (rowAt (t .names) a)) e ∙ same-refl (rowAt (t .names) a) in
-      false≢true (sym (any-false a (λ i. sameBytes (rowAt (t .names) i) (rowAt (t .names) a)) not-repeated b l) ∙ same)
 
 -- The case
 
 module _ (c : Case) (t : Lent) (h : writable c t ≡ true) where
   is-sound : sound c (t .clauses) (t .constraints) (t .formula) ≡ true
   is-sound = writable-sound c t h
-
-  writable-atom : (a : ℕ) → a < c .atoms → isWritableAtom (t .names) (t .prices) a ≡ true
-  unfolding writable
-  writable-atom =
-      every-at (c .atoms) (isWritableAtom (t .names) (t .prices))
-      (and-true-r (sound c (t .clauses) (t .constraints) (t .formula))
-      (every (c .atoms) (isWritableAtom (t .names) (t .prices))) h)
 
   abbrev pub names : List (List ℕ)
   names = listOf (c .atoms) (nameIn (t .names))
@@ -103,17 +47,17 @@ module _ (c : Case) (t : Lent) (h : writable c t ≡ true) where
 
   module _ (a : ℕ) (l : a < c .atoms) where
     pub name-is : IsName (nameIn (t .names) a)
-    name-is = atom-name t a (writable-atom a l)
+    name-is = atom-name t a (writable-atom c t h a l)
 
     pub row-is : rowAt (t .names) a ≡ padded 16 (nameIn (t .names) a)
-    row-is = atom-row t a (writable-atom a l)
+    row-is = atom-row t a (writable-atom c t h a l)
 
     pub prices-few : getD (t .prices) a 0 ≤ 2000000
-    prices-few = price-few t a (writable-atom a l)
+    prices-few = price-few t a (writable-atom c t h a l)
 
   names-differ : (i j : ℕ) → i < j → j < c .atoms → nameIn (t .names) i ≡ nameIn (t .names) j → ⊥
   names-differ i j lt l e =
-      row-fresh t j (writable-atom j l) i lt (row-is i (omega arith) ∙ ap (padded 16) e ∙ sym (row-is j l))
+      row-fresh t j (writable-atom c t h j l) i lt (row-is i (omega arith) ∙ ap (padded 16) e ∙ sym (row-is j l))
 
   names-distinct : Distinct names
   unfolding Distinct
@@ -139,17 +83,10 @@ module _ (c : Case) (t : Lent) (h : writable c t ≡ true) where
   -- Clauses, constraints and formulas
 
   pub each-clause : (k : ℕ) → k < c .clauses → ClauseFormed (c .atoms) (clauseIn (t .clauses) k)
-  unfolding soundClauses
-  each-clause k l =
-      clause-formed (c .atoms) (t .clauses) k
-      (every-at (c .clauses) (clauseTest (c .atoms) (t .clauses)) (sound-clause-table c _ _ _ is-sound) k l)
+  each-clause k l = clause-formed (c .atoms) (t .clauses) k (each-clause-sound c _ _ _ is-sound k l)
 
   pub each-constraint : (k : ℕ) → k < c .constraints → ConstraintFormed (c .atoms) (constraintIn (t .constraints) k)
-  unfolding soundConstraints
-  each-constraint k l =
-      constraint-formed (c .atoms) (t .constraints) k
-      (every-at (c .constraints) (constraintTest (c .atoms) (t .constraints))
-      (sound-constraint-table c _ _ _ is-sound) k l)
+  each-constraint k l = constraint-formed (c .atoms) (t .constraints) k (each-constraint-sound c _ _ _ is-sound k l)
 
   pub each-formula : (q : ℕ) → q < c .formulas → QueryFormed (c .atoms) (formulaIn c (t .formula) q)
   each-formula q l =

@@ -13,7 +13,7 @@ use Rattle.store.specs.Saying.{Said, said, nothingSaid}
 use Rattle.checks.specs.Naming.{IsName}
 use Rattle.reader.proofs.WellFormed.{Rows, ClauseFormed, ConstraintFormed, QueryFormed, WellFormed}
 use Rattle.writing.specs.Lines.{literalsFor, clauseLine, constraintLine, queryLine, costLine, linesOf, lineText}
-use Rattle.way_back.proofs.Costs.{CostFormed, Fresh}
+use Rattle.writing.proofs.Costs.{CostFormed, Fresh}
 use Rattle.way_back.proofs.FittingLines.{Reads, reads-append, Written, Left}
 use Rattle.way_back.proofs.KnownNames.{NamedBy, Usable}
 use Rattle.way_back.proofs.Bodies.{body-usable, plain-again, negated-again}

@@ -8,6 +8,7 @@ use Rattle.program.specs.Cause.{atomsIn}
 use Rattle.program.proofs.Atoms.{atoms-zero, atoms-lowest}
 use Rattle.text.specs.Tokens.{Token}
 use Rattle.grammar.specs.Line.{Literal, bodyTokens}
+use Rattle.grammar.proofs.LineTokens.{body-none, body-first}
 use Rattle.output.specs.Writing.{Room}
 use Rattle.text.specs.Spelled.{textOf}
 use Rattle.spelling.specs.declared.Pen.{Pen}
@@ -26,12 +27,12 @@ onTokens name b w = bodyTokens (literalsOn name b (atomsIn w))
 
 module _ (name : ℕ → List ℕ) (b : Bool) where
   on-none : onTokens name b 0 ≡ []
-  unfolding bodyTokens
-  on-none = ap (λ (l : List ℕ). bodyTokens (literalsOn name b l)) atoms-zero
+  on-none = ap (λ (l : List ℕ). bodyTokens (literalsOn name b l)) atoms-zero ∙ body-none
 
   on-lowest : (w a : ℕ) → LowestOf w a → onTokens name b w ≡ literalTokens name b a ++ onTokens name b (withoutBit w a)
-  unfolding bodyTokens
-  on-lowest w a h = ap (λ (l : List ℕ). bodyTokens (literalsOn name b l)) (atoms-lowest w a h)
+  on-lowest w a h =
+      ap (λ (l : List ℕ). bodyTokens (literalsOn name b l)) (atoms-lowest w a h)
+      ∙ body-first (Literal.literal b (name a)) (literalsOn name b (atomsIn (withoutBit w a)))
 
   -- of the literals on the atoms of w those on the atoms of left are still to be written
   abbrev pub AtLiteral : ℕ → List ℕ → Pen → ℕ → Pen → List ℕ → Type 0

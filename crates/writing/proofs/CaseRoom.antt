@@ -23,6 +23,7 @@ use Rattle.program.specs.Case.{partSize, nodesOf}
 use Rattle.program.specs.Sound.{soundFormula, sound}
 use Rattle.program.proofs.Soundness.{formula-few, formula-one, sound-atoms, sound-clauses, sound-constraints}
 use Rattle.program.proofs.Soundness.{sound-formulas, sound-each}
+use Rattle.program.proofs.Atoms.{cons-few}
 use Rattle.text.proofs.Spelled.{text-bound}
 use Rattle.grammar.specs.Line.{Line}
 use Rattle.names.specs.Row.{nameIn}
@@ -35,7 +36,7 @@ use Rattle.output.specs.Writing.{Room}
 use Rattle.writing.specs.Lines.{literalsFor, clauseLine, constraintLine, queryLine, costLine, linesOf, lineText}
 use Rattle.writing.specs.Used.{clauseIn, constraintIn, formulaIn, costOf, costsIn, saidOf}
 use Rattle.writing.specs.Operation.{isWritableAtom, writable, caseLines, caseText}
-use Rattle.writing.proofs.Rows.{cons-few, rows-map, rows-append, rows-all, rows-gives, rows-list-of}
+use Rattle.writing.proofs.Rows.{rows-map, rows-append, rows-all, rows-gives, rows-list-of}
 use Rattle.writing.proofs.LineSizes.{ShortLine, SmallFormula, literals-small, atom-short}
 use Rattle.writing.proofs.LineSizes.{clause-short, constraint-short, seen-short, query-short, cost-short}
 

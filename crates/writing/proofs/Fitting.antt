@@ -1,18 +1,16 @@
 -- What a case that fits gives to the steps of writing it. Assumes nothing.
 use mathlib.Core.Path.{_≡_}
-use mathlib.Core.Bool.{Bool, true, _&&_, false≢true}
-use Prim.Native.Nat.{ℕ, zero, suc, _*_, _/_, _%_, _≤_}
+use mathlib.Core.Bool.{Bool, true, false≢true}
+use Prim.Native.Nat.{ℕ, zero, suc, _*_, _/_, _≤_}
 use native.Mathlib.Omega.{arith}
-use lib.Dec.{ltb}
 use lib.ListN.{length, getD}
-use Rattle.words.proofs.Below.{every-at}
-use Rattle.words.proofs.Tests.{and-true-r}
 use Rattle.logic.proofs.Spelling.{one-formula-spells}
 use Rattle.program.specs.declared.case.Case.{Case}
 use Rattle.program.specs.Case.{formulaSize, nameSize, priceSize, plainAt, negatedAt, nodesOf}
-use Rattle.program.specs.Sound.{within, bare, shaped, soundClause, soundClauses, sound}
-use Rattle.program.proofs.Soundness.{clauseTest, sound-clause-table, sound-atoms, sound-clauses, sound-constraints}
+use Rattle.program.specs.Sound.{bare, shaped, soundClause, sound}
+use Rattle.program.proofs.Soundness.{sound-atoms, sound-clauses, sound-constraints}
 use Rattle.program.proofs.Soundness.{sound-formulas, sound-each, sound-kind, formula-few, formula-one}
+use Rattle.program.proofs.SoundEntries.{clause-sound, each-clause-sound}
 use Rattle.store.specs.Lent.{Lent}
 use Rattle.store.specs.Held.{Long}
 use Rattle.reader.proofs.EarlyRefusals.{fit-long}
@@ -28,10 +26,7 @@ shaped-kind (suc (suc zero)) b h = omega arith
 shaped-kind (suc (suc (suc k))) b h = absurd (false≢true h)
 
 clause-kind : (n first p q : ℕ) → soundClause n first p q ≡ true → first / 64 ≤ 2
-unfolding soundClause
-clause-kind n first p q h =
-    shaped-kind (first / 64) (bare p q)
-    (and-true-r (ltb (first % 64) n && within n p q) (shaped (first / 64) (bare p q)) h)
+clause-kind n first p q h = shaped-kind (first / 64) (bare p q) (clause-sound n first p q h .shape)
 
 module _ (c : Case) (t : Lent) (f : Fit c t) where
   fit-sound : sound c (t .clauses) (t .constraints) (t .formula) ≡ true
@@ -61,10 +56,9 @@ module _ (c : Case) (t : Lent) (f : Fit c t) where
       (n, omega (arith, fit-sizes .clauses-long))
 
   pub fit-kinds : KindsSound (t .clauses) (c .clauses)
-  unfolding soundClauses
   fit-kinds k l =
       clause-kind (c .atoms) (getD (t .clauses) (3 * k) 0) (plainAt (t .clauses) k) (negatedAt (t .clauses) k)
-      (every-at (c .clauses) (clauseTest (c .atoms) (t .clauses)) (sound-clause-table c _ _ _ fit-sound) k l)
+      (each-clause-sound c _ _ _ fit-sound k l)
 
   pub fit-constraints : (c .constraints ≤ 32) × (3 * c .constraints ≤ length (t .constraints))
   fit-constraints =

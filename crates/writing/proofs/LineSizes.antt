@@ -6,22 +6,27 @@
 --   ShortLine x          the text of the line x has at most 12,600 bytes
 --   SmallFormula f       f has at most 128 nodes
 -- Assumes nothing.
+use mathlib.Core.Path.{_≡_}
 use mathlib.Core.Bool.{Bool, true, false}
 use mathlib.Core.List.{List, [], _∷_, _++_}
-use Prim.Native.Nat.{ℕ, zero, suc, _+_, _*_, _≤_, max}
+use Prim.Native.Nat.{ℕ, zero, suc, _+_, _-_, _*_, _≤_, max}
 use native.Mathlib.Omega.{arith}
 use lib.ListN.{length, getD, length-append}
-use Rattle.words.specs.Bits.{has}
 use Rattle.logic.specs.Formula.{Formula}
 use Rattle.logic.specs.Nodes.{nodes}
 use Rattle.program.specs.Case.{partSize}
-use Rattle.program.specs.Cause.{atomsFrom, atomsIn}
+use Rattle.program.specs.Cause.{atomsIn}
+use Rattle.program.proofs.Atoms.{atoms-few}
 use Rattle.text.specs.Tokens.{Token}
 use Rattle.text.specs.Words.{EachWord}
 use Rattle.text.proofs.Each.{Each}
 use Rattle.text.proofs.Spelled.{spelled-bound}
-use Rattle.formulas.specs.Sentence.{formWords, formTokens, tokensOf}
+use Rattle.formulas.specs.Sentence.{Sentence, formWords, formTokens, tokensOf}
+use Rattle.formulas.proofs.NameSentence.{name-tokens}
+use Rattle.formulas.proofs.FormSentence.{negation-tokens, joined-tokens}
 use Rattle.grammar.specs.Line.{Line, Literal, lineWords, ofLiteral, bodyTokens, lineTokens}
+use Rattle.grammar.proofs.LineTokens.{body-none, body-first, atom-tokens, clause-tokens, constraint-tokens}
+use Rattle.grammar.proofs.LineTokens.{seen-tokens, query-tokens, cost-tokens}
 use Rattle.reader.proofs.WellFormed.{Rows}
 use Rattle.store.specs.Prices.{CostRow}
 use Rattle.store.specs.Saying.{ClauseRow, ConstraintRow}
@@ -29,7 +34,7 @@ use Rattle.output.specs.Decimal.{decimal}
 use Rattle.output.proofs.Decimals.{decimal-length}
 use Rattle.writing.specs.Lines.{literalsOn, literalsFor, decoded, clauseLine, constraintLine, queryLine, costLine}
 use Rattle.writing.specs.Lines.{lineText}
-use Rattle.writing.proofs.Rows.{cons-few, rows-map, rows-append, rows-all}
+use Rattle.writing.proofs.Rows.{rows-map, rows-append, rows-all}
 
 abbrev ShortWord : List ℕ → Type 0
 ShortWord w = length w ≤ 20
@@ -89,39 +94,46 @@ small-form {ts} k h = record {
   few = omega (arith, h .few, length-append ts (Token.closing ∷ []));
 }
 
+-- ---- formulas
+small-name : (w : List ℕ) → ShortWord w → Small 1 (tokensOf (Sentence.name w))
+small-name w h = rw (name-tokens w) (small-word w h)
+
+small-negation : {n : ℕ} (f : Sentence) → Small n (tokensOf f) → Small (n + 3) (tokensOf (Sentence.negation f))
+small-negation f h = rw (negation-tokens f) (small-form (form-word 0) h)
+
+small-joined : (k : ℕ) {m n : ℕ} (f g : Sentence) → Small m (tokensOf f) → Small n (tokensOf g)
+    → Small (m + n + 3) (tokensOf (Sentence.joined k f g))
+small-joined k f g h i = rw (joined-tokens f g k) (small-form (form-word (k - 64)) (small-append h i))
+
 -- ---- literals
 small-literal : (b : Bool) (w : List ℕ) → ShortWord w → SmallLiteral (Literal.literal b w)
-unfolding tokensOf
-small-literal false w h = small-le (omega arith) (small-word w h)
-small-literal true w h = small-form (form-word 0) (small-word w h)
+small-literal false w h = small-le (omega arith) (small-name w h)
+small-literal true w h = small-negation (Sentence.name w) (small-name w h)
 
 small-body : (ls : List Literal) → Each SmallLiteral ls → Small (4 * length ls) (bodyTokens ls)
-unfolding bodyTokens
-small-body [] h = record { words = tt; few = omega arith }
-small-body (x ∷ ls) h = small-le (omega arith) (small-append (h .0) (small-body ls (h .1)))
+small-body [] h = rw body-none (record { words = tt; few = omega arith })
+small-body (x ∷ ls) h = rw (body-first x ls) (small-le (omega arith) (small-append (h .0) (small-body ls (h .1))))
 
 -- the literals of a body
 small-literals : (ls : List Literal) → Rows SmallLiteral 128 ls → Small 512 (bodyTokens ls)
 small-literals ls h = small-le (omega (arith, h .few)) (small-body ls (h .each))
-
-atoms-few : (w a n : ℕ) → length (atomsFrom w a n) ≤ n
-unfolding atomsFrom
-atoms-few w a zero = omega arith
-atoms-few w a (suc n) = cons-few (has w a) a n (atomsFrom w (suc a) n) (atoms-few w (suc a) n)
 
 -- ---- lines
 -- the text of at most 600 tokens
 tokens-short : (x : Line) → Small 600 (lineTokens x) → ShortLine x
 tokens-short x h = omega (arith, spelled-bound false (lineTokens x) (h .words), h .few)
 
+-- the line x is the form with the word w and at most 597 tokens ts behind it
+form-short : (x : Line) {w : List ℕ} {ts : List Token} → lineTokens x ≡ formTokens w ts → ShortWord w → Small 597 ts
+    → ShortLine x
+form-short x e h k = tokens-short x (rw e (small-form h k))
+
 pub atom-short : (w : List ℕ) → length w ≤ 16 → ShortLine (Line.atom w)
-unfolding lineTokens
 atom-short w h =
-    tokens-short (Line.atom w) (small-le (omega arith) (small-form (line-word 8) (small-word w (omega arith))))
+    form-short (Line.atom w) (atom-tokens w) (line-word 8) (small-le (omega arith) (small-word w (omega arith)))
 
 pub seen-short : (x : Literal) → SmallLiteral x → ShortLine (Line.seen x)
-unfolding lineTokens
-seen-short x h = tokens-short (Line.seen x) (small-le (omega arith) (small-form (line-word 5) h))
+seen-short x h = form-short (Line.seen x) (seen-tokens x) (line-word 5) (small-le (omega arith) h)
 
 module _ (name : ℕ → List ℕ) (short : (a : ℕ) → length (name a) ≤ 16) where
   name-word : (a : ℕ) → ShortWord (name a)
@@ -139,50 +151,48 @@ module _ (name : ℕ → List ℕ) (short : (a : ℕ) → length (name a) ≤ 16
   abbrev SmallDecoded : Formula → Type 0
   SmallDecoded f = Small (4 * length (nodes f) + 1) (tokensOf (decoded name f))
 
-  -- the form of two operands with the word k
+  -- the form of two operands with the node k
   form-small : (k : ℕ) (f g : Formula) → SmallDecoded f → SmallDecoded g
       → Small (4 * suc (length (nodes f ++ nodes g)) + 1)
-      (formTokens (getD formWords k []) (tokensOf (decoded name f) ++ tokensOf (decoded name g)))
+      (tokensOf (Sentence.joined k (decoded name f) (decoded name g)))
   form-small k f g h i =
-      small-le (omega (arith, length-append (nodes f) (nodes g))) (small-form (form-word k) (small-append h i))
+      small-le (omega (arith, length-append (nodes f) (nodes g)))
+      (small-joined k (decoded name f) (decoded name g) h i)
 
   decoded-small : (f : Formula) → SmallDecoded f
-  unfolding tokensOf decoded nodes
-  decoded-small Formula.truth = small-word [] (omega arith)
-  decoded-small Formula.falsity = small-word [] (omega arith)
-  decoded-small (Formula.atom a) = small-le (omega arith) (small-word (name a) (name-word a))
-  decoded-small (Formula.negation f) = small-le (omega arith) (small-form (form-word 0) (decoded-small f))
-  decoded-small (Formula.conjunction f g) = form-small 1 f g (decoded-small f) (decoded-small g)
-  decoded-small (Formula.disjunction f g) = form-small 2 f g (decoded-small f) (decoded-small g)
-  decoded-small (Formula.implication f g) = form-small 3 f g (decoded-small f) (decoded-small g)
-  decoded-small (Formula.equivalence f g) = form-small 4 f g (decoded-small f) (decoded-small g)
+  unfolding decoded nodes
+  decoded-small Formula.truth = small-name [] (omega arith)
+  decoded-small Formula.falsity = small-name [] (omega arith)
+  decoded-small (Formula.atom a) = small-le (omega arith) (small-name (name a) (name-word a))
+  decoded-small (Formula.negation f) = small-le (omega arith) (small-negation (decoded name f) (decoded-small f))
+  decoded-small (Formula.conjunction f g) = form-small 65 f g (decoded-small f) (decoded-small g)
+  decoded-small (Formula.disjunction f g) = form-small 66 f g (decoded-small f) (decoded-small g)
+  decoded-small (Formula.implication f g) = form-small 67 f g (decoded-small f) (decoded-small g)
+  decoded-small (Formula.equivalence f g) = form-small 68 f g (decoded-small f) (decoded-small g)
 
   pub clause-short : (c : ClauseRow) → ShortLine (clauseLine name c)
-  unfolding lineTokens
   clause-short c =
-      let body = small-literals _ (literals-small (c .plain) (c .negated)) in
-      tokens-short (clauseLine name c)
+      let ls = literalsFor name (c .plain) (c .negated) in
+      form-short (clauseLine name c) (clause-tokens (name (c .head)) (c .kind) ls) (line-word (c .kind))
       (small-le (omega arith)
-      (small-form (line-word (c .kind)) (small-append (small-word (name (c .head)) (name-word (c .head))) body)))
+      (small-append (small-word (name (c .head)) (name-word (c .head)))
+      (small-literals ls (literals-small (c .plain) (c .negated)))))
 
   pub constraint-short : (c : ConstraintRow) → ShortLine (constraintLine name c)
-  unfolding lineTokens
   constraint-short c =
-      tokens-short (constraintLine name c)
-      (small-le (omega arith)
-      (small-form (line-word (3 + c .kind)) (small-literals _ (literals-small (c .plain) (c .negated)))))
+      let ls = literalsFor name (c .plain) (c .negated) in
+      form-short (constraintLine name c) (constraint-tokens (c .kind) ls) (line-word (3 + c .kind))
+      (small-le (omega arith) (small-literals ls (literals-small (c .plain) (c .negated))))
 
   pub query-short : (f : Formula) → SmallFormula f → ShortLine (queryLine name f)
-  unfolding lineTokens
   query-short f h =
-      tokens-short (queryLine name f) (small-le (omega arith) (small-form (line-word 6) (decoded-small f)))
+      form-short (queryLine name f) (query-tokens (decoded name f)) (line-word 6)
+      (small-le (omega arith) (decoded-small f))
 
   pub cost-short : (r : CostRow) → ShortLine (costLine name r)
-  unfolding lineTokens
   cost-short r =
       let price = small-word (decimal (r .price)) (decimal-length (r .price)) in
       let supplement = small-word (decimal 0) (decimal-length 0) in
-      tokens-short (costLine name r)
+      form-short (costLine name r) (cost-tokens (name (r .atom)) (decimal (r .price)) (decimal 0)) (line-word 7)
       (small-le (omega arith)
-      (small-form (line-word 7)
-      (small-append (small-word (name (r .atom)) (name-word (r .atom))) (small-append price supplement))))
+      (small-append (small-word (name (r .atom)) (name-word (r .atom))) (small-append price supplement)))

@@ -1,5 +1,5 @@
 -- How a line is written: what it begins with, what stands in it, and what closes it. Assumes nothing.
-use mathlib.Core.Path.{_≡_, refl, ap, _∙_}
+use mathlib.Core.Path.{_≡_, ap, _∙_}
 use mathlib.Core.Bool.{false}
 use mathlib.Core.List.{List, [], _∷_, _++_, append-assoc}
 use Prim.Native.Nat.{ℕ, _+_, _≤_}
@@ -7,15 +7,17 @@ use native.Mathlib.Omega.{arith}
 use lib.ListN.{getD}
 use Rattle.text.specs.Bytes.{bytes}
 use Rattle.text.specs.Tokens.{Token}
-use Rattle.text.specs.Spelled.{spelledFrom, spelled, textOf}
-use Rattle.text.proofs.Spelled.{text-one}
+use Rattle.text.specs.Spelled.{spelled, textOf}
+use Rattle.text.proofs.Spelled.{spelled-closing, text-one}
 use Rattle.formulas.specs.Sentence.{Sentence, formTokens, tokensOf}
-use Rattle.grammar.specs.Line.{Line, Literal, lineWords, ofLiteral, bodyTokens, lineTokens}
+use Rattle.grammar.specs.Line.{Line, Literal, lineWords, ofLiteral, bodyTokens}
+use Rattle.grammar.proofs.LineTokens.{atom-tokens, clause-tokens, constraint-tokens, seen-tokens, query-tokens}
+use Rattle.grammar.proofs.LineTokens.{cost-tokens}
 use Rattle.output.specs.Writing.{Room}
 use Rattle.output.proofs.Laying as laying
 use Rattle.spelling.specs.declared.Pen.{Pen}
 use Rattle.spelling.specs.declared.Page.{Page}
-use Rattle.spelling.specs.Pen.{inked, Spells}
+use Rattle.spelling.specs.Pen.{behindOf, inked, Spells}
 use Rattle.spelling.specs.Page.{startOf, Ends, Sets}
 use Rattle.spelling.proofs.Pens.{spelled-append, spells-both, room-before, room-behind}
 use Rattle.spelling.proofs.Pages.{line-room, line-set}
@@ -26,16 +28,13 @@ use Rattle.writing.proofs.Parts.{closer}
 -- ---- what closes a line
 module _ (g : Page) (p : Pen) where
   pub closing-room : Room (41 ∷ (10 ∷ [])) (p .at) → Room (inked p closer) (p .at)
-  unfolding spelledFrom
-  closing-room h = laying.room-front (41 ∷ []) (10 ∷ []) (p .at) h
+  closing-room h = rw (spelled-closing (p .behind)) (laying.room-front (41 ∷ []) (10 ∷ []) (p .at) h)
 
   module _ {q : Pen} {out out₁ : List ℕ} (c : Spells closer out p q out₁) where
     pub feed-room : (g .at ≤ p .at) × Room (41 ∷ (10 ∷ [])) (p .at) → (g .at ≤ q .at) × Room (10 ∷ []) (q .at)
-    unfolding spelledFrom
-    feed-room h = (
-      omega (arith, c .place-is, h .0),
-      laying.room-behind (41 ∷ []) (10 ∷ []) (p .at) (h .1) (c .place-is),
-    )
+    feed-room h =
+        let e = rw (spelled-closing (p .behind)) at (c .place-is) in
+        (omega arith, laying.room-behind (41 ∷ []) (10 ∷ []) (p .at) (h .1) e)
 
     pub closes : {r : Page} {out₂ : List ℕ} → Ends g q out₁ r out₂ → Closes g p out r out₂
     closes e ts before h = line-set g (spells-both h closer c) e
@@ -43,9 +42,10 @@ module _ (g : Page) (p : Pen) where
 -- room for what closes a line, where its text has room
 module _ (ts : List Token) (g : Page) {p : Pen} {before out : List ℕ} (h : Spells ts before (startOf g) p out) where
   closed-text : textOf (spelled (ts ++ closer) ∷ []) ≡ spelled ts ++ (41 ∷ (10 ∷ []))
-  unfolding spelledFrom
   closed-text =
-      text-one _ ∙ ap (λ l. l ++ (10 ∷ [])) (spelled-append false ts closer)
+      text-one _
+      ∙ ap (λ l. l ++ (10 ∷ []))
+      (spelled-append false ts closer ∙ ap (λ l. spelled ts ++ l) (spelled-closing (behindOf false ts)))
       ∙ append-assoc (spelled ts) (41 ∷ []) (10 ∷ [])
 
   closed-room : Room (textOf (spelled (ts ++ closer) ∷ [])) (g .at) → (g .at ≤ p .at) × Room (41 ∷ (10 ∷ [])) (p .at)
@@ -100,28 +100,22 @@ module _ (j k : ℕ) (g : Page) (e : k ≡ j) where
 
 -- ---- each kind of line
 pub atom-form : (w : List ℕ) → FormLine (lineText (Line.atom w)) (bytes "atom") (Token.word w ∷ [])
-unfolding lineTokens
-atom-form w = record { text-is = refl }
+atom-form w = record { text-is = ap spelled (atom-tokens w) }
 
 pub clause-form : (k : ℕ) (w : List ℕ) (l : List Literal)
     → FormLine (lineText (Line.clause k w l)) (getD lineWords k []) (Token.word w ∷ bodyTokens l)
-unfolding lineTokens
-clause-form k w l = record { text-is = refl }
+clause-form k w l = record { text-is = ap spelled (clause-tokens w k l) }
 
 pub constraint-form : (k : ℕ) (l : List Literal)
     → FormLine (lineText (Line.constraint k l)) (getD lineWords (3 + k) []) (bodyTokens l)
-unfolding lineTokens
-constraint-form k l = record { text-is = refl }
+constraint-form k l = record { text-is = ap spelled (constraint-tokens k l) }
 
 pub seen-form : (x : Literal) → FormLine (lineText (Line.seen x)) (bytes "seen") (tokensOf (ofLiteral x))
-unfolding lineTokens
-seen-form x = record { text-is = refl }
+seen-form x = record { text-is = ap spelled (seen-tokens x) }
 
 pub query-form : (f : Sentence) → FormLine (lineText (Line.query f)) (bytes "query") (tokensOf f)
-unfolding lineTokens
-query-form f = record { text-is = refl }
+query-form f = record { text-is = ap spelled (query-tokens f) }
 
 pub cost-form : (w p s : List ℕ)
     → FormLine (lineText (Line.cost w p s)) (bytes "cost") (Token.word w ∷ (Token.word p ∷ (Token.word s ∷ [])))
-unfolding lineTokens
-cost-form w p s = record { text-is = refl }
+cost-form w p s = record { text-is = ap spelled (cost-tokens w p s) }

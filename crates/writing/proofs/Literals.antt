@@ -1,13 +1,16 @@
 -- How a literal and a body are written. Assumes nothing.
-use mathlib.Core.Path.{_≡_, refl, sym, ap, _∙_}
+use mathlib.Core.Path.{_≡_, ap, _∙_}
 use mathlib.Core.Bool.{Bool, true, false}
-use mathlib.Core.List.{List, [], _∷_, _++_, append-assoc}
+use mathlib.Core.List.{List, [], _∷_, _++_}
 use Prim.Native.Nat.{ℕ}
 use Rattle.program.specs.Cause.{atomsIn}
 use Rattle.text.specs.Bytes.{bytes}
 use Rattle.text.specs.Tokens.{Token}
-use Rattle.formulas.specs.Sentence.{tokensOf}
-use Rattle.grammar.specs.Line.{Literal, ofLiteral, bodyTokens}
+use Rattle.formulas.specs.Sentence.{Sentence}
+use Rattle.formulas.proofs.NameSentence.{name-tokens}
+use Rattle.formulas.proofs.FormSentence.{negation-tokens}
+use Rattle.grammar.specs.Line.{bodyTokens}
+use Rattle.grammar.proofs.LineTokens.{body-append}
 use Rattle.names.specs.Row.{nameIn}
 use Rattle.output.specs.Writing.{Room}
 use Rattle.spelling.specs.declared.Pen.{Pen}
@@ -42,8 +45,10 @@ module _ (na : List ℕ) (b : Bool) (a : ℕ) (p : Pen) where
 
   module _ (e : b ≡ true) where
     negated-tokens : literalTokens (nameIn na) b a ≡ notOpened ++ (nameTokens ++ (Token.closing ∷ []))
-    unfolding tokensOf
-    negated-tokens = rw e
+    negated-tokens =
+        rw e
+        (negation-tokens (Sentence.name (nameIn na a))
+        ∙ ap (λ (ts : List Token). notOpened ++ (ts ++ (Token.closing ∷ []))) (name-tokens (nameIn na a)))
 
     pub not-room : Room (inked p (literalTokens (nameIn na) b a)) (p .at) → Room (inked p notOpened) (p .at)
     not-room r = room-before notOpened (nameTokens ++ (Token.closing ∷ [])) p (rw negated-tokens at r)
@@ -67,8 +72,7 @@ module _ (na : List ℕ) (b : Bool) (a : ℕ) (p : Pen) where
 
   module _ (e : b ≡ false) where
     plain-tokens : literalTokens (nameIn na) b a ≡ nameTokens
-    unfolding tokensOf
-    plain-tokens = rw e
+    plain-tokens = rw e (name-tokens (nameIn na a))
 
     pub plain-name-room : Room (inked p (literalTokens (nameIn na) b a)) (p .at) → Room (inked p nameTokens) (p .at)
     plain-name-room r = rw plain-tokens at r
@@ -78,12 +82,6 @@ module _ (na : List ℕ) (b : Bool) (a : ℕ) (p : Pen) where
     plain-written h = rw plain-tokens h
 
 -- ---- a body
-body-append : (l m : List Literal) → bodyTokens (l ++ m) ≡ bodyTokens l ++ bodyTokens m
-unfolding bodyTokens
-body-append [] m = refl
-body-append (x ∷ l) m =
-    ap (λ ts. tokensOf (ofLiteral x) ++ ts) (body-append l m) ∙ sym (append-assoc (tokensOf (ofLiteral x)) _ _)
-
 module _ (name : ℕ → List ℕ) (x y : ℕ) (p : Pen) where
   body-tokens : bodyTokens (literalsFor name x y) ≡ onTokens name false x ++ onTokens name true y
   body-tokens = body-append (literalsOn name false (atomsIn x)) (literalsOn name true (atomsIn y))

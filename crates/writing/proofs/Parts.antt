@@ -1,6 +1,6 @@
 -- The tokens of a formula by the node that it begins with: a name, "not" with its operand, or a form with its two.
 -- Assumes nothing.
-use mathlib.Core.Path.{_≡_, refl, sym, ap, _∙_}
+use mathlib.Core.Path.{_≡_, sym, ap, _∙_}
 use mathlib.Core.List.{List, [], _∷_, _++_, append-assoc}
 use mathlib.Core.Logic.{⊎-elim}
 use Prim.Native.Nat.{ℕ, zero, suc, _+_, _-_, _≤_, _<_}
@@ -14,6 +14,8 @@ use Rattle.logic.specs.Nodes.{Spelling, spelled, joined}
 use Rattle.logic.proofs.Spelling.{Front, front}
 use Rattle.text.specs.Tokens.{Token}
 use Rattle.formulas.specs.Sentence.{formWords, tokensOf}
+use Rattle.formulas.proofs.NameSentence.{name-tokens}
+use Rattle.formulas.proofs.FormSentence.{negation-tokens, joined-tokens}
 use Rattle.writing.specs.Lines.{decoded}
 
 -- what the form with node k begins with
@@ -46,20 +48,20 @@ module _ (name : ℕ → List ℕ) where
   tokens f = tokensOf (decoded name f)
 
   not-tokens : (f : Formula) → tokens (Formula.negation f) ≡ opener 64 ++ (tokens f ++ closer)
-  unfolding tokensOf decoded
-  not-tokens f = refl
+  unfolding decoded
+  not-tokens f = negation-tokens (decoded name f)
 
-  joined-tokens : (k : ℕ) (f g : Formula) → 65 ≤ k → k ≤ 68
+  form-tokens : (k : ℕ) (f g : Formula) → 65 ≤ k → k ≤ 68
       → tokens (joined (k - 65) f g) ≡ opener k ++ (tokens f ++ (tokens g ++ closer))
-  unfolding tokensOf decoded
-  joined-tokens k f g lo hi =
+  unfolding decoded
+  form-tokens k f g lo hi =
       go (k - 65) (omega arith) ∙ ap (λ (l : List Token). opener k ++ l) (append-assoc (tokens f) (tokens g) closer)
     where
       go : (i : ℕ) → k ≡ i + 65 → tokens (joined i f g) ≡ opener k ++ ((tokens f ++ tokens g) ++ closer)
-      go zero e = rw e
-      go (suc zero) e = rw e
-      go (suc (suc zero)) e = rw e
-      go (suc (suc (suc zero))) e = rw e
+      go zero e = rw e (joined-tokens (decoded name f) (decoded name g) 65)
+      go (suc zero) e = rw e (joined-tokens (decoded name f) (decoded name g) 66)
+      go (suc (suc zero)) e = rw e (joined-tokens (decoded name f) (decoded name g) 67)
+      go (suc (suc (suc zero))) e = rw e (joined-tokens (decoded name f) (decoded name g) 68)
       go (suc (suc (suc (suc i)))) e = absurd (omega arith)
 
   -- ---- a formula f in front of the formulas fs that begins with the node k; s is what stands behind k
@@ -67,8 +69,9 @@ module _ (name : ℕ → List ℕ) where
   -- a name
   module _ {k : ℕ} {s : Spelling} {f : Formula} {fs : List Formula} where
     pub name-parts : k < 64 → Front k s (f ∷ fs) → (s ≡ Spelling.formulas fs) × (tokens f ≡ (Token.word (name k) ∷ []))
-    unfolding tokensOf decoded
-    name-parts l (Front.of-name gs h es ef) = let e : f ≡ Formula.atom k = cc in (cc, ap tokens e)
+    unfolding decoded
+    name-parts l (Front.of-name gs h es ef) =
+        let e : f ≡ Formula.atom k = cc in (cc, ap tokens e ∙ name-tokens (name k))
     name-parts l (Front.of-not g gs h es ef) = absurd (omega arith)
     name-parts l (Front.of-form g h gs lo hi es ef) = absurd (omega arith)
 
@@ -113,7 +116,7 @@ module _ (name : ℕ → List ℕ) where
           right = h;
           below = hi;
           spelling-is = cc;
-          tokens-are = ap tokens e ∙ joined-tokens k g h lo hi;
+          tokens-are = ap tokens e ∙ form-tokens k g h lo hi;
         }
 
     pub some-parts : 64 ≤ k → Front k s (f ∷ fs) → Parts k s f

@@ -1,18 +1,12 @@
 -- Lists of at most so many entries, of each of which something holds. Assumes nothing.
-use mathlib.Core.Bool.{Bool, true, false}
 use mathlib.Core.List.{List, [], _∷_, _++_, map}
 use Prim.Native.Nat.{ℕ, zero, suc, _+_, _≤_, _<_}
 use native.Mathlib.Omega.{arith}
 use lib.ListN.{length, length-append, length-map}
-use Rattle.words.specs.Choice.{consIf}
 use Rattle.words.specs.Lists.{listOf}
 use Rattle.words.proofs.Lists.{list-of-length}
 use Rattle.text.proofs.Each.{Each, each-append, each-gives}
 use Rattle.reader.proofs.WellFormed.{Rows}
-
-pub cons-few : {A : Type 0} (b : Bool) (x : A) (n : ℕ) (l : List A) → length l ≤ n → length (consIf b x l) ≤ suc n
-cons-few true x n l h = omega arith
-cons-few false x n l h = omega arith
 
 pub each-map : {A B : Type 0} (P : B → Type 0) (f : A → B) (l : List A) → Each (λ x. P (f x)) l → Each P (map f l)
 each-map P f [] h = tt

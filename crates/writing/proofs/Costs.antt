@@ -5,81 +5,41 @@
 --   Fresh cs l         no row of l is of an atom that cs or a row of l before it has
 -- Assumes nothing.
 use mathlib.Core.Path.{_≡_, refl, _∙_}
-use mathlib.Core.Bool.{Bool, true, false, _||_, or-assoc}
+use mathlib.Core.Bool.{Bool, true, false}
 use mathlib.Core.List.{List, [], _∷_, _++_, append-nil, append-assoc}
 use mathlib.Core.Logic.{⊎-elim}
 use Prim.Native.Nat.{ℕ, zero, suc, _≤_, _<_}
 use native.Mathlib.Nat.{not-suc-le-zero, le-of-suc-le-suc, eq-or-lt-of-le}
 use native.Mathlib.Omega.{arith}
-use lib.Dec.{eqb, ltb}
+use lib.Dec.{ltb}
 use lib.ListN.{getD}
-use borrow.Author.Tests.{eq-eqb, ne-eqb, ltb-true, ltb-false}
-use Rattle.words.specs.Choice.{consIf}
-use Rattle.words.proofs.Tests.{or-false-l, or-false-r}
+use borrow.Author.Tests.{ltb-true, ltb-false}
+use Rattle.words.specs.Choice.{pick, consIf}
 use Rattle.text.proofs.Each.{Each, each-append}
 use Rattle.store.specs.Prices.{CostRow, hasCost, priceIn}
+use Rattle.store.proofs.Prices.{no-cost, has-cost-append, price-front, price-behind, one-price, one-without, one-other}
 use Rattle.writing.specs.Used.{costOf, costsIn}
-
--- rows of costs, one list behind another
-
-pub has-cost-append : (cs ds : List CostRow) (a : ℕ) → hasCost (cs ++ ds) a ≡ (hasCost cs a || hasCost ds a)
-unfolding hasCost
-has-cost-append [] ds a = refl
-has-cost-append (r ∷ cs) ds a = rw (has-cost-append cs ds a, or-assoc)
-
-price-front : (cs ds : List CostRow) (a : ℕ) → priceIn ds a ≡ 0 → priceIn (cs ++ ds) a ≡ priceIn cs a
-unfolding priceIn
-price-front [] ds a h = h
-price-front (r ∷ cs) ds a h = rw (price-front cs ds a h)
-
-first-other : (r : CostRow) (cs : List CostRow) (a : ℕ) → hasCost (r ∷ cs) a ≡ false
-    → (eqb (r .atom) a ≡ false) × (hasCost cs a ≡ false)
-unfolding hasCost
-first-other r cs a h = (or-false-l (eqb (r .atom) a) (hasCost cs a) h, or-false-r (eqb (r .atom) a) (hasCost cs a) h)
-
-price-behind : (cs ds : List CostRow) (a : ℕ) → hasCost cs a ≡ false → priceIn (cs ++ ds) a ≡ priceIn ds a
-unfolding priceIn
-price-behind [] ds a h = refl
-price-behind (r ∷ cs) ds a h = let k = first-other r cs a h in rw (k .0) (price-behind cs ds a (k .1))
 
 -- the cost of one atom, where there is one
 
-module _ (pr : List ℕ) (b : Bool) (a i : ℕ) (n : a ≡ i → ⊥) where
-  one-without : hasCost (consIf b (costOf pr a) []) i ≡ false
-  unfolding hasCost
-  one-without = go b
-    where
-      go : (x : Bool) → hasCost (consIf x (costOf pr a) []) i ≡ false
-      go true = rw (ne-eqb a i n)
-      go false = refl
-
-  one-other : priceIn (consIf b (costOf pr a) []) i ≡ 0
-  unfolding priceIn
-  one-other = go b
-    where
-      go : (x : Bool) → priceIn (consIf x (costOf pr a) []) i ≡ 0
-      go true = rw (ne-eqb a i n)
-      go false = refl
-
-one-price : (pr : List ℕ) (a : ℕ) → priceIn (consIf (ltb 0 (getD pr a 0)) (costOf pr a) []) a ≡ getD pr a 0
-unfolding priceIn
-one-price pr a = go (ltb 0 (getD pr a 0)) refl
+atom-price : (pr : List ℕ) (a : ℕ) → priceIn (consIf (ltb 0 (getD pr a 0)) (costOf pr a) []) a ≡ getD pr a 0
+atom-price pr a = one-price (costOf pr a) (ltb 0 (getD pr a 0)) ∙ go (ltb 0 (getD pr a 0)) refl
   where
-    go : (x : Bool) → ltb 0 (getD pr a 0) ≡ x → priceIn (consIf x (costOf pr a) []) a ≡ getD pr a 0
-    go true e = rw (eq-eqb a a refl)
+    go : (x : Bool) → ltb 0 (getD pr a 0) ≡ x → pick x (getD pr a 0) 0 ≡ getD pr a 0
+    go true e = refl
     go false e = omega (arith, ltb-false 0 (getD pr a 0) e)
 
 -- the costs of a table
 
 module _ (pr : List ℕ) where
   pub costs-without : (n a : ℕ) → n ≤ a → hasCost (costsIn pr n) a ≡ false
-  unfolding costsIn hasCost
-  costs-without zero a l = refl
+  unfolding costsIn
+  costs-without zero a l = no-cost a
   costs-without (suc n) a l =
       rw (
         has-cost-append (costsIn pr n) (consIf (ltb 0 (getD pr n 0)) (costOf pr n) []) a,
         costs-without n a (omega arith),
-      ) (one-without pr (ltb 0 (getD pr n 0)) n a (λ e. omega arith))
+      ) (one-without (costOf pr n) a (λ e. omega arith) (ltb 0 (getD pr n 0)))
 
   pub costs-price : (n a : ℕ) → a < n → priceIn (costsIn pr n) a ≡ getD pr a 0
   unfolding costsIn
@@ -87,9 +47,10 @@ module _ (pr : List ℕ) where
   costs-price (suc n) a l =
       let one = consIf (ltb 0 (getD pr n 0)) (costOf pr n) [] in
       ⊎-elim
-      (λ (e : a ≡ n). rw e (price-behind (costsIn pr n) one n (costs-without n n (omega arith)) ∙ one-price pr n))
+      (λ (e : a ≡ n). rw e (price-behind (costsIn pr n) one n (costs-without n n (omega arith)) ∙ atom-price pr n))
       (λ (k : a < n).
-      price-front (costsIn pr n) one a (one-other pr (ltb 0 (getD pr n 0)) n a (λ e. omega arith)) ∙ costs-price n a k)
+      price-front (costsIn pr n) one a (one-other (costOf pr n) a (λ e. omega arith) (ltb 0 (getD pr n 0)))
+      ∙ costs-price n a k)
       (eq-or-lt-of-le (le-of-suc-le-suc l))
 
 -- each is of an atom below n
