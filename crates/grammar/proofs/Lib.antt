@@ -4,7 +4,8 @@
 -- Flat: the words of a flat line.
 -- Costs: the forms of costs, by these words.
 -- Atoms: the forms of atom lines, by these words.
--- Spelling: lines are read as they are spelled.
+-- LineReading: what is spelled is read.
+-- Spelling: what is read is spelled.
 -- LineLaws: the names of a line, what it brings, and how many literals and nodes it has.
 -- LineTokens: the tokens of a line of each kind.
 -- LineWords: the words of a line's tokens.
@@ -15,6 +16,7 @@ pub mod Forms
 pub mod Flat
 pub mod Costs
 pub mod Atoms
+pub mod LineReading
 pub mod Spelling
 pub mod LineLaws
 pub mod LineTokens

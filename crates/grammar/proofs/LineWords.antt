@@ -17,7 +17,7 @@ use Rattle.formulas.proofs.NameSentence.{name-names, negation-names}
 use Rattle.formulas.proofs.SentenceWords.{sentence-bytes}
 use Rattle.grammar.specs.Line.{Line, Literal, lineWords, ofLiteral, bodyTokens, bodyNames, lineTokens, lineNames}
 use Rattle.grammar.specs.Line.{areNamed, isCost, isLine}
-use Rattle.grammar.proofs.Spelling.{clause-parts, constraint-parts}
+use Rattle.grammar.proofs.LineReading.{clause-parts, constraint-parts}
 
 line-word : (k : ℕ) → k < 9 → IsWord (getD lineWords k [])
 line-word k h = each-at IsWord lineWords k [] (lettered-words lineWords refl) h

@@ -1,5 +1,5 @@
 -- What is shown of an accepted file, whose case is written back from the tables that it was read into. Assumes nothing.
-use mathlib.Core.Path.{_≡_, refl, sym, ap, _∙_}
+use mathlib.Core.Path.{_≡_, sym, ap, _∙_}
 use mathlib.Core.List.{List}
 use Prim.Native.Nat.{ℕ}
 use Rattle.store.specs.Lent.{Lent, lent}

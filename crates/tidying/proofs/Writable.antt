@@ -1,7 +1,7 @@
 -- The case of an accepted file is one that can be written: its tables fit, it is sound, its names are names and differ,
 -- and its prices are low. Assumes nothing.
 use mathlib.Core.Path.{_≡_, refl, sym, ap, _∙_}
-use mathlib.Core.Bool.{Bool, true, false}
+use mathlib.Core.Bool.{true, false}
 use mathlib.Core.List.{List, []}
 use Prim.Native.Nat.{ℕ, _≤_, _<_}
 use native.Mathlib.Omega.{arith}
@@ -16,7 +16,7 @@ use Rattle.table.proofs.Filled.{filled-exact, padded-length}
 use Rattle.program.specs.Case.{clauseSize, constraintSize, formulaSize, nameSize, priceSize}
 use Rattle.program.proofs.Soundness.{sound-atoms}
 use Rattle.names.specs.Names.{rowsOf, atomOf}
-use Rattle.names.specs.Row.{rowAt, nameIn}
+use Rattle.names.specs.Row.{rowAt}
 use Rattle.names.proofs.Held.{same-row}
 use Rattle.names.proofs.Rows.{filled-row}
 use Rattle.store.specs.Prices.{pricesOf}

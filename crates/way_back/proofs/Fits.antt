@@ -18,7 +18,7 @@ use Rattle.text.proofs.Spelled.{OneLine, spelled-read, spelled-allowed, spelled
 use Rattle.grammar.specs.declared.brings.Brings.{Brings}
 use Rattle.grammar.specs.Line.{Line, lineTokens, isLine, lineNames, brings}
 use Rattle.grammar.specs.LineOf.{lineOf}
-use Rattle.grammar.proofs.Spelling.{line-read}
+use Rattle.grammar.proofs.LineReading.{line-read}
 use Rattle.grammar.proofs.LineLaws.{names-are}
 use Rattle.grammar.proofs.LineTokens.{line-no-comment}
 use Rattle.grammar.proofs.LineWords.{line-bytes}
