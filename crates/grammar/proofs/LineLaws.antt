@@ -40,7 +40,8 @@ use Rattle.grammar.specs.declared.line.Form.the-variants.{Skipped, NoFor
 use Rattle.grammar.specs.declared.line.Form.the-variants.{Atom}
 use Rattle.grammar.specs.declared.brings.Brings.{Brings}
 use Rattle.grammar.proofs.line.Form.{the-type}
-use Rattle.grammar.proofs.LineReading.{sentence-read, ClauseParts, clause-parts, ConstraintParts, constraint-parts}
+use Rattle.grammar.proofs.LineReading.{sentence-read, ClauseParts, clause-parts, ConstraintParts}
+use Rattle.grammar.proofs.LineReading.{constraint-parts}
 use Rattle.grammar.proofs.Spelling.{Right, line-right, line-spells}
 
 -- Names
