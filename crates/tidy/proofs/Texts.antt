@@ -7,12 +7,12 @@ use lib.ListN.{length, take}
 use Rattle.io.proofs.Counting.{counts}
 use Rattle.output.specs.declared.Answer.{Answer}
 use Rattle.report.proofs.Showing.{report-within, report-whole}
-use Rattle.tidying.specs.Text.{textLimit, tidyText}
+use Rattle.tidying.specs.Text.{longestText, tidyText}
 use Rattle.tidying.specs.Operation.{Tidied}
 use Rattle.tidying.proofs.Theorems.{tidy-fits, tidy-cut}
 use Rattle.tidy.specs.Program.{Answered, TidyRead}
 
-pub answered : {f out u : List ℕ} {r : Answer} → Tidied f out r u → textLimit ≤ length out → Answered f (r .length) u
+pub answered : {f out u : List ℕ} {r : Answer} → Tidied f out r u → longestText ≤ length out → Answered f (r .length) u
 answered {f} {out} {u} {r} s room = record {
   counted = counts (r .length) u (report-within s);
   text-is = report-whole s (omega (arith, tidy-fits f));

@@ -21,7 +21,7 @@ use Rattle.wording.proofs.Lengths.{refusal-length}
 use Rattle.writing.specs.Operation.{writable, caseLines, caseText, writeRefusal, WrittenAs}
 use Rattle.report.specs.Operation.{reportRefusal, ReportShown}
 use Rattle.report.proofs.Showing.{refusal-short, refusal-none}
-use Rattle.tidying.specs.Text.{textLimit, writtenText}
+use Rattle.tidying.specs.Text.{longestText, writtenText}
 
 three-checks : (a b d : Bool) → firstFailed (check 1 a ∷ check 13 b ∷ check 18 d ∷ []) ≡ 19 → ⊥
 three-checks true true true e = omega (arith, e)
@@ -32,7 +32,7 @@ three-checks false b d e = omega (arith, e)
 module _ (c : Case) (t : Lent) where
   -- the length of its lines and of its text are within their limits
   abbrev textFits : Bool
-  textFits = not (someLongLine (caseLines c t)) && leb (length (caseText c t)) textLimit
+  textFits = not (someLongLine (caseLines c t)) && leb (length (caseText c t)) longestText
 
   -- the refusal of the case, whatever the output
   abbrev caseRefusal : ℕ
@@ -44,37 +44,37 @@ module _ (c : Case) (t : Lent) where
       first-failed-append (check 1 (tablesFit t) ∷ check 13 (writable c t) ∷ check 18 textFits ∷ [])
       (check 19 (leb (length (caseText c t)) n) ∷ []) refl
 
-  text-fits : caseRefusal ≡ 0 → length (caseText c t) ≤ textLimit
+  text-fits : caseRefusal ≡ 0 → length (caseText c t) ≤ longestText
   text-fits e =
       let p = none-failed (check 1 (tablesFit t) ∷ check 13 (writable c t) ∷ check 18 textFits ∷ []) refl e in
-      leb-true (length (caseText c t)) textLimit
-      (and-true-r (not (someLongLine (caseLines c t))) (leb (length (caseText c t)) textLimit) (p .1 .1 .0))
+      leb-true (length (caseText c t)) longestText
+      (and-true-r (not (someLongLine (caseLines c t))) (leb (length (caseText c t)) longestText) (p .1 .1 .0))
 
-  -- an output of textLimit bytes is long enough
-  limit-enough : (m : ℕ) → caseRefusal ≡ m → firstOf m (reportRefusal (caseText c t) textLimit) ≡ m
-  limit-enough zero e = refusal-none (caseText c t) textLimit (text-fits e)
+  -- an output of longestText bytes is long enough
+  limit-enough : (m : ℕ) → caseRefusal ≡ m → firstOf m (reportRefusal (caseText c t) longestText) ≡ m
+  limit-enough zero e = refusal-none (caseText c t) longestText (text-fits e)
   limit-enough (suc m) e = refl
 
-  at-limit : writeRefusal c t textLimit ≡ caseRefusal
-  at-limit = by-output textLimit ∙ limit-enough caseRefusal refl
+  at-limit : writeRefusal c t longestText ≡ caseRefusal
+  at-limit = by-output longestText ∙ limit-enough caseRefusal refl
 
   written-is : writtenText c t ≡ unlessRefused caseRefusal (caseText c t) (refusalText caseRefusal 0)
   written-is = ap (λ (n : ℕ). unlessRefused n (caseText c t) (refusalText n 0)) at-limit
 
-  written-by : (m : ℕ) → caseRefusal ≡ m → length (unlessRefused m (caseText c t) (refusalText m 0)) ≤ textLimit
+  written-by : (m : ℕ) → caseRefusal ≡ m → length (unlessRefused m (caseText c t) (refusalText m 0)) ≤ longestText
   written-by zero e = text-fits e
   written-by (suc m) e = omega (arith, refusal-length (suc m) 0)
 
   -- where its tables fit and it can be written, 18 is left
   pub limit-refusal : tablesFit t ≡ true → writable c t ≡ true
-      → (writeRefusal c t textLimit ≡ 0) ⊎ (writeRefusal c t textLimit ≡ 18)
+      → (writeRefusal c t longestText ≡ 0) ⊎ (writeRefusal c t longestText ≡ 18)
   limit-refusal f w = rw (at-limit, f, w) (go textFits)
     where
       go : (b : Bool) → (firstFailed (check 18 b ∷ []) ≡ 0) ⊎ (firstFailed (check 18 b ∷ []) ≡ 18)
       go true = inl refl
       go false = inr refl
 
-  pub written-length : length (writtenText c t) ≤ textLimit
+  pub written-length : length (writtenText c t) ≤ longestText
   written-length = rw written-is (written-by caseRefusal refl)
 
   -- the answer a of writing the case to the output

@@ -13,11 +13,11 @@ use Rattle.store.specs.Saying.{Said}
 use Rattle.store.specs.Tables.{caseSaid}
 use Rattle.reader.specs.Reading.{Outcome, readFile}
 use Rattle.writing.specs.Operation.{writeRefusal}
-use Rattle.tidying.specs.Text.{tablesSaid, textLimit, tidyText}
+use Rattle.tidying.specs.Text.{tablesSaid, longestText, tidyText}
 
 -- an output of that many bytes is long enough for the text of any file
 abbrev pub TidyFits : Type 0
-TidyFits = (f : List ℕ) → length (tidyText f) ≤ textLimit
+TidyFits = (f : List ℕ) → length (tidyText f) ≤ longestText
 
 -- the first k bytes of a file give its text, where k is over the limit of 32,768
 abbrev pub TidyCut : Type 0
@@ -26,4 +26,4 @@ TidyCut = (f : List ℕ) (k : ℕ) → 32768 < k → tidyText (take k f) ≡ tid
 -- writing back the case of an accepted file is refused with 18 or not at all
 abbrev pub TidyRefusals : Type 0
 TidyRefusals = (f : List ℕ) (st : Said) → readFile f ≡ Outcome.case st
-    → let n = writeRefusal (caseSaid st) (tablesSaid st) textLimit in (n ≡ 0) ⊎ (n ≡ 18)
+    → let n = writeRefusal (caseSaid st) (tablesSaid st) longestText in (n ≡ 0) ⊎ (n ≡ 18)

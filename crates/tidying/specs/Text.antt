@@ -2,7 +2,7 @@
 -- From: document 02, [8]; document 01, "The program `causes`" ("(refused number line)").
 --
 --   tablesSaid st     the tables that hold what a file says, in their sizes
---   textLimit         the most bytes of a text
+--   longestText       the most bytes of a text
 --   writtenText c t   the text of the case c with the tables t, or that of the refusal of its writing, with line 0
 --   tidySaid st       that of what a file says
 --   tidyText f        that of the file f, or the text of the refusal of its reading
@@ -24,13 +24,13 @@ abbrev pub tablesSaid : Said → Lent
 tablesSaid st =
     lent (clauseTable st) (constraintTable st) (formulaTable st) (padded nameSize (rowsOf (st .names))) (priceTable st)
 
-abbrev pub textLimit : ℕ
-textLimit = 32768
+abbrev pub longestText : ℕ
+longestText = 32768
 
--- an output of textLimit bytes is long enough
+-- an output of longestText bytes is long enough
 abbrev pub writtenText : Case → Lent → List ℕ
 writtenText c t =
-    let n = writeRefusal c t textLimit in
+    let n = writeRefusal c t longestText in
     unlessRefused n (caseText c t) (refusalText n 0)
 
 unfoldable pub tidySaid : Said → List ℕ

@@ -153,27 +153,6 @@ cost-lines-requires c κs =
       case-room-last x t h₆ (s .pre .1),
     )
 
-same-length : tie.Need-same-length
-same-length c =
-    let k = c .before .before in
-    let q = behind-queries k in
-    let f = behind-observed q in
-    let e = behind-seen f in
-    let d = behind-constraints e in
-    let b = behind-clauses d in
-    let a = behind-atoms b in
-    let s = entry a in
-    let x = s .args .c in
-    let t = tables s in
-    let h₀ = case-start x t (s .args .out .now) in
-    let h₁ = case-more x t _ _ h₀ (a .atom-lines .ensures) in
-    let h₂ = case-more x t _ _ h₁ (b .clause-lines .ensures) in
-    let h₃ = case-more x t _ _ h₂ (d .constraint-lines .ensures) in
-    let h₄ = case-more x t _ _ h₃ (e .seen-lines .ensures) in
-    let h₅ = case-more x t _ _ h₄ (f .seen-lines2 .ensures) in
-    let h₆ = case-more x t _ _ h₅ (q .query-lines .ensures) in
-    sets-length (case-end x t h₆ (k .cost-lines .ensures))
-
 returns : tie.Need-returns
 returns c =
     let k = c .before .before in
@@ -194,6 +173,9 @@ returns c =
     let h₅ = case-more x t _ _ h₄ (f .seen-lines2 .ensures) in
     let h₆ = case-more x t _ _ h₅ (q .query-lines .ensures) in
     case-end x t h₆ (k .cost-lines .ensures)
+
+same-length : tie.Need-same-length
+same-length c = sets-length (returns c)
 
 pub case-lines-spec : {M : Type 1} → statement M
 case-lines-spec =
