@@ -201,6 +201,20 @@ impl Reading {
         self.costs.iter().filter(|(atom, _)| Some(*atom) == self.named(name)).map(|(_, price)| *price).collect()
     }
 
+    /// How many literals the bodies read so far have.
+    pub fn literals(&self) -> usize {
+        let rules = self.clauses.iter().map(|clause| match &clause.body {
+            Body::All(body) => body.len(),
+            Body::True | Body::False => 0,
+        });
+        rules.chain(self.constraints.iter().map(|c| c.body.len())).sum()
+    }
+
+    /// How many observations are read so far.
+    pub fn readings(&self) -> usize {
+        self.observations.len()
+    }
+
     /// The literals of `body` with atoms as numbers.
     fn numbered(&self, body: &[Literal<String>]) -> Vec<Literal<usize>> {
         body.iter().map(|l| Literal { atom: self.atom(&l.atom), negated: l.negated }).collect()
