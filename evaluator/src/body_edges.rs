@@ -143,8 +143,8 @@ fn no_form(random: &mut Random, past: usize) -> Sample {
     let body = literals(random, &names, count);
     let line = line(random, &body);
     let unclosed = &line[..line.len() - 1];
-    let (number, line) = match random.below(8) {
-        0 => (3, format!("{unclosed} {})", "p".repeat(LINE_BYTES))),
+    let (number, line) = match random.below(9) {
+        0 | 8 => (3, format!("{unclosed} {})", "p".repeat(LINE_BYTES))),
         1 => (4, format!("{line}\t")),
         2 => (4, line.replace(" p", " P")),
         3 => (5, String::from(unclosed)),
