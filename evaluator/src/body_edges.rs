@@ -110,8 +110,9 @@ fn new_name(random: &mut Random, past: usize) -> Sample {
     let line = match random.below(3) {
         0 if brings => format!("(if new {})", body.join(" ")),
         _ => {
-            let at = if random.chance(50) { count - 1 } else { random.below(count) };
-            body[at] = if brings { literal(random, "new", 30) } else { body[at].clone() };
+            if brings {
+                body[*random.pick(&[0, count / 2, count - 1])] = literal(random, "new", 30);
+            }
             line(random, &body)
         }
     };
