@@ -21,6 +21,7 @@ pub const FILE_BYTES: usize = 32_768;
 pub const LINE_BYTES: usize = 200;
 pub const NAME_BYTES: usize = 16;
 pub const DEPTH: usize = 16;
+pub const LITERALS: usize = 11;
 pub const ATOMS: usize = 64;
 pub const CLAUSES: usize = 256;
 pub const CONSTRAINTS: usize = 32;
