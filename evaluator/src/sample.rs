@@ -1,5 +1,6 @@
 //! The generated files, by seed.
 
+use crate::body_edges::BODY_EDGES;
 use crate::cost_edges::COST_EDGES;
 use crate::damage::damaged;
 use crate::edges::EDGES;
@@ -9,6 +10,7 @@ use crate::lists::{list_edge, KINDS};
 use crate::random::Random;
 use crate::shapes::{shaped, Shaped};
 use crate::text_edges::{line_edge, text_edge, Edged};
+use std::ops::Range;
 
 /// The number of generated files; their seeds are the numbers below it.
 pub const SAMPLES: u64 = 6_000;
@@ -18,6 +20,10 @@ pub const SHAPES: u64 = 4_000;
 
 /// The number of generated files whose text stands at a limit; their seeds are the numbers from `SAMPLES` + `SHAPES` on.
 pub const TEXTS: u64 = 400;
+
+/// The number of generated files with a body at its limit; their seeds are the numbers from `SAMPLES` + `SHAPES` +
+/// `TEXTS` on.
+pub const BODIES: u64 = 640;
 
 /// What the generator knows of a file's answer.
 #[derive(Clone, Copy)]
@@ -41,7 +47,13 @@ pub fn shape(seed: u64) -> Option<Shaped> {
 /// The file whose text stands at a limit of `seed`, if it is the seed of one.
 pub fn edged(seed: u64) -> Option<Edged> {
     let edge = [line_edge, text_edge][seed as usize % 2];
-    (seed >= SAMPLES + SHAPES).then(|| edge(&mut Random::new(seed)))
+    (SAMPLES + SHAPES..bodies().start).contains(&seed).then(|| edge(&mut Random::new(seed)))
+}
+
+/// The seeds of the files with a body at its limit.
+pub fn bodies() -> Range<u64> {
+    let start = SAMPLES + SHAPES + TEXTS;
+    start..start + BODIES
 }
 
 /// The file of `seed`: below `SAMPLES` one of 20 stands at a limit, one of 100 at one of cost lines, half are damaged,
@@ -54,6 +66,9 @@ pub fn sample(seed: u64) -> Sample {
         return Sample { bytes: edged.bytes, due: Due::Read };
     }
     let mut random = Random::new(seed);
+    if bodies().contains(&seed) {
+        return body_edge(&mut random, (seed - bodies().start) as usize);
+    }
     match seed % 100 {
         n if n % 20 == 0 => edge(&mut random, seed as usize / 20),
         50 => cost_edge(&mut random, seed as usize / 100),
@@ -88,6 +103,11 @@ fn edge(random: &mut Random, at: usize) -> Sample {
 /// The file number `at` of those at a limit of cost lines, the limits in turn, each from both sides in turn.
 fn cost_edge(random: &mut Random, at: usize) -> Sample {
     COST_EDGES[at % COST_EDGES.len()](random, at / COST_EDGES.len() % 2)
+}
+
+/// The file number `at` of those with a body at its limit, the kinds in turn, each from both sides in turn.
+fn body_edge(random: &mut Random, at: usize) -> Sample {
+    BODY_EDGES[at % BODY_EDGES.len()](random, at / BODY_EDGES.len() % 2)
 }
 
 /// A lawful file with at most `causes` causes, or one if that is 0 and the family needs one.
