@@ -110,8 +110,9 @@ fn new_name(random: &mut Random, past: usize) -> Sample {
     let line = match random.below(3) {
         0 if brings => format!("(if new {})", body.join(" ")),
         _ => {
-            let at = if random.chance(50) { count - 1 } else { random.below(count) };
-            body[at] = if brings { literal(random, "new", 30) } else { body[at].clone() };
+            if brings {
+                body[*random.pick(&[0, count / 2, count - 1])] = literal(random, "new", 30);
+            }
             line(random, &body)
         }
     };
@@ -143,8 +144,8 @@ fn no_form(random: &mut Random, past: usize) -> Sample {
     let body = literals(random, &names, count);
     let line = line(random, &body);
     let unclosed = &line[..line.len() - 1];
-    let (number, line) = match random.below(8) {
-        0 => (3, format!("{unclosed} {})", "p".repeat(LINE_BYTES))),
+    let (number, line) = match random.below(9) {
+        0 | 8 => (3, format!("{unclosed} {})", "p".repeat(LINE_BYTES))),
         1 => (4, format!("{line}\t")),
         2 => (4, line.replace(" p", " P")),
         3 => (5, String::from(unclosed)),

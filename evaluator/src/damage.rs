@@ -1,9 +1,7 @@
 //! Damage done to a case file: to its bytes, to its lines, and to what documents 01 and 02 limit.
 
-use crate::families::{constraint, literal};
-use crate::file::{
-    ATOMS, CAUSES, CENTS, CLAUSES, CONSTRAINTS, DEPTH, FILE_BYTES, LINE_BYTES, LITERALS, PER_CENT, QUERIES,
-};
+use crate::families::constraint;
+use crate::file::{ATOMS, CAUSES, CENTS, CLAUSES, CONSTRAINTS, DEPTH, FILE_BYTES, LINE_BYTES, PER_CENT, QUERIES};
 use crate::form::DIGITS;
 use crate::layout::joined;
 use crate::names::drawn_name;
@@ -146,8 +144,7 @@ fn past_a_limit(random: &mut Random, mut bytes: Vec<u8>) -> Vec<u8> {
         1 => String::from("(if n1 n0)\n"),
         _ => String::from("(false n1)\n"),
     };
-    let more: String = match random.below(13) {
-        11 => body_at_limit(random, LITERALS - 1 + around),
+    let more: String = match random.below(12) {
         10 => (0..ATOMS - 6 + 6 * around).map(|i| format!("(atom x{i})\n")).collect(),
         0 => (0..ATOMS / 2 + around).map(|i| format!("(true x{i})\n(false y{i})\n")).collect(),
         1 => (0..CLAUSES - 20 + 10 * around).map(line).collect(),
@@ -170,16 +167,6 @@ fn past_a_limit(random: &mut Random, mut bytes: Vec<u8>) -> Vec<u8> {
     let before: usize = lines[..random.below(lines.len())].iter().map(|l| l.len() + 1).sum();
     bytes.splice(before..before, more.into_bytes());
     bytes
-}
-
-/// A line with a body of `count` literals, or of one or two more, of few names.
-fn body_at_limit(random: &mut Random, count: usize) -> String {
-    let names = ["n0", "n1", "n2"];
-    let most = random.between(1, names.len());
-    let count = count + *random.pick(&[0, 0, 1, 2]);
-    let body: Vec<String> = (0..count).map(|at| literal(random, names[at % most], 30)).collect();
-    let front = *random.pick(&["if n0", "if low", "never", "avoid"]);
-    format!("({front} {})\n", body.join(" "))
 }
 
 /// Cost lines at a limit, met or passed by `around`, 0 to 2: of the cents, the per cent, the digits, or the lines of a

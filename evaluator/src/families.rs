@@ -2,7 +2,7 @@
 //! programs and chains.
 
 use crate::constraint::KINDS;
-use crate::file::{ATOMS, CLAUSES, LINE_BYTES, LITERALS, QUERIES};
+use crate::file::{ATOMS, CLAUSES, QUERIES};
 use crate::names::names;
 use crate::prices::cost_lines;
 use crate::random::Random;
@@ -16,20 +16,7 @@ pub fn literal(random: &mut Random, name: &str, percent: usize) -> String {
     }
 }
 
-/// Ten or eleven drawn literals, or as many of them as a line has room for beside a head.
-fn long_body(random: &mut Random, atoms: &[String]) -> String {
-    let mut body = String::new();
-    for _ in 0..random.between(LITERALS - 1, LITERALS) {
-        let name = random.pick(atoms);
-        let next = literal(random, name, 35);
-        if body.len() + next.len() < LINE_BYTES - 30 {
-            body = format!("{body} {next}");
-        }
-    }
-    body
-}
-
-/// A body of one to four drawn literals, now and then with a repeat or with an atom and its negation, or of eleven.
+/// A body of one to four drawn literals, now and then with a repeat or with an atom and its negation.
 fn body(random: &mut Random, atoms: &[String]) -> String {
     let mut literals: Vec<String> = Vec::new();
     for _ in 0..random.between(1, 3) {
@@ -37,7 +24,6 @@ fn body(random: &mut Random, atoms: &[String]) -> String {
         literals.push(literal(random, name, 35));
     }
     match random.below(20) {
-        2 => return long_body(random, atoms),
         0 => literals.push(literals[0].clone()),
         1 => {
             let name = random.pick(atoms);

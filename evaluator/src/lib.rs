@@ -12,7 +12,7 @@
 //! | held, writing | the record and the tables of a case; its text |
 //! | plain, vectors | the plain form, the vectors of operations |
 //! | random, names, prices, layout, families | drawn lawful files |
-//! | shapes, text_edges | drawn files with chains and rings; files whose text stands at a limit |
+//! | shapes, text_edges, long_bodies | drawn files with chains and rings; files whose text stands at a limit; long bodies |
 //! | edges, cost_edges, body_edges, lists, damage, sample | files at the limits, damaged files, the file of a seed |
 //! | run, compare, tally, row_tally, bench, check | the driver |
 //! | kinds_tally, decided_tally, costs_tally, cheapest_tally, bodies_tally | how many files tell wrong readings apart |
@@ -51,6 +51,7 @@ pub mod layers_check;
 pub mod layers_tally;
 pub mod layout;
 pub mod lists;
+pub mod long_bodies;
 pub mod lookup;
 pub mod lookup_check;
 pub mod lookup_pairs;

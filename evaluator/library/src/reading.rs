@@ -38,7 +38,7 @@ fn corpus(tests: &mut Tests, folder: &Path) {
     files(tests, "read: generated files at limits", &generated(SEEDS, |s| s % 20 == 0));
     files(tests, "read: generated files, damaged", &generated(SEEDS, |s| s % 2 == 1));
     files(tests, "read: generated files, whole", &generated(SEEDS, |s| s % 2 == 0 && s % 20 != 0));
-    files(tests, "read: generated files with bodies at the limit", &generated(bodies().end, |s| bodies().contains(&s)));
+    files(tests, "read: generated files with long bodies", &generated(bodies().end, |s| bodies().contains(&s)));
 }
 
 /// Files cut after each byte, and files with each byte replaced by each other one.

@@ -161,8 +161,8 @@ pub fn run(tests: &mut Tests, folder: &Path) {
     files(tests, "write: generated files with texts at the limits", &inputs);
     ways_back(tests, "write: the way back, texts at the limits", &inputs);
     let inputs = generated(bodies().end, |seed| bodies().contains(&seed));
-    files(tests, "write: generated files with bodies at the limit", &inputs);
-    ways_back(tests, "write: the way back, bodies at the limit", &inputs);
+    files(tests, "write: generated files with long bodies", &inputs);
+    ways_back(tests, "write: the way back, long bodies", &inputs);
     drawn_cases(tests);
     by_hand(tests);
     tests.family("write: files at limits, as the evaluator writes them");
