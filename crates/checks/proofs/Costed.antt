@@ -128,8 +128,8 @@ other-atom : (at : List ℕ → ℕ) (l : List ℕ) (x : Form) (y : Line) → On
     → costAtom at y ≡ 64
 other-atom at l Skipped y o f = rw f
 other-atom at l NoForm y o f = rw f
-other-atom at l (Clause k a e i) y o f = rw (f .2 .line-is)
-other-atom at l (Constraint k i) y o f = rw (f .1 .line-is)
+other-atom at l (Clause k a e n) y o f = rw (f .2 .line-is)
+other-atom at l (Constraint k i n) y o f = rw (f .1 .line-is)
 other-atom at l (Seen i) y o f = rw (f .line-is)
 other-atom at l (Query i d) y o f = rw (f .line-is)
 other-atom at l (Cost a e p d) y o f = absurd (miss others 6 tt o)

@@ -29,8 +29,8 @@ others = 0 ∷ (2 ∷ (3 ∷ (4 ∷ (5 ∷ (6 ∷ (7 ∷ []))))))
 other-form : (l : List ℕ) (x : Form) (y : Line) → OneOf others (tagOf the-type x) → FormIs l x y → isNoForm y ≡ false
 other-form l Skipped y o f = rw f
 other-form l NoForm y o f = absurd (miss others 1 tt o)
-other-form l (Clause k a e at) y o f = rw (f .2 .line-is)
-other-form l (Constraint k at) y o f = rw (f .1 .line-is)
+other-form l (Clause k a e n) y o f = rw (f .2 .line-is)
+other-form l (Constraint k at n) y o f = rw (f .1 .line-is)
 other-form l (Seen at) y o f = rw (f .line-is)
 other-form l (Query at d) y o f = rw (f .line-is)
 other-form l (Cost a e p d) y o f = rw (f .1 .line-is)

@@ -14,13 +14,20 @@ use Rattle.text.specs.Lines.{isComment}
 use Rattle.text.specs.Tokens.{Token, tokens}
 use Rattle.text.specs.Words.{namesIn}
 use Rattle.grammar.specs.declared.brings.Brings.{Brings}
-use Rattle.grammar.specs.Line.{isLine, brings}
+use Rattle.grammar.specs.Line.{isLine}
+use Rattle.grammar.specs.Bringing.{brings}
 use Rattle.grammar.specs.LineOf.{lineOf}
 use Rattle.names.specs.Names.{someLong, withNames}
 use Rattle.store.specs.Prices.{priceOf}
 use Rattle.store.specs.Saying.{Said, isSecondCost}
 use Rattle.checks.proofs.Refusing.{names-refused}
 use Rattle.checks.specs.Checks.{lookRefusal, namedWith, textChecks, roomChecks, formRefusal, lineRefusal}
+
+-- the checks 6, 7 and 20
+pub record TextPasses (ws : List (List ℕ)) (b : Brings) : Type 0 where
+  pub names-short : someLong ws ≡ false
+  pub not-deep : b .depth ≤ 16
+  pub literals-few : b .literals ≤ 11
 
 -- the checks from 8 on
 pub record RoomPasses (names clauses constraints queries : ℕ) (second : Bool) (b : Brings) : Type 0 where
@@ -36,8 +43,7 @@ pub record RoomPasses (names clauses constraints queries : ℕ) (second : Bool) 
 -- the checks from 5 on
 pub record FormPasses (st : Said) (ts : List Token) : Type 0 where
   pub is-line : isLine (lineOf ts) ≡ true
-  pub names-short : someLong (namesIn ts) ≡ false
-  pub not-deep : brings (lineOf ts) .depth ≤ 16
+  pub text : TextPasses (namesIn ts) (brings (lineOf ts))
   pub room : RoomPasses (length (withNames (st .names) (namesIn ts))) (length (st .clauses)) (length (st .constraints))
       (length (st .queries)) (isSecondCost (namedWith st ts) (lineOf ts)) (brings (lineOf ts))
 
@@ -66,11 +72,12 @@ pub room-passes : {n cl co q : ℕ} {s : Bool} {b : Brings} → firstFailed (roo
     → RoomPasses n cl co q s b
 room-passes {n} {cl} {co} {q} {s} {b} e = room-has n cl co q s b (none-failed (roomChecks n cl co q s b) refl e)
 
-pub text-passes : (ws : List (List ℕ)) (b : Brings) → firstFailed (textChecks ws b) ≡ 0
-    → (someLong ws ≡ false) × (b .depth ≤ 16)
-text-passes ws b e =
-    let p = none-failed (textChecks ws b) refl e in
-    (not-true _ (p .0), leb-true _ 16 (p .1 .0))
+text-has : (ws : List (List ℕ)) (b : Brings) → Passes (textChecks ws b) → TextPasses ws b
+text-has ws b (six, (seven, (twenty, _))) =
+    record { names-short = not-true _ six; not-deep = leb-true _ 16 seven; literals-few = leb-true _ 11 twenty }
+
+pub text-passes : (ws : List (List ℕ)) (b : Brings) → firstFailed (textChecks ws b) ≡ 0 → TextPasses ws b
+text-passes ws b e = text-has ws b (none-failed (textChecks ws b) refl e)
 
 look-passes : (l : List ℕ) → isComment l ≡ false → lookRefusal l ≡ 0
     → (length l ≤ 200) × (isLine (lineOf (tokens l)) ≡ true)
@@ -81,7 +88,7 @@ look-passes l a e =
     let p = none-failed (check 3 (leb (length l) 200) ∷ others) refl d in
     (leb-true _ 200 (p .0), p .1 .1 .0)
 
--- the refusal of a form by 6 and 7, and from 8 on
+-- the refusal of a form by 6, 7 and 20, and from 8 on
 abbrev pub textNumber : List Token → ℕ
 textNumber ts = firstFailed (textChecks (namesIn ts) (brings (lineOf ts)))
 
@@ -106,8 +113,7 @@ form-refusal-is st ts = first-failed-append (textChecks (namesIn ts) (brings (li
 form-passes : (st : Said) (ts : List Token) → isLine (lineOf ts) ≡ true → formRefusal st ts ≡ 0 → FormPasses st ts
 form-passes st ts h e =
     let p = first-of-none (textNumber ts) (roomNumber st ts) (sym (form-refusal-is st ts) ∙ e) in
-    let text = text-passes (namesIn ts) (brings (lineOf ts)) (p .0) in
-    record { is-line = h; names-short = text .0; not-deep = text .1; room = room-passes (p .1) }
+    record { is-line = h; text = text-passes (namesIn ts) (brings (lineOf ts)) (p .0); room = room-passes (p .1) }
 
 pub line-passes : (st : Said) (l : List ℕ) → lineRefusal st l ≡ 0 → LinePasses st l
 unfolding lineRefusal
@@ -136,7 +142,8 @@ pub look-none : (l : List ℕ) → isComment l ≡ false → length l ≤ 200 �
 unfolding lookRefusal
 look-none l c s a f = rw (c, le-leb (length l) 200 s, a, f)
 
-pub line-none : (st : Said) (l : List ℕ) → isComment l ≡ false → lookRefusal l ≡ 0 → formRefusal st (tokens l) ≡ 0
-    → lineRefusal st l ≡ 0
+-- a line that passes the checks 3 to 5 is judged from 6 on
+pub line-looked : (st : Said) (l : List ℕ) → isComment l ≡ false → lookRefusal l ≡ 0
+    → lineRefusal st l ≡ formRefusal st (tokens l)
 unfolding lineRefusal
-line-none st l c a f = rw (a, c, f)
+line-looked st l c a = rw (a, c)

@@ -1,4 +1,4 @@
--- The number of a line's refusal by the checks 6 and 7 and by those from 8 on, one law for each way out of
+-- The number of a line's refusal by the checks 6, 7 and 20 and by those from 8 on, one law for each way out of
 -- `text_refusal`, `price_fits` and `room_refusal`.
 --
 --   costChecks q s b    the checks 16, 17 and 10
@@ -24,7 +24,7 @@ costChecks q s b =
     ∷ check 10 (leb (q + b .queries) 16)
     ∷ []
 
--- 6 and 7, where t tells whether a name is long
+-- 6, 7 and 20, where t tells whether a name is long
 module _ (ws : List (List ℕ)) (b : Brings) {t : Bool} (e : t ≡ someLong ws) where
   pub long-refused : t ≡ true → 6 ≡ firstFailed (textChecks ws b)
   long-refused h = rw (sym e ∙ h)
@@ -33,8 +33,12 @@ module _ (ws : List (List ℕ)) (b : Brings) {t : Bool} (e : t ≡ someLong ws) 
     pub deep-refused : 16 < b .depth → 7 ≡ firstFailed (textChecks ws b)
     deep-refused k = rw (sym e ∙ h, lt-leb _ _ k)
 
-    pub text-passed : b .depth ≤ 16 → 0 ≡ firstFailed (textChecks ws b)
-    text-passed k = rw (sym e ∙ h, le-leb _ _ k)
+    module _ (k : b .depth ≤ 16) where
+      pub literals-refused : 11 < b .literals → 20 ≡ firstFailed (textChecks ws b)
+      literals-refused m = rw (sym e ∙ h, le-leb _ _ k, lt-leb _ _ m)
+
+      pub text-passed : b .literals ≤ 11 → 0 ≡ firstFailed (textChecks ws b)
+      text-passed m = rw (sym e ∙ h, le-leb _ _ k, le-leb _ _ m)
 
 -- 16
 module _ (p s : ℕ) where

@@ -18,7 +18,8 @@ use Rattle.text.specs.Words.{namesIn}
 use Rattle.table.proofs.Kept.{kept-refl}
 use Rattle.grammar.specs.declared.brings.Brings.{Brings}
 use Rattle.grammar.specs.declared.line.Form.{Form}
-use Rattle.grammar.specs.Line.{lineNames, brings}
+use Rattle.grammar.specs.Line.{lineNames}
+use Rattle.grammar.specs.Bringing.{brings}
 use Rattle.grammar.specs.LineOf.{lineOf}
 use Rattle.grammar.specs.Parsing.{Brought}
 use Rattle.grammar.proofs.LineLaws.{line-names}
@@ -102,7 +103,7 @@ module _ {l : List ℕ} {x : Form} (f : Formed l x) {b : Brings} (g : Brought x 
         interned : LineInterned (st .names) (namesIn (tokens l)) n u
         interned =
             line-interned (st .names) _ na n u (names-held st c _ h) (long .names-long)
-            (line-named l (text-passes _ b (sym e ∙ z) .0)) (rw (h .case-is) at i)
+            (line-named l (text-passes _ b (sym e ∙ z) .names-short)) (rw (h .case-is) at i)
 
         few-same : leb n 64 ≡ leb (length (named .names)) 64
         few-same =

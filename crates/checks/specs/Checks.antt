@@ -1,12 +1,13 @@
 -- The checks of a line, each over the whole line and what was read before it; the first that fails decides.
 -- From: document 01, "What each operation refuses", 3 to 10; document 02, [1], [2], [7] (16 and 17, "both checked after
--- 9 and before 10"), [8] ("16 now means P or the price worked out over 2,000,000, or S over 100").
+-- 9 and before 10"), [8] ("16 now means P or the price worked out over 2,000,000, or S over 100"), [9] (20,
+-- "checked after 7 and before 8").
 --
 --   lookChecks l       the checks 3 to 5 of the line l, which need nothing of what was read
 --   lookRefusal l      the number of the first of them that fails, 0 where all pass
 --   saidWith st ts     st with the names of the tokens ts, in order of first appearance, and with what their line says
 --   priceFits p s      the price p, the price worked out with the supplement s, and s are not too high
---   textChecks ws b    the checks 6 and 7 of a line with the names ws that brings b
+--   textChecks ws b    the checks 6, 7 and 20 of a line with the names ws that brings b
 --   roomChecks ..      the checks from 8 on, by how many names there are with the line, by what there is before it, and
 --                      by whether it is a second cost
 --   formChecks st ts   the checks from 6 on of the tokens ts behind st; formRefusal st ts as lookRefusal l
@@ -22,7 +23,8 @@ use Rattle.text.specs.Bytes.{isAllowed, allOf}
 use Rattle.text.specs.Lines.{isComment}
 use Rattle.text.specs.Tokens.{Token, tokens}
 use Rattle.grammar.specs.declared.brings.Brings.{Brings}
-use Rattle.grammar.specs.Line.{isLine, brings}
+use Rattle.grammar.specs.Line.{isLine}
+use Rattle.grammar.specs.Bringing.{brings}
 use Rattle.grammar.specs.LineOf.{lineOf}
 use Rattle.text.specs.Words.{namesIn}
 use Rattle.names.specs.Names.{someLong, withNames}
@@ -45,9 +47,9 @@ namedWith st ts = renamed (withNames (st .names) (namesIn ts)) st
 abbrev pub saidWith : Said → List Token → Said
 saidWith st ts = saidBy (namedWith st ts) (lineOf ts)
 
--- 6 a name over 16 bytes among ws; 7 a formula deeper than 16
+-- 6 a name over 16 bytes among ws; 7 a formula deeper than 16; 20 a 12th literal in a body
 abbrev pub textChecks : List (List ℕ) → Brings → List Check
-textChecks ws b = check 6 (not (someLong ws)) ∷ check 7 (leb (b .depth) 16) ∷ []
+textChecks ws b = check 6 (not (someLong ws)) ∷ check 7 (leb (b .depth) 16) ∷ check 20 (leb (b .literals) 11) ∷ []
 
 abbrev pub priceFits : ℕ → ℕ → Bool
 priceFits p s = leb p 2000000 && leb (priceOf p s) 2000000 && leb s 100

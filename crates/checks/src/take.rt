@@ -27,7 +27,7 @@ pub struct Taken {
     pub reached: Progress,
 }
 
-// The number of the first of the checks 6 and 7 that a line fails, or 0.
+// The number of the first of the checks 6, 7 and 20 that a line fails, or 0.
 fn text_refusal(l: &[u8], b: Brings) -> u32
     ensures { λ r. ⌜ r ≡ firstFailed (textChecks (namesIn (tokens (now (l .entry)))) b) ⌝ }
 {
@@ -36,6 +36,9 @@ fn text_refusal(l: &[u8], b: Brings) -> u32
     }
     if 16 < b.depth {
         return 7;
+    }
+    if 11 < b.literals {
+        return 20;
     }
     0
 }

@@ -1,6 +1,4 @@
 -- Laws of the forms that are found in a line: one for each way out of the functions that find them.
---
---   Body k x        the literals of x, as many as a line of kind k takes
 -- Assumes nothing.
 use mathlib.Core.Path.{_≡_, refl, sym, ap, _∙_, subst}
 use mathlib.Core.Bool.{true, false, true≢false}
@@ -30,8 +28,10 @@ use Rattle.formulas.proofs.Reading.{items-end, items-closing, items-name, items
 use Rattle.formulas.proofs.FirstItem.{Filled, found-unclosed, found-unnamed, found-filled}
 use Rattle.grammar.specs.Line.{Line, Literal, takes}
 use Rattle.grammar.specs.LineOf.{withBody, seenOf, bodyLine, withItems, behindWord, kindOf, lineOf}
-use Rattle.grammar.specs.Parsing.{endsItems, bodyIn, fitsBody, hasBody, BodyMakes}
+use Rattle.grammar.specs.Parsing.{endsItems, bodyIn, BodyFound, BodyMakes}
 use Rattle.grammar.specs.Parsing.{endsLine, FormIs, FormAfter, FormFound}
+use Rattle.grammar.specs.declared.literal.Body.{Body}
+use Rattle.grammar.specs.declared.literal.Body.the-variants as body
 use Rattle.grammar.specs.declared.line.Form.{Form}
 use Rattle.grammar.specs.declared.line.Form.the-variants.{Skipped, NoForm, Clause, Constraint, Seen, Query}
 use Rattle.grammar.proofs.KindLaws.{fit-body, unfit-body, kind-unnamed, kind-named, body-kind}
@@ -67,24 +67,22 @@ module _ {l : List ℕ} {at : ℕ} {r : Next} (t : Found l at r) where
 
 -- Literals, as many as a line of kind k takes
 
-record Body (k : ℕ) (x : Option (List Literal)) : Type 0 where
-  literals : List Literal
-  literals-are : x ≡ Option.some literals
-  fits : takes k (length literals) ≡ true
+-- what a match tells of the body that was found
+body-as : {l : List ℕ} {at k : ℕ} {r q : Body} → BodyFound l at k r → r ≡ q → BodyFound l at k q
+body-as {l} {at} {k} f e = subst (BodyFound l at k) e f
 
-body-of : (k : ℕ) (x : Option (List Literal)) → fitsBody k x ≡ true → Body k x
-body-of k Option.none h = absurd (true≢false (sym h))
-body-of k (Option.some ls) h = record { literals = ls; literals-are = refl; fits = h }
+module _ {l : List ℕ} {at : ℕ} {x : Line} (k : ℕ) (make : List Literal → Line)
+    (e : x ≡ withBody k make (bodyIn (tokens (drop at l)))) {r : Body} (f : BodyFound l at k r) where
+  body-unmade : r ≡ body.NoBody → x ≡ Line.noForm
+  body-unmade o = e ∙ unfit-body k make (bodyIn (tokens (drop at l))) (body-as f o .body-is)
 
-module _ {l : List ℕ} {at : ℕ} {x : Line} where
-  body-makes : (k : ℕ) (make : List Literal → Line) → x ≡ withBody k make (bodyIn (tokens (drop at l)))
-      → hasBody l at k ≡ true → BodyMakes l at make x
-  unfolding hasBody
-  body-makes k make e h =
-      let b = body-of k (bodyIn (tokens (drop at l))) h in
+  body-makes : {n : ℕ} → r ≡ body.Literals n → BodyMakes l at n make x
+  body-makes o =
+      let b = body-as f o .body-is in
       record {
         literals = b .literals;
         literals-are = b .literals-are;
+        count-is = b .count-is;
         line-is = e ∙ ap (withBody k make) (b .literals-are) ∙ fit-body k make (b .literals) (b .fits);
       }
 
@@ -114,18 +112,18 @@ module _ {l : List ℕ} {at k : ℕ} {r : Next} where
         after-items (omega arith) (kind-unnamed k i (itemsOf (tokens (drop at l)))
         (rw (found-as t w .tokens-are, items-word (tokens (drop e l)) (slice a e l) h)))
 
-    module _ (n : beginsWithLetter (slice a e l) ≡ true) where
-      pub clause-unfit : hasBody l e k ≡ false → FormAfter l at k NoForm
-      unfolding hasBody
-      clause-unfit h =
-          after-items (omega arith)
-          (clause-is k i (found-as t w .tokens-are) n ∙ unfit-body k _ (bodyIn (tokens (drop e l))) h)
+    module _ (n : beginsWithLetter (slice a e l) ≡ true) {s : Body} (f : BodyFound l e k s) where
+      clause-line : withItems k (itemsOf (tokens (drop at l)))
+          ≡ withBody k (Line.clause k (slice a e l)) (bodyIn (tokens (drop e l)))
+      clause-line = clause-is k i (found-as t w .tokens-are) n
 
-      pub clause-found : hasBody l e k ≡ true → FormAfter l at k (Clause k a e e)
-      clause-found h =
+      pub clause-unfit : s ≡ body.NoBody → FormAfter l at k NoForm
+      clause-unfit o = after-items (omega arith) (body-unmade k _ clause-line f o)
+
+      pub clause-found : {j : ℕ} → s ≡ body.Literals j → FormAfter l at k (Clause k a e j)
+      clause-found o =
           let g = found-as t w in
-          let makes = body-makes k (Line.clause k (slice a e l)) (clause-is k i (g .tokens-are) n) h in
-          after-items (omega arith) (i, (g .inside .1, g .inside .2), makes)
+          after-items (omega arith) (i, (g .inside .1, g .inside .2), body-makes k _ clause-line f o)
 
 -- The ways out of `query_form`
 
@@ -177,11 +175,10 @@ module _ {l : List ℕ} {at : ℕ} {r : Parse} where
 
 -- The ways out of `form_of_kind`
 
-one-literal : (x : Option (List Literal)) → fitsBody 5 x ≡ true → (a : Literal) × (x ≡ Option.some (a ∷ []))
-one-literal Option.none h = absurd (true≢false (sym h))
-one-literal (Option.some []) h = absurd (omega (arith, eqb-true 0 1 h))
-one-literal (Option.some (a ∷ [])) h = (a, refl)
-one-literal (Option.some (a ∷ (b ∷ ls))) h = absurd (omega (arith, eqb-true (length (a ∷ (b ∷ ls))) 1 h))
+one-literal : (ls : List Literal) → takes 5 (length ls) ≡ true → (a : Literal) × (ls ≡ a ∷ [])
+one-literal [] h = absurd (omega (arith, eqb-true 0 1 h))
+one-literal (a ∷ []) h = (a, refl)
+one-literal (a ∷ (b ∷ ls)) h = absurd (omega (arith, eqb-true (length (a ∷ (b ∷ ls))) 1 h))
 
 pub constraint-kind : (k : ℕ) (ls : List Literal) → k < 5 → bodyLine k ls ≡ Line.constraint (k - 3) ls
 constraint-kind k ls h = rw (lt-ltb k 5 h)
@@ -196,28 +193,35 @@ module _ {l : List ℕ} {at k : ℕ} where
   pub form-as : {j : ℕ} {r : Form} → k ≡ j → FormAfter l at j r → FormAfter l at k r
   form-as {r = r} e f = subst (λ j. FormAfter l at j r) (sym e) f
 
-  pub form-unfit : 3 ≤ k → k < 7 → (k ≡ 6 → ⊥) → hasBody l at k ≡ false → FormAfter l at k NoForm
-  unfolding hasBody
-  form-unfit i j n h = record {
-    form-is = literals-line l at k i (omega arith) ∙ unfit-body k (bodyLine k) (bodyIn (tokens (drop at l))) h;
-  }
+  module _ {r : Body} (f : BodyFound l at k r) where
+    pub form-unfit : 3 ≤ k → k < 7 → (k ≡ 6 → ⊥) → r ≡ body.NoBody → FormAfter l at k NoForm
+    form-unfit i j n o = record {
+      form-is = body-unmade k (bodyLine k) (literals-line l at k i (omega arith)) f o;
+    }
 
-  pub form-constraint : 3 ≤ k → k < 5 → hasBody l at k ≡ true → FormAfter l at k (Constraint (k - 3) at)
-  form-constraint i j h =
-      let makes = body-makes k (bodyLine k) (literals-line l at k i (omega arith)) h in
-      let line = makes .line-is ∙ constraint-kind k (makes .literals) j in
-      record {
-        form-is =
-            (omega arith, record { literals = makes .literals; literals-are = makes .literals-are; line-is = line });
-      }
+    pub form-constraint : {n : ℕ} → 3 ≤ k → k < 5 → r ≡ body.Literals n → FormAfter l at k (Constraint (k - 3) at n)
+    form-constraint i j o =
+        let makes = body-makes k (bodyLine k) (literals-line l at k i (omega arith)) f o in
+        record {
+          form-is = (
+            omega arith,
+            record {
+              literals = makes .literals;
+              literals-are = makes .literals-are;
+              count-is = makes .count-is;
+              line-is = makes .line-is ∙ constraint-kind k (makes .literals) j;
+            },
+          );
+        }
 
-  pub form-seen : 5 ≤ k → k < 7 → (k ≡ 6 → ⊥) → hasBody l at k ≡ true → FormAfter l at k (Seen at)
-  unfolding hasBody
-  form-seen i j n h =
-      let e : k ≡ 5 = omega arith in
-      let o = one-literal (bodyIn (tokens (drop at l))) (rw e at h) in
-      let f = literals-line l at 5 (omega arith) (omega arith) ∙ ap (withBody 5 seenOf) (o .1) in
-      form-as e (record { form-is = record { reading = o .0; literals-are = o .1; line-is = f } })
+    pub form-seen : {n : ℕ} → 5 ≤ k → k < 7 → (k ≡ 6 → ⊥) → r ≡ body.Literals n → FormAfter l at k (Seen at)
+    form-seen i j m o =
+        let e : k ≡ 5 = omega arith in
+        let b = body-as f o .body-is in
+        let one = one-literal (b .literals) (subst (λ z. takes z (length (b .literals)) ≡ true) e (b .fits)) in
+        let are = b .literals-are ∙ ap Option.some (one .1) in
+        let line = literals-line l at 5 (omega arith) (omega arith) ∙ ap (withBody 5 seenOf) are in
+        form-as e (record { form-is = record { reading = one .0; literals-are = are; line-is = line } })
 
 -- The ways out of `form_of`
 

@@ -32,7 +32,8 @@ use Rattle.formulas.specs.Parsing.{sizeOf}
 use Rattle.formulas.specs.Items.{Item}
 use Rattle.formulas.proofs.Sizes.{formula-size}
 use Rattle.grammar.specs.Line.{Literal, Line, lineWords, ofLiteral, bodyTokens, lineTokens, areNamed, takes}
-use Rattle.grammar.specs.Line.{isCost, isLine, bodyNames, lineNames, bringing, pricing}
+use Rattle.grammar.specs.Line.{isCost, isLine, bodyNames, lineNames}
+use Rattle.grammar.specs.Bringing.{bodied, asking, pricing, nothing}
 use Rattle.grammar.specs.LineOf.{lineOf}
 use Rattle.grammar.specs.Parsing.{Brought}
 use Rattle.grammar.specs.declared.line.Form.{Form}
@@ -164,20 +165,20 @@ name-is-line w = refl
 -- What a line brings, by its form
 
 abbrev bringsOf : Form → Brings
-bringsOf Skipped = bringing 0 0 0 0
-bringsOf NoForm = bringing 0 0 0 0
-bringsOf (Clause k a e at) = bringing 1 0 0 0
-bringsOf (Constraint k at) = bringing 0 1 0 0
-bringsOf (Seen at) = bringing 0 0 0 0
-bringsOf (Query at d) = bringing 0 0 1 d
+bringsOf Skipped = nothing
+bringsOf NoForm = nothing
+bringsOf (Clause k a e n) = bodied 1 0 n
+bringsOf (Constraint k at n) = bodied 0 1 n
+bringsOf (Seen at) = nothing
+bringsOf (Query at d) = asking d
 bringsOf (Cost a e p s) = pricing p s
-bringsOf (Atom a e) = bringing 0 0 0 0
+bringsOf (Atom a e) = nothing
 
 brought : (x : Form) → Brought x (bringsOf x)
 brought Skipped l y h = rw h
 brought NoForm l y h = rw h
-brought (Clause k a e at) l y h = rw (h .2 .line-is)
-brought (Constraint k at) l y h = rw (h .1 .line-is)
+brought (Clause k a e n) l y h = rw (h .2 .line-is, h .2 .count-is)
+brought (Constraint k at n) l y h = rw (h .1 .line-is, h .1 .count-is)
 brought (Seen at) l y h = rw (h .line-is)
 brought (Query at d) l y h = rw (h .line-is, h .depth-is)
 brought (Cost a e p s) l y h = rw (h .1 .line-is, h .1 .price-is, h .1 .supplement-is)
@@ -187,11 +188,11 @@ brought (Atom a e) l y h = rw (h .1)
 abbrev idle : List ℕ
 idle = 0 ∷ (1 ∷ (4 ∷ (7 ∷ [])))
 
-pub brought-nothing : (x : Form) → OneOf idle (tagOf the-type x) → Brought x (bringing 0 0 0 0)
+pub brought-nothing : (x : Form) → OneOf idle (tagOf the-type x) → Brought x nothing
 brought-nothing Skipped h = brought Skipped
 brought-nothing NoForm h = brought NoForm
-brought-nothing (Clause k a e at) h = absurd (miss idle 2 tt h)
-brought-nothing (Constraint k at) h = absurd (miss idle 3 tt h)
+brought-nothing (Clause k a e n) h = absurd (miss idle 2 tt h)
+brought-nothing (Constraint k at n) h = absurd (miss idle 3 tt h)
 brought-nothing (Seen at) h = brought (Seen at)
 brought-nothing (Query at d) h = absurd (miss idle 5 tt h)
 brought-nothing (Cost a e p s) h = absurd (miss idle 6 tt h)

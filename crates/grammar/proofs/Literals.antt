@@ -1,17 +1,16 @@
--- Laws of the literals that tokens are: one for each way out of `negated_name` and `literal`, and how many literals
--- `has_body` has passed.
+-- Laws of the literals that tokens are: one for each way out of `negated_name` and `literal`, and those that `body_at` has
+-- passed.
 --
---   fitsBehind k n x     n literals and those of x are as many as a line of kind k takes
---   Counted l at k i n   hasBody l at k is told by n literals and those from place i on
+--   behindAll ls x     the literals ls with those of x behind them
+--   Counted l at i n   the literals from place at on are n literals and those from place i on
 -- Assumes nothing.
 use mathlib.Core.Path.{_≡_, refl, sym, ap, _∙_, subst}
 use mathlib.Core.Bool.{Bool, true, false, true≢false}
-use mathlib.Core.List.{List, [], _∷_}
+use mathlib.Core.List.{List, [], _∷_, _++_, append-assoc, append-nil}
 use mathlib.Core.Option.{Option}
-use Prim.Native.Nat.{ℕ, suc, _+_, _-_, _≤_, _<_}
-use native.Mathlib.Nat.{add-zero, zero-add}
+use Prim.Native.Nat.{ℕ, _+_, _-_, _≤_, _<_}
 use native.Mathlib.Omega.{arith}
-use lib.ListN.{length, drop}
+use lib.ListN.{length, drop, length-append}
 use lib.Seq.{slice}
 use denote.Enum.Declared.{tagOf}
 use types.Run.{OneOf}
@@ -32,9 +31,10 @@ use Rattle.formulas.proofs.Formulas.{found-as}
 use Rattle.grammar.specs.Line.{Literal, takes}
 use Rattle.grammar.specs.LineOf.{withSentence, literalsOf}
 use Rattle.grammar.specs.Parsing.{literalsAmong, bodyIn, LiteralInside, LiteralIn, LiteralFound, NegationFound}
-use Rattle.grammar.specs.Parsing.{fitsBody, hasBody}
+use Rattle.grammar.specs.Parsing.{fitsBody, BodyFound}
 use Rattle.grammar.specs.declared.literal.Lit.{Lit}
 use Rattle.grammar.specs.declared.literal.Lit.the-variants as lit
+use Rattle.grammar.specs.declared.literal.Body.the-variants as body
 
 -- The literals among items
 
@@ -186,41 +186,64 @@ module _ {l : List ℕ} {at : ℕ} {r : Next} (t : Found l at r) where
 
 -- How many literals there are
 
-abbrev fitsBehind : ℕ → ℕ → Option (List Literal) → Bool
-fitsBehind k n Option.none = false
-fitsBehind k n (Option.some ls) = takes k (n + length ls)
+abbrev behindAll : List Literal → Option (List Literal) → Option (List Literal)
+behindAll ls Option.none = Option.none
+behindAll ls (Option.some ms) = Option.some (ls ++ ms)
 
-pub record Counted (l : List ℕ) (at k i n : ℕ) : Type 0 where
+pub record Counted (l : List ℕ) (at i n : ℕ) : Type 0 where
   pub within : i ≤ length l
   pub few : n ≤ i
-  pub fits : hasBody l at k ≡ fitsBehind k n (bodyIn (tokens (drop i l)))
+  pub literals : List Literal
+  pub literals-are : bodyIn (tokens (drop at l)) ≡ behindAll literals (bodyIn (tokens (drop i l)))
+  pub count-is : n ≡ length literals
 
-fits-none : (k : ℕ) (x : Option (List Literal)) → fitsBody k x ≡ fitsBehind k 0 x
-fits-none k Option.none = refl
-fits-none k (Option.some ls) = rw zero-add
+behind-none : (x : Option (List Literal)) → x ≡ behindAll [] x
+behind-none Option.none = refl
+behind-none (Option.some ms) = refl
 
-fits-more : (k n : ℕ) (a : Literal) (x : Option (List Literal)) → fitsBehind k n (prepend a x) ≡ fitsBehind k (n + 1) x
-fits-more k n a Option.none = refl
-fits-more k n a (Option.some ls) =
-    let e : n + suc (length ls) ≡ (n + 1) + length ls = omega arith in
-    rw e
+behind-more : (ls : List Literal) (a : Literal) (x : Option (List Literal))
+    → behindAll ls (prepend a x) ≡ behindAll (ls ++ (a ∷ [])) x
+behind-more ls a Option.none = refl
+behind-more ls a (Option.some ms) = ap Option.some (sym (append-assoc ls (a ∷ []) ms))
 
-pub counted-none : {l : List ℕ} {at k : ℕ} → at ≤ length l → Counted l at k at 0
-unfolding hasBody
-counted-none {l} {at} {k} h =
-    record { within = h; few = omega arith; fits = fits-none k (bodyIn (tokens (drop at l))) }
+pub counted-none : {l : List ℕ} {at : ℕ} → at ≤ length l → Counted l at at 0
+counted-none {l} {at} h = record {
+  within = h;
+  few = omega arith;
+  literals = [];
+  literals-are = behind-none (bodyIn (tokens (drop at l)));
+  count-is = refl;
+}
 
 -- what a match tells of the literal that was found
 literal-as : {ts : List Token} {l : List ℕ} {at : ℕ} {r q : Lit} → LiteralIn ts l at r → r ≡ q
     → LiteralIn ts l at q
 literal-as {ts} {l} {at} f e = subst (LiteralIn ts l at) e f
 
-module _ {l : List ℕ} {at k i n : ℕ} (c : Counted l at k i n) {r : Lit} (f : LiteralFound l i r) where
-  pub counted-bad : r ≡ lit.NoLiteral → false ≡ hasBody l at k
-  counted-bad e = sym (c .fits ∙ ap (fitsBehind k n) (literal-as f e .literals-are))
+module _ {l : List ℕ} {at i n : ℕ} (c : Counted l at i n) {r : Lit} (f : LiteralFound l i r) where
+  pub counted-bad : {k : ℕ} → r ≡ lit.NoLiteral → BodyFound l at k body.NoBody
+  counted-bad {k} e = record {
+    body-is = ap (fitsBody k) (c .literals-are ∙ ap (behindAll (c .literals)) (literal-as f e .literals-are));
+  }
 
-  pub counted-end : {x : Bool} → r ≡ lit.BodyEnd → x ≡ takes k n → x ≡ hasBody l at k
-  counted-end e h = h ∙ sym (c .fits ∙ ap (fitsBehind k n) (literal-as f e .literals-are) ∙ rw add-zero)
+  module _ (e : r ≡ lit.BodyEnd) where
+    all-are : bodyIn (tokens (drop at l)) ≡ Option.some (c .literals)
+    all-are =
+        c .literals-are ∙ ap (behindAll (c .literals)) (literal-as f e .literals-are)
+        ∙ ap Option.some (append-nil (c .literals))
+
+    pub counted-unfit : {k : ℕ} → takes k n ≡ false → BodyFound l at k body.NoBody
+    counted-unfit {k} h = record { body-is = ap (fitsBody k) all-are ∙ rw (c .count-is) at h }
+
+    pub counted-end : {k : ℕ} → takes k n ≡ true → BodyFound l at k (body.Literals n)
+    counted-end h = record {
+      body-is = record {
+        literals = c .literals;
+        literals-are = all-are;
+        fits = rw (c .count-is) at h;
+        count-is = c .count-is;
+      };
+    }
 
   module _ {b : Bool} {a e next : ℕ} (q : r ≡ lit.Literal b a e next) where
     pub counted-few : n + 1 ≤ length l
@@ -229,12 +252,17 @@ module _ {l : List ℕ} {at k i n : ℕ} (c : Counted l at k i n) {r : Lit} (f :
     pub counted-less : length l - next < length l - i
     counted-less = let g = literal-as f q in omega arith
 
-    pub counted-more : Counted l at k next (n + 1)
+    pub counted-more : Counted l at next (n + 1)
     counted-more =
         let g = literal-as f q in
         let x = Literal.literal b (slice a e l) in
+        let m = length-append (c .literals) (x ∷ []) in
+        let o = c .count-is in
         record {
           within = g .inside .1;
           few = omega arith;
-          fits = c .fits ∙ ap (fitsBehind k n) (g .literals-are) ∙ fits-more k n x (bodyIn (tokens (drop next l)));
+          literals = c .literals ++ (x ∷ []);
+          literals-are = c .literals-are ∙ ap (behindAll (c .literals)) (g .literals-are)
+              ∙ behind-more (c .literals) x (bodyIn (tokens (drop next l)));
+          count-is = omega arith;
         }

@@ -8,8 +8,6 @@
 --   lineTokens x    the tokens of the line x; a skipped one has none
 --   isLine x        x is a skipped line or one of the forms, with names where names stand and literals where they must
 --   lineNames x     the names of the line x in order
---   brings x        how many clauses, constraints and queries the line x brings, the depth of its formula, and what its
---                   price and its supplement are
 use mathlib.Core.Bool.{Bool, true, false, _&&_}
 use mathlib.Core.List.{List, [], _∷_, _++_}
 use Prim.Native.Nat.{ℕ, _+_}
@@ -19,9 +17,8 @@ use Rattle.words.specs.Choice.{pick}
 use Rattle.text.specs.Bytes.{bytes}
 use Rattle.text.specs.Tokens.{Token}
 use Rattle.text.specs.Words.{beginsWithLetter}
-use Rattle.text.specs.Numbers.{numberOf, isNumber}
-use Rattle.formulas.specs.Sentence.{Sentence, formTokens, tokensOf, depthOf, isSentence, sentenceNames}
-use Rattle.grammar.specs.declared.brings.Brings.{Brings}
+use Rattle.text.specs.Numbers.{isNumber}
+use Rattle.formulas.specs.Sentence.{Sentence, formTokens, tokensOf, isSentence, sentenceNames}
 
 -- the literal of the name w, negated where the test holds
 pub data Literal : Type 0 where
@@ -104,21 +101,3 @@ lineNames (Line.seen x) = bodyNames (x ∷ [])
 lineNames (Line.query f) = sentenceNames f
 lineNames (Line.cost w p s) = w ∷ []
 lineNames (Line.atom w) = w ∷ []
-
--- a formula has depth 1 or more, and 0 stands for none
-abbrev pub bringing : ℕ → ℕ → ℕ → ℕ → Brings
-bringing n m q d = record { clauses = n; constraints = m; queries = q; depth = d; price = 0; supplement = 0 }
-
--- a price and a supplement alone
-abbrev pub pricing : ℕ → ℕ → Brings
-pricing p s = record { clauses = 0; constraints = 0; queries = 0; depth = 0; price = p; supplement = s }
-
-abbrev pub brings : Line → Brings
-brings Line.skipped = bringing 0 0 0 0
-brings Line.noForm = bringing 0 0 0 0
-brings (Line.clause k w l) = bringing 1 0 0 0
-brings (Line.constraint k l) = bringing 0 1 0 0
-brings (Line.seen x) = bringing 0 0 0 0
-brings (Line.query f) = bringing 0 0 1 (depthOf f)
-brings (Line.cost w p s) = pricing (numberOf p) (numberOf s)
-brings (Line.atom w) = bringing 0 0 0 0

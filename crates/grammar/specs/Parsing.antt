@@ -2,7 +2,8 @@
 --
 --   bodyIn ts            the literals that the tokens ts are, up to the line's closing bracket, or that they are none
 --   LiteralFound l at r  r is the literal at place at of the line l, or the body's end, or neither
---   hasBody l at k       from place at to the line's end there are literals, as many as a line of kind k takes
+--   BodyFound l at k r   r is the number of the literals from place at to the line's end, as many as a line of kind k
+--                        takes, or that there are none
 --   NumeralFound l at r  r is the number at place at of the flat line l, with the place behind it, or none
 --   FormFound l r        r is the form of the line l, with the places of its parts
 use mathlib.Core.Path.{_≡_}
@@ -20,13 +21,16 @@ use Rattle.formulas.specs.Sentence.{Sentence}
 use Rattle.formulas.specs.Items.{prepend, Item, itemsOf}
 use Rattle.grammar.specs.declared.literal.Lit.{Lit}
 use Rattle.grammar.specs.declared.literal.Lit.the-variants as lit
+use Rattle.grammar.specs.declared.literal.Body.{Body}
+use Rattle.grammar.specs.declared.literal.Body.the-variants as body
 use Rattle.grammar.specs.declared.numeral.Numeral.{Numeral}
 use Rattle.grammar.specs.declared.numeral.Numeral.the-variants as numeral
 use Rattle.grammar.specs.declared.line.Form.{Form}
 use Rattle.grammar.specs.declared.line.Form.the-variants.{Skipped, NoForm, Clause, Constraint, Seen, Query, Cost}
 use Rattle.grammar.specs.declared.line.Form.the-variants.{Atom}
 use Rattle.grammar.specs.declared.brings.Brings.{Brings}
-use Rattle.grammar.specs.Line.{Line, Literal, takes, brings}
+use Rattle.grammar.specs.Line.{Line, Literal, takes}
+use Rattle.grammar.specs.Bringing.{brings}
 use Rattle.grammar.specs.LineOf.{literalsOf, isEnd, flatWords, behindWord, lineOf}
 
 abbrev pub endsItems : Items → Bool
@@ -69,8 +73,19 @@ abbrev pub fitsBody : ℕ → Option (List Literal) → Bool
 fitsBody k Option.none = false
 fitsBody k (Option.some ls) = takes k (length ls)
 
-unfoldable pub hasBody : List ℕ → ℕ → ℕ → Bool
-hasBody l at k = fitsBody k (bodyIn (tokens (drop at l)))
+-- there are n literals, as many as a line of kind k takes
+pub record CountedBody (k n : ℕ) (x : Option (List Literal)) : Type 0 where
+  pub literals : List Literal
+  pub literals-are : x ≡ Option.some literals
+  pub fits : takes k (length literals) ≡ true
+  pub count-is : n ≡ length literals
+
+abbrev pub BodyIs : ℕ → Option (List Literal) → Body → Type 0
+BodyIs k x body.NoBody = fitsBody k x ≡ false
+BodyIs k x (body.Literals n) = CountedBody k n x
+
+pub record BodyFound (l : List ℕ) (at k : ℕ) (r : Body) : Type 0 where
+  pub body-is : BodyIs k (bodyIn (tokens (drop at l))) r
 
 -- what flat words begin with is no number
 abbrev pub Unnumbered : Option (List (List ℕ)) → Type 0
@@ -92,10 +107,11 @@ NumeralIs l at (numeral.Numeral n next) = NumeralAt l at n next
 pub record NumeralFound (l : List ℕ) (at : ℕ) (r : Numeral) : Type 0 where
   pub numeral-is : NumeralIs l at r
 
--- the literals from place at on make the line x
-pub record BodyMakes (l : List ℕ) (at : ℕ) (make : List Literal → Line) (x : Line) : Type 0 where
+-- the literals from place at on, n of them, make the line x
+pub record BodyMakes (l : List ℕ) (at n : ℕ) (make : List Literal → Line) (x : Line) : Type 0 where
   pub literals : List Literal
   pub literals-are : bodyIn (tokens (drop at l)) ≡ Option.some literals
+  pub count-is : n ≡ length literals
   pub line-is : x ≡ make literals
 
 -- the one literal from place at on makes the line x
@@ -126,8 +142,8 @@ Part l a e = (a < e) × (e ≤ length l)
 abbrev pub FormIs : List ℕ → Form → Line → Type 0
 FormIs l Skipped x = x ≡ Line.skipped
 FormIs l NoForm x = x ≡ Line.noForm
-FormIs l (Clause k a e at) x = (k ≤ 2) × Part l a e × BodyMakes l at (Line.clause k (slice a e l)) x
-FormIs l (Constraint k at) x = (k ≤ 1) × BodyMakes l at (Line.constraint k) x
+FormIs l (Clause k a e n) x = (k ≤ 2) × Part l a e × BodyMakes l e n (Line.clause k (slice a e l)) x
+FormIs l (Constraint k at n) x = (k ≤ 1) × BodyMakes l at n (Line.constraint k) x
 FormIs l (Seen at) x = SeenMakes l at x
 FormIs l (Query at d) x = QueryMakes l at d x
 FormIs l (Cost a e p s) x = Part l a e × CostMakes (slice a e l) p s x

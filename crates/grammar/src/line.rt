@@ -6,7 +6,8 @@ ghost use lib.Seq.{slice};
 ghost use Rattle.grammar.specs.LineOf.{kindOf};
 ghost use Rattle.grammar.specs.Parsing.{FormFound, FormAfter, Brought, endsLine};
 use crate::brings::Brings;
-use crate::literal::has_body;
+use crate::literal::Body;
+use crate::literal::body_at;
 use crate::numeral::Numeral;
 use crate::numeral::numeral_at;
 use formulas::formula::Parse;
@@ -16,14 +17,15 @@ use text::name::is_name;
 use text::tokens::Next;
 use text::tokens::token;
 
-// The form of a line with the places of its parts: a clause's kind and the ends of its head, a constraint's kind, the
-// place where literals or a formula begin, a formula's depth; the ends of a cost's name, its price and supplement; and
-// the ends of an atom line's name.
+// The form of a line with the places of its parts: a clause's kind, the ends of its head, behind which its literals
+// begin, and their number; a constraint's kind, the place where its literals begin, and their number; the place where a
+// reading's literal or a formula begins, a formula's depth; the ends of a cost's name, its price and supplement; and the
+// ends of an atom line's name.
 pub enum Form {
     Skipped,
     NoForm,
     Clause(usize, usize, usize, usize),
-    Constraint(usize, usize),
+    Constraint(usize, usize, usize),
     Seen(usize),
     Query(usize, usize),
     Cost(usize, usize, usize, usize),
@@ -66,10 +68,10 @@ fn clause_form(l: &[u8], at: usize, kind: usize) -> Form
     if !is_name(l, a, e) {
         return Form::NoForm;
     }
-    if !has_body(l, e, kind) {
+    let Body::Literals(n) = body_at(l, e, kind) else {
         return Form::NoForm;
-    }
-    Form::Clause(kind, a, e, e)
+    };
+    Form::Clause(kind, a, e, n)
 }
 
 // A query from behind its word on.
@@ -151,11 +153,11 @@ fn form_of_kind(l: &[u8], at: usize, kind: usize) -> Form
     if kind == 6 {
         return query_form(l, at);
     }
-    if !has_body(l, at, kind) {
+    let Body::Literals(n) = body_at(l, at, kind) else {
         return Form::NoForm;
-    }
+    };
     if kind < 5 {
-        return Form::Constraint(kind - 3, at);
+        return Form::Constraint(kind - 3, at, n);
     }
     Form::Seen(at)
 }
@@ -182,19 +184,21 @@ pub fn brings(x: Form) -> Brings
     ensures { λ r. ⌜ Brought x r ⌝ }
 {
     match x {
-        Form::Clause(_, _, _, _) => Brings {
+        Form::Clause(_, _, _, literals) => Brings {
             clauses: 1,
             constraints: 0,
             queries: 0,
             depth: 0,
+            literals: literals,
             price: 0,
             supplement: 0,
         },
-        Form::Constraint(_, _) => Brings {
+        Form::Constraint(_, _, literals) => Brings {
             clauses: 0,
             constraints: 1,
             queries: 0,
             depth: 0,
+            literals: literals,
             price: 0,
             supplement: 0,
         },
@@ -203,6 +207,7 @@ pub fn brings(x: Form) -> Brings
             constraints: 0,
             queries: 1,
             depth: depth,
+            literals: 0,
             price: 0,
             supplement: 0,
         },
@@ -211,6 +216,7 @@ pub fn brings(x: Form) -> Brings
             constraints: 0,
             queries: 0,
             depth: 0,
+            literals: 0,
             price: price,
             supplement: supplement,
         },
@@ -219,6 +225,7 @@ pub fn brings(x: Form) -> Brings
             constraints: 0,
             queries: 0,
             depth: 0,
+            literals: 0,
             price: 0,
             supplement: 0,
         },

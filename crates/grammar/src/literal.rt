@@ -3,7 +3,7 @@ ghost use mathlib.Core.Path.{_≡_};
 ghost use Prim.Native.Nat.{_≤_};
 ghost use lib.ListN.{length};
 ghost use Rattle.grammar.specs.Line.{takes};
-ghost use Rattle.grammar.specs.Parsing.{LiteralFound, NegationFound, hasBody};
+ghost use Rattle.grammar.specs.Parsing.{LiteralFound, NegationFound, BodyFound};
 use formulas::keyword::node_of;
 use text::name::is_name;
 use text::tokens::Next;
@@ -14,6 +14,12 @@ pub enum Lit {
     NoLiteral,
     BodyEnd,
     Literal(bool, usize, usize, usize),
+}
+
+// A body found in a line: the number of its literals, or that there is none.
+pub enum Body {
+    NoBody,
+    Literals(usize),
 }
 
 // The negated name whose opening bracket stands before a place.
@@ -73,20 +79,24 @@ fn takes(kind: usize, n: usize) -> bool
     0 < n
 }
 
-// Whether a place is followed by literals to the end of the line, as many as a line of a kind takes.
-pub fn has_body(l: &[u8], at: usize, kind: usize) -> bool
+// The body from a place to the end of the line: its number of literals, as many as a line of a kind takes, or that there
+// is none.
+pub fn body_at(l: &[u8], at: usize, kind: usize) -> Body
     requires { ⌜ at ≤ length (now l) ⌝ }
-    ensures { λ r. ⌜ r ≡ hasBody (now (l .entry)) at kind ⌝ }
+    ensures { λ r. ⌜ BodyFound (now (l .entry)) at kind r ⌝ }
 {
     let mut i = at;
     let mut count: usize = 0;
     loop {
         match literal(l, i) {
             Lit::NoLiteral => {
-                return false;
+                return Body::NoBody;
             }
             Lit::BodyEnd => {
-                return takes(kind, count);
+                if !takes(kind, count) {
+                    return Body::NoBody;
+                }
+                return Body::Literals(count);
             }
             Lit::Literal(_, _, _, next) => {
                 i = next;

@@ -1,4 +1,7 @@
--- An accepted file's record and tables say what the file says. Assumes nothing.
+-- An accepted file's record and tables say what the file says.
+--
+--   Accepted f t u r     what is known of an answer r that accepts the file f
+-- Assumes nothing.
 use mathlib.Core.Path.{_≡_, refl, sym, ap, _∙_}
 use mathlib.Core.Bool.{true, false}
 use mathlib.Core.List.{List}
@@ -127,12 +130,38 @@ not-refused : (o : Outcome) → Numbered o → refusalOf o ≡ 0 → (st : Said)
 not-refused (Outcome.case st) h e = (st, refl)
 not-refused (Outcome.refused n k) h e = absurd (h e)
 
-pub answer-says : (f : List ℕ) (t u : Lent) (r : Answer) → ReadAs f t u r → r .refusal ≡ 0 → Says f (r .found) u
-answer-says f t u r h z =
+-- the tables u at exit hold what the file f says, which is said, over the tables t at entry
+pub record Accepted (f : List ℕ) (t u : Lent) (r : Answer) : Type 0 where
+  pub said : Said
+  pub file-is : readFile f ≡ Outcome.case said
+  pub long : Long t
+  pub found-is : r .found ≡ caseSaid said
+  pub clauses-are : u .clauses ≡ filled clauseSize (clauseWords (said .clauses)) (t .clauses)
+  pub constraints-are : u .constraints ≡ filled constraintSize (constraintWords (said .constraints)) (t .constraints)
+  pub formula-is : u .formula ≡ filled formulaSize (formulaParts (said .queries)) (t .formula)
+  pub names-are : u .names ≡ filled nameSize (rowsOf (said .names)) (t .names)
+  pub prices-are : u .prices ≡ filled priceSize (pricesOf (said .costs)) (t .prices)
+
+pub accepted : (f : List ℕ) (t u : Lent) (r : Answer) → ReadAs f t u r → r .refusal ≡ 0 → Accepted f t u r
+accepted f t u r h z =
     let p = first-of-none (earlyRefusal f t) (refusalOf (readFile f)) (sym (h .refusal-is) ∙ z) in
     let a = not-refused (readFile f) (file-numbered f) (p .1) in
     let early = p .0 in
-    let said = a .1 in
-    says f (a .0) said (r .found) t u (early-passed f t (sym early) refl .0)
-    (rw (z, said) at (h .case-is)) (rw (early, said) at (h .clauses-are)) (rw (early, said) at (h .constraints-are))
-    (rw (early, said) at (h .formula-is)) (rw (early, said) at (h .names-are)) (rw (early, said) at (h .prices-are))
+    let e = a .1 in
+    record {
+      said = a .0;
+      file-is = e;
+      long = early-passed f t (sym early) refl .0;
+      found-is = rw (z, e) at (h .case-is);
+      clauses-are = rw (early, e) at (h .clauses-are);
+      constraints-are = rw (early, e) at (h .constraints-are);
+      formula-is = rw (early, e) at (h .formula-is);
+      names-are = rw (early, e) at (h .names-are);
+      prices-are = rw (early, e) at (h .prices-are);
+    }
+
+pub answer-says : (f : List ℕ) (t u : Lent) (r : Answer) → ReadAs f t u r → r .refusal ≡ 0 → Says f (r .found) u
+answer-says f t u r h z =
+    let a = accepted f t u r h z in
+    says f (a .said) (a .file-is) (r .found) t u (a .long) (a .found-is) (a .clauses-are) (a .constraints-are)
+    (a .formula-is) (a .names-are) (a .prices-are)

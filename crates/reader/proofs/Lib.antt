@@ -10,6 +10,7 @@
 -- WellFormed: what it is for what was read to be well formed.
 -- WellFormedLines: lines that pass keep it so.
 -- Sound: what was read of an accepted file is a sound case.
+-- Bodies: no body of an accepted file has more than 11 literals.
 -- LinesSay: what was read is what the lines say.
 -- FileSays: an accepted file's record and tables say what the file says.
 -- Theorems: a proof of each claim of specs/Claims.antt.
@@ -24,6 +25,7 @@ pub mod RefusalNumbers
 pub mod WellFormed
 pub mod WellFormedLines
 pub mod Sound
+pub mod Bodies
 pub mod LinesSay
 pub mod FileSays
 pub mod Theorems

@@ -4,6 +4,7 @@ use mathlib.Core.List.{[]}
 use Prim.Native.Nat.{suc, _*_, _≤_}
 use native.Mathlib.Omega.{arith}
 use lib.ListN.{length}
+use Rattle.text.specs.Lines.{lines}
 use Rattle.text.specs.Tokens.{tokens}
 use Rattle.formulas.specs.Parsing.{sizeOf}
 use Rattle.text.proofs.TokenCounts.{tokens-le-bytes}
@@ -15,10 +16,11 @@ use Rattle.store.proofs.Encoded.{encoded-length}
 use Rattle.store.proofs.Prices.{supplement-near}
 use Rattle.checks.specs.Naming.{IsName}
 use Rattle.reader.specs.Claims.{AcceptedSound, TablesSay, AcceptedNames, FirstBad, ReadExact}
-use Rattle.reader.specs.Claims.{FirstBadLine, NoBadLine, NodesFit, SupplementNearest}
+use Rattle.reader.specs.Claims.{FirstBadLine, NoBadLine, ElevenRead, NodesFit, SupplementNearest}
 use Rattle.reader.proofs.EarlyRefusals.{fit-long}
 use Rattle.reader.proofs.WellFormedLines.{accepted-formed}
 use Rattle.reader.proofs.Sound.{ended-sound}
+use Rattle.reader.proofs.Bodies.{Few, accepted-lines}
 use Rattle.reader.proofs.FileSays.{answer-says}
 use Rattle.reader.proofs.FirstBad.{file-passes, file-bad, read-cases, ending-line}
 
@@ -50,6 +52,9 @@ first-bad-line f n k e =
 pub no-bad-line : NoBadLine
 no-bad-line f n e =
     read-cases f _ e (λ h d. h) (λ m k b d. let z : suc k ≡ 0 = cc in absurd (omega arith))
+
+pub eleven-read : ElevenRead
+eleven-read f st k e h = each-at Few (lines f) k [] (accepted-lines f st e) h
 
 pub nodes-fit : NodesFit
 nodes-fit l f ns h e =

@@ -17,7 +17,8 @@ use Rattle.text.proofs.Each.{Each}
 use Rattle.formulas.specs.Sentence.{Sentence, sentenceNames, depthOf}
 use Rattle.formulas.specs.Parsing.{sizeOf}
 use Rattle.text.proofs.TokenCounts.{tokens-le-bytes}
-use Rattle.grammar.specs.Line.{Line, Literal, bodyNames, lineNames, isLine, brings}
+use Rattle.grammar.specs.Line.{Line, Literal, bodyNames, lineNames, isLine}
+use Rattle.grammar.specs.Bringing.{brings}
 use Rattle.grammar.specs.LineOf.{lineOf}
 use Rattle.grammar.proofs.LineLaws.{line-names, Bodied, ClauseShaped, Shaped, line-shaped}
 use Rattle.names.specs.Names.{atomOf, withNames}
@@ -116,9 +117,9 @@ form-formed : (st : Said) (l : List ℕ) → WellFormed st → length l ≤ 200 
 form-formed st l r h p =
     let ws : List (List ℕ) = namesIn (tokens l) in
     let ns : List (List ℕ) = withNames (st .names) ws in
-    let named = renamed-formed st ws r (names-named l (p .is-line) (p .names-short)) (p .room .names-few) in
+    let named = renamed-formed st ws r (names-named l (p .is-line) (p .text .names-short)) (p .room .names-few) in
     said-formed ns (p .room .names-few) st named (length (tokens l)) (omega (arith, tokens-le-bytes l))
-    (lineOf (tokens l)) (line-known st l (p .is-line)) (line-shaped (tokens l)) (p .not-deep) (p .room)
+    (lineOf (tokens l)) (line-known st l (p .is-line)) (line-shaped (tokens l)) (p .text .not-deep) (p .room)
 
 line-formed : (st : Said) (l : List ℕ) → WellFormed st → lineRefusal st l ≡ 0 → WellFormed (saidAfter st l)
 line-formed st l r e =

@@ -1,13 +1,14 @@
 -- What is claimed of reading beyond the contract of *read*. Proved in proofs/Theorems.antt.
 -- From: document 01, "What each operation refuses" (Reading), "Case tables and sound cases"; document 02, [7] ("the
--- supplement rounded to the nearest cent, half a cent upwards").
+-- supplement rounded to the nearest cent, half a cent upwards"), [9] ("Make 11 the limit").
 --
 --   AcceptedSound, TablesSay, AcceptedNames     an accepted file's record and tables
 --   ReadExact, FirstBadLine, NoBadLine          which line decides
+--   ElevenRead                                  how many literals a body of an accepted file has
 --   NodesFit                                    why there is no refusal for too many nodes
 --   SupplementNearest                           how a supplement is rounded
 use mathlib.Core.Path.{_≡_}
-use mathlib.Core.Bool.{Bool, true, _&&_}
+use mathlib.Core.Bool.{Bool, true, false, _&&_}
 use mathlib.Core.List.{List, [], _∷_}
 use Prim.Native.Nat.{ℕ, suc, _+_, _*_, _≤_, _<_}
 use lib.Dec.{eqb}
@@ -15,11 +16,12 @@ use lib.ListN.{length, getD, take}
 use Rattle.logic.specs.Nodes.{nodes}
 use Rattle.program.specs.Case.{clauseSize, constraintSize, formulaSize}
 use Rattle.program.specs.Sound.{sound}
-use Rattle.text.specs.Lines.{lines}
+use Rattle.text.specs.Lines.{lines, isComment}
 use Rattle.text.specs.Tokens.{tokens}
 use Rattle.table.specs.Filled.{filled}
 use Rattle.formulas.specs.Sentence.{Sentence}
 use Rattle.grammar.specs.Line.{Line}
+use Rattle.grammar.specs.Bringing.{brings}
 use Rattle.grammar.specs.LineOf.{lineOf}
 use Rattle.names.specs.Names.{atomOf}
 use Rattle.store.specs.Lent.{Lent}
@@ -86,6 +88,11 @@ FirstBadLine = (f : List ℕ) (n k : ℕ) → readFile f ≡ Outcome.refused n (
 -- a refusal with line 0 comes after all lines passed
 abbrev pub NoBadLine : Type 0
 NoBadLine = (f : List ℕ) (n : ℕ) → readFile f ≡ Outcome.refused n 0 → allPass (lines f) nothingSaid ≡ true
+
+-- no line of an accepted file, comments aside, has more than 11 literals in its body, as written
+abbrev pub ElevenRead : Type 0
+ElevenRead = (f : List ℕ) (st : Said) (k : ℕ) → readFile f ≡ Outcome.case st → k < length (lines f)
+    → isComment (getD (lines f) k []) ≡ false → brings (lineOf (tokens (getD (lines f) k []))) .literals ≤ 11
 
 -- the nodes of a query always fit: a line of 200 bytes has at most 128
 abbrev pub NodesFit : Type 0

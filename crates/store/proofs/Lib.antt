@@ -6,6 +6,7 @@
 -- Formulas: the atoms of a formula, and the nodes of a form.
 -- Encoded: formulas by a lookup of names.
 -- Literals: the words of literals.
+-- BodySizes: the atoms of literals are at most as many as the literals.
 -- Lookups: lookups that agree.
 -- MaskLaws: the atoms of literals, added one after the other.
 -- NodeLaws: the nodes of formulas, in a line and in a table.
@@ -20,6 +21,7 @@ pub mod KeptTables
 pub mod Formulas
 pub mod Encoded
 pub mod Literals
+pub mod BodySizes
 pub mod Lookups
 pub mod MaskLaws
 pub mod NodeLaws

@@ -43,7 +43,7 @@ module _ {l : List ℕ} {x : Form} {c : Case} {y : Line} (s : Storable l x c y) 
 
   -- what the arms of a clause, a constraint and a query take
 
-  module _ {k a e at : ℕ} (q : x ≡ Clause k a e at) where
+  module _ {k a e n : ℕ} (q : x ≡ Clause k a e n) where
     pub clause-kind : k ≤ 2
     clause-kind = form-told q .0
 
@@ -58,7 +58,7 @@ module _ {l : List ℕ} {x : Form} {c : Case} {y : Line} (s : Storable l x c y) 
         let room = rw (form-told q .2 .line-is) at (s .room .clauses-fit) in
         omega arith
 
-  pub constraint-room : {k at : ℕ} → x ≡ Constraint k at → c .constraints < 32
+  pub constraint-room : {k at n : ℕ} → x ≡ Constraint k at n → c .constraints < 32
   constraint-room q =
       let room = rw (form-told q .1 .line-is) at (s .room .constraints-fit) in
       omega arith
@@ -100,8 +100,8 @@ module _ {l : List ℕ} {x : Form} {c : Case} {y : Line} (s : Storable l x c y) 
     unfolding saidBy
     atom-stored q = record { kept = kept-refl-all _; held = λ st h known once. rw (form-told q .1) h }
 
-    module _ (long : Long (lent cl co fo na pr)) {at : ℕ} {r : Case} where
-      pub clause-stored : {k a e : ℕ} {m : Masks} {u : List ℕ} → x ≡ Clause k a e at → MasksOf l at na (c .atoms) m
+    module _ (long : Long (lent cl co fo na pr)) {r : Case} where
+      pub clause-stored : {k a e n : ℕ} {m : Masks} {u : List ℕ} → x ≡ Clause k a e n → MasksOf l e na (c .atoms) m
           → ClauseStored (slice a e l) k m c na cl r u → StoredAs y c (lent cl co fo na pr) r (lent u co fo na pr)
       unfolding saidBy
       clause-stored {k} {a} {e} q i d =
@@ -118,10 +118,10 @@ module _ {l : List ℕ} {x : Form} {c : Case} {y : Line} (s : Storable l x c y) 
                 (rw (f .line-is) at known) room d);
           }
 
-      pub constraint-stored : {k : ℕ} {m : Masks} {u : List ℕ} → x ≡ Constraint k at → MasksOf l at na (c .atoms) m
-          → ConstraintStored m k c co r u → StoredAs y c (lent cl co fo na pr) r (lent cl u fo na pr)
+      pub constraint-stored : {at k n : ℕ} {m : Masks} {u : List ℕ} → x ≡ Constraint k at n
+          → MasksOf l at na (c .atoms) m → ConstraintStored m k c co r u → StoredAs y c (lent cl co fo na pr) r (lent cl u fo na pr)
       unfolding saidBy
-      constraint-stored {k} q i d =
+      constraint-stored {k = k} q i d =
           let f = form-told q .1 in
           let room = constraint-room q in
           record {
@@ -136,7 +136,7 @@ module _ {l : List ℕ} {x : Form} {c : Case} {y : Line} (s : Storable l x c y) 
                 (rw (f .line-is) at known) k room d);
           }
 
-      pub seen-stored : {m : Masks} → x ≡ Seen at → MasksOf l at na (c .atoms) m → ObservedStored m c r
+      pub seen-stored : {at : ℕ} {m : Masks} → x ≡ Seen at → MasksOf l at na (c .atoms) m → ObservedStored m c r
           → StoredAs y c (lent cl co fo na pr) r (lent cl co fo na pr)
       unfolding saidBy
       seen-stored q i d =
@@ -149,10 +149,10 @@ module _ {l : List ℕ} {x : Form} {c : Case} {y : Line} (s : Storable l x c y) 
                 (rw (f .line-is) at known) d);
           }
 
-      pub query-stored : {d : ℕ} {u : List ℕ} → x ≡ Query at d → QueryStored l at c na fo r u
+      pub query-stored : {at d : ℕ} {u : List ℕ} → x ≡ Query at d → QueryStored l at c na fo r u
           → StoredAs y c (lent cl co fo na pr) r (lent cl co u na pr)
       unfolding saidBy
-      query-stored q d =
+      query-stored {at = at} q d =
           let f = form-told q in
           let b = first-formula-size l at (f .sentence) _ (f .items-are) in
           let small : sizeOf (f .sentence) ≤ partSize = omega (arith, s .short) in

@@ -19,7 +19,8 @@ use Rattle.program.specs.Case.{partSize}
 use Rattle.text.specs.Tokens.{tokens}
 use Rattle.grammar.specs.declared.brings.Brings.{Brings}
 use Rattle.grammar.specs.declared.line.Form.{Form}
-use Rattle.grammar.specs.Line.{Line, lineNames, brings}
+use Rattle.grammar.specs.Line.{Line, lineNames}
+use Rattle.grammar.specs.Bringing.{brings}
 use Rattle.grammar.specs.Parsing.{FormIs}
 use Rattle.names.specs.Names.{withNames}
 use Rattle.names.specs.Row.{rowOf}

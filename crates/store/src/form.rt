@@ -107,11 +107,11 @@ pub fn store_form(
     match x {
         Form::NoForm => c,
         Form::Skipped => c,
-        Form::Clause(kind, a, e, at) => {
-            let m = masks_of(l, at, names, c.atoms);
+        Form::Clause(kind, a, e, _) => {
+            let m = masks_of(l, e, names, c.atoms);
             store_clause(l, kind, a, e, m, c, names, clauses)
         }
-        Form::Constraint(kind, at) => {
+        Form::Constraint(kind, at, _) => {
             let m = masks_of(l, at, names, c.atoms);
             store_constraint(m, kind, c, constraints)
         }

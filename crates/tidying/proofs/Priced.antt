@@ -14,7 +14,8 @@ use Rattle.text.specs.Tokens.{tokens}
 use Rattle.text.proofs.Each.{Each, each-append}
 use Rattle.table.specs.Filled.{filled, padded}
 use Rattle.table.proofs.Filled.{filled-exact, padded-length}
-use Rattle.grammar.specs.Line.{Line, brings}
+use Rattle.grammar.specs.Line.{Line}
+use Rattle.grammar.specs.Bringing.{brings}
 use Rattle.grammar.specs.LineOf.{lineOf}
 use Rattle.store.specs.Prices.{CostRow, priceOf, priceIn, pricesOf}
 use Rattle.store.specs.Saying.{Said, nothingSaid, saidBy}

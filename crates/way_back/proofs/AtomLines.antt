@@ -1,5 +1,5 @@
 -- Atom lines, which name one atom each, are read as these names. Assumes nothing.
-use mathlib.Core.Path.{_≡_, sym, ap, subst, _∙_}
+use mathlib.Core.Path.{_≡_, refl, sym, ap, subst, _∙_}
 use mathlib.Core.Bool.{false}
 use mathlib.Core.List.{List, [], _∷_, _++_, map, append-assoc}
 use Prim.Native.Nat.{ℕ, _+_, _≤_, _<_}
@@ -10,7 +10,8 @@ use lib.Seq.{getD-append-seam}
 use borrow.Author.Tests.{ltb-true, ltb-false}
 use Rattle.words.proofs.Tests.{by-test}
 use Rattle.text.proofs.Places.{place-name}
-use Rattle.grammar.specs.Line.{Line, brings}
+use Rattle.grammar.specs.Line.{Line}
+use Rattle.grammar.specs.Bringing.{nothing, brings}
 use Rattle.grammar.proofs.LineLaws.{name-is-line}
 use Rattle.names.specs.Names.{atomOf}
 use Rattle.names.proofs.Distinct.{Distinct}
@@ -60,7 +61,7 @@ module _ (done : List (List ℕ)) (w : List ℕ) (rest : List (List ℕ)) (r : R
       let few = length-append done (w ∷ []) in
       let st = withAtoms (done ++ (w ∷ [])) in
       subst AtomRoom (sym grown)
-      (rw (atom-no-cost st w) (room-rows st 0 0 0 0 (omega arith) (omega arith) (omega arith) (omega arith)))
+      (rw (atom-no-cost st w) (room-rows st nothing refl refl (omega arith) (omega arith) (omega arith) (omega arith)))
 
   atom-fits : Fits (withAtoms done) (Line.atom w)
   atom-fits =

@@ -1,5 +1,5 @@
 -- The lines of clauses and constraints are read as these clauses and constraints. Assumes nothing.
-use mathlib.Core.Path.{_≡_, ap, _∙_}
+use mathlib.Core.Path.{_≡_, refl, ap, _∙_}
 use mathlib.Core.Bool.{true}
 use mathlib.Core.List.{List, [], _∷_, _++_, map}
 use Prim.Native.Nat.{ℕ, _+_, _≤_, _<_}
@@ -9,7 +9,8 @@ use lib.ListN.{length}
 use borrow.Author.Tests.{ltb-true}
 use Rattle.text.proofs.ByteLaws.{and-true-both}
 use Rattle.text.proofs.Each.{Each}
-use Rattle.grammar.specs.Line.{Literal, takes, isLine, lineNames, brings}
+use Rattle.grammar.specs.Line.{Literal, takes, isLine, lineNames}
+use Rattle.grammar.specs.Bringing.{brings}
 use Rattle.grammar.proofs.LineLaws.{clause-is-line, constraint-is-line}
 use Rattle.store.specs.Saying.{ClauseRow, ConstraintRow, Said, said, clauseRow, constraintRow, isSecondCost}
 use Rattle.store.proofs.Saying.{clause-said, constraint-said, clause-no-cost, constraint-no-cost}
@@ -66,7 +67,7 @@ module _ (ns : List (List ℕ)) (name : ℕ → List ℕ) (h : NamedBy ns name) 
         → RoomFor clauseSt (isSecondCost clauseSt (clauseLine name c)) (brings (clauseLine name c))
     clause-room m =
         rw (clause-no-cost clauseSt (c .kind) (name (c .head)) (body c f))
-        (room-rows clauseSt 1 0 0 0 (h .few) (omega arith) (omega arith) (omega arith))
+        (room-rows clauseSt _ refl refl (h .few) (omega arith) (omega arith) (omega arith))
 
     clause-says : after clauseSt (clauseLine name c) ≡ withClauses (done ++ (c ∷ []))
     clause-says =
@@ -129,7 +130,7 @@ module _ (ns : List (List ℕ)) (name : ℕ → List ℕ) (h : NamedBy ns name) 
         record {
           fits = known-fits st (constraintLine name c) u (constraint-line c f) (r .each .0 .1) (omega arith)
               (rw (constraint-no-cost st (c .kind) l)
-              (room-rows st 0 1 0 0 (h .few) (omega arith) (omega arith) (omega arith)));
+              (room-rows st _ refl refl (h .few) (omega arith) (omega arith) (omega arith)));
           says = known-says st (constraintLine name c) u ∙ constraint-said st (c .kind) l
               ∙ ap (λ x. withConstraints (done ++ (x ∷ []))) (constraint-back c f);
           on = left-on ConstraintWritten 32 done c rest r;

@@ -9,7 +9,8 @@ use Rattle.logic.specs.Formula.{Formula}
 use Rattle.text.specs.Numbers.{numberOf, isNumber}
 use Rattle.text.proofs.Each.{Each}
 use Rattle.text.proofs.NumberLaws.{digits-number}
-use Rattle.grammar.specs.Line.{isLine, lineNames, brings, pricing}
+use Rattle.grammar.specs.Line.{isLine, lineNames}
+use Rattle.grammar.specs.Bringing.{brings, pricing}
 use Rattle.grammar.proofs.LineLaws.{numbers-are-line}
 use Rattle.store.specs.Prices.{CostRow, hasCost}
 use Rattle.store.specs.Saying.{ClauseRow, ConstraintRow, Said, said, costRow, isSecondCost}

@@ -1,22 +1,26 @@
 -- Lines that may stand one behind the other, and what was read after them.
 --
 --   Reads st xs u          behind st each of the lines xs fits, and after them u was read
+--   literalsIn x           how many literals the line x has
 --   Step line state ..     the line of a fits behind the entries done, and adds a to them
 --   Left P m done rest     of at most m entries done and rest, P holds of each of rest
 --   Written line P a       P holds of the entry a, and its line is at most 200 bytes long
 -- Assumes nothing.
-use mathlib.Core.Path.{_≡_, sym, ap, subst}
+use mathlib.Core.Path.{_≡_, sym, ap, subst, _∙_}
 use mathlib.Core.List.{List, [], _∷_, _++_, map, append-assoc, append-nil}
-use Prim.Native.Nat.{ℕ, suc, _+_, _≤_, _<_}
+use Prim.Native.Nat.{ℕ, zero, suc, _+_, _≤_, _<_}
+use native.Mathlib.Nat.{add-zero}
 use native.Mathlib.Omega.{arith}
 use lib.ListN.{length, length-append}
 use Rattle.text.proofs.Each.{Each}
 use Rattle.text.proofs.Spelled.{EachOneLine}
 use Rattle.grammar.specs.Line.{Line}
+use Rattle.grammar.specs.Bringing.{brings}
 use Rattle.store.specs.Saying.{Said}
-use Rattle.reader.specs.Reading.{ending, readLines}
+use Rattle.reader.specs.Reading.{Outcome, ending, readLines}
 use Rattle.writing.specs.Lines.{lineText}
-use Rattle.way_back.proofs.Fits.{after, Fits, line-alone, line-passes, line-said}
+use Rattle.way_back.proofs.FirstOver.{FirstOver}
+use Rattle.way_back.proofs.Fits.{after, Fits, line-alone, line-passes, line-long, line-said}
 
 abbrev pub Reads : Said → List Line → Said → Type 0
 Reads st [] u = st ≡ u
@@ -30,12 +34,26 @@ pub lines-alone : (xs : List Line) (st u : Said) → Reads st xs u → EachOneLi
 lines-alone [] st u h = tt
 lines-alone (x ∷ xs) st u h = (line-alone st x (h .0), lines-alone xs (after st x) u (h .1))
 
-pub lines-read : (xs : List Line) (st u : Said) (k : ℕ) → Reads st xs u
+abbrev pub literalsIn : Line → ℕ
+literalsIn x = brings x .literals
+
+pub lines-read : (xs : List Line) (st u : Said) (k : ℕ) → Reads st xs u → Each (λ n. n ≤ 11) (map literalsIn xs)
     → readLines (map lineText xs) st k ≡ ending u
 unfolding readLines
-lines-read [] st u k h = ap ending h
-lines-read (x ∷ xs) st u k h =
-    rw (line-passes st x (h .0), line-said st x (h .0)) (lines-read xs (after st x) u (suc k) (h .1))
+lines-read [] st u k h few = ap ending h
+lines-read (x ∷ xs) st u k h few =
+    rw (line-passes st x (h .0) (few .0), line-said st x (h .0))
+    (lines-read xs (after st x) u (suc k) (h .1) (few .1))
+
+-- the first line with more than 11 literals decides
+pub lines-refused : (xs : List Line) (j : ℕ) (st u : Said) (k : ℕ) → Reads st xs u → FirstOver (map literalsIn xs) j
+    → readLines (map lineText xs) st k ≡ Outcome.refused 20 (k + j)
+unfolding readLines
+lines-refused [] j st u k h f = absurd f
+lines-refused (x ∷ xs) zero st u k h f = rw (line-long st x (h .0) f, add-zero)
+lines-refused (x ∷ xs) (suc j) st u k h f =
+    rw (line-passes st x (h .0) (f .0), line-said st x (h .0))
+    (lines-refused xs j (after st x) u (suc k) (h .1) (f .1) ∙ ap (Outcome.refused 20) (omega arith))
 
 -- ---- a list of entries, each with its line
 module _ {A : Type 0} (line : A → Line) (state : List A → Said) where

@@ -11,7 +11,9 @@ use native.Mathlib.Nat.{mul-zero}
 use native.Mathlib.Omega.{arith}
 use lib.ListN.{length}
 use Rattle.text.proofs.Each.{Each, each-gives}
-use Rattle.grammar.specs.Line.{Line, isLine, lineNames, bringing, brings}
+use Rattle.grammar.specs.Line.{Line, isLine, lineNames}
+use Rattle.grammar.specs.declared.brings.Brings.{Brings}
+use Rattle.grammar.specs.Bringing.{brings}
 use Rattle.names.specs.Names.{atomOf, withNames}
 use Rattle.names.proofs.Adding.{with-names-known}
 use Rattle.store.specs.Prices.{priceOf}
@@ -63,14 +65,16 @@ pub price-alone : (p : ℕ) → priceOf p 0 ≡ p
 price-alone p = omega (arith, supplement-near p 0 .0, mul-zero p)
 
 module _ (st : Said) where
-  pub room-rows : (n m q d : ℕ) → length (st .names) ≤ 64 → length (st .clauses) + n ≤ 256
-      → length (st .constraints) + m ≤ 32 → length (st .queries) + q ≤ 16 → RoomFor st false (bringing n m q d)
-  room-rows n m q d h i j k = record {
+  -- of a line that brings no price
+  pub room-rows : (b : Brings) → b .price ≡ 0 → b .supplement ≡ 0 → length (st .names) ≤ 64
+      → length (st .clauses) + b .clauses ≤ 256 → length (st .constraints) + b .constraints ≤ 32
+      → length (st .queries) + b .queries ≤ 16 → RoomFor st false b
+  room-rows b p s h i j k = record {
     names-few = h;
     clauses-few = i;
     constraints-few = j;
     price-few = omega arith;
-    worked-out-few = rw (price-alone 0) (omega arith);
+    worked-out-few = rw (p, s, price-alone 0) (omega arith);
     supplement-few = omega arith;
     not-second = refl;
     queries-few = k;

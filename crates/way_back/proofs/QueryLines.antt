@@ -1,5 +1,5 @@
 -- The lines of queries are read as these queries. Assumes nothing.
-use mathlib.Core.Path.{_≡_, ap, _∙_}
+use mathlib.Core.Path.{_≡_, refl, ap, _∙_}
 use mathlib.Core.Bool.{true}
 use mathlib.Core.List.{List, [], _∷_, _++_, map}
 use Prim.Native.Nat.{ℕ, _+_, _≤_}
@@ -45,7 +45,7 @@ module _ (ns : List (List ℕ)) (name : ℕ → List ℕ) (h : NamedBy ns name) 
           fits = known-fits st (queryLine name f) (d .names) (query-is-line f (r .each .0 .0)) (r .each .0 .1)
               (omega (arith, decoded-depth d, r .each .0 .0 .not-deep))
               (rw (query-no-cost st (decoded name f))
-              (room-rows st 0 0 1 _ (h .few) (omega arith) (omega arith) (omega arith)));
+              (room-rows st _ refl refl (h .few) (omega arith) (omega arith) (omega arith)));
           says = known-says st (queryLine name f) (d .names) ∙ query-said st (decoded name f)
               ∙ ap (λ g. withQueries (done ++ (g ∷ []))) (d .back);
           on = left-on QueryWritten 16 done f rest r;

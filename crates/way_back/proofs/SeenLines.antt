@@ -1,5 +1,5 @@
 -- The lines of readings are read as these readings. Assumes nothing.
-use mathlib.Core.Path.{_≡_, sym, ap₂, subst, _∙_}
+use mathlib.Core.Path.{_≡_, refl, sym, ap₂, subst, _∙_}
 use mathlib.Core.Bool.{Bool, true, false, _||_}
 use mathlib.Core.List.{List, [], _∷_, _++_, map}
 use Prim.Native.Nat.{ℕ, _+_, _≤_}
@@ -10,6 +10,7 @@ use Rattle.words.proofs.Bits.{has-zero}
 use Rattle.words.proofs.Words.{has-word, word-lt}
 use Rattle.text.proofs.Each.{Each, each-gives}
 use Rattle.grammar.specs.Line.{Line, Literal, isLine, bodyNames}
+use Rattle.grammar.specs.Bringing.{nothing}
 use Rattle.grammar.proofs.LineLaws.{literal-sentence, literal-is-line}
 use Rattle.names.specs.Names.{atomOf}
 use Rattle.store.specs.Saying.{ClauseRow, ConstraintRow, Said, said, atomsBy, plainAtoms, negatedAtoms, orAtoms}
@@ -59,7 +60,7 @@ module _ (ns : List (List ℕ)) (few : length ns ≤ 64) (cs : List ClauseRow) (
       let st = withReadings done in
       record {
         fits = known-fits st (Line.seen x) u (seen-is-line x u) (r .0 .1) (omega arith)
-            (rw (seen-no-cost st x) (room-rows st 0 0 0 0 few (omega arith) (omega arith) (omega arith)));
+            (rw (seen-no-cost st x) (room-rows st nothing refl refl few (omega arith) (omega arith) (omega arith)));
         says = reading-says done x u;
         on = r .1;
       }

@@ -1,8 +1,9 @@
--- Reading the text of a case that writing does not refuse gives what the case says. Assumes nothing.
-use mathlib.Core.Path.{_≡_, ap, _∙_}
+-- Reading the text of a case that writing does not refuse gives what the case says, or is refused with 20 at the line of
+-- the first body with more than 11 literals. Assumes nothing.
+use mathlib.Core.Path.{_≡_, ap, subst, _∙_}
 use mathlib.Core.Bool.{true}
 use mathlib.Core.List.{List, [], _∷_, map}
-use Prim.Native.Nat.{ℕ, _*_, _≤_}
+use Prim.Native.Nat.{ℕ, suc, _+_, _*_, _≤_}
 use native.Mathlib.Omega.{arith}
 use lib.Dec.{leb}
 use lib.ListN.{length, take}
@@ -32,9 +33,12 @@ use Rattle.writing.proofs.Costs.{costs-formed, costs-fresh}
 use Rattle.way_back.proofs.Writable.{name-is, name-atom, prices-few, said-formed}
 use Rattle.way_back.proofs.UsedRows.{rows-taken, clause-words}
 use Rattle.writing.proofs.Unrefused.{Unrefused, unrefused}
-use Rattle.way_back.proofs.FittingLines.{Reads, lines-alone, lines-read}
+use Rattle.way_back.proofs.FittingLines.{Reads, lines-alone, lines-read, lines-refused}
 use Rattle.way_back.proofs.KnownNames.{NamedBy}
 use Rattle.way_back.proofs.WrittenLines.{Short, Writes, written-read}
+use Rattle.way_back.specs.Bodies.{bodySizes, AllFew, FirstLong}
+use Rattle.way_back.proofs.SaidBodies.{said-bodies}
+use Rattle.way_back.proofs.LiteralCounts.{counts-few, count-over}
 
 -- lines whose texts are short are short
 short-each : (xs : List Line) → Each (λ (l : List ℕ). length l ≤ 200) (map lineText xs) → Each Short xs
@@ -99,13 +103,30 @@ module _ (c : Case) (t : Lent) (u : Unrefused c t) where
       (λ k l. getD-take (3 * c .clauses) (t .clauses) (3 * k) 0 (omega arith)) (c .atoms)
       ∙ sound-causes c _ _ _ (writable-sound c t (u .can-write)))
 
-  file-read : readFile (caseText c t) ≡ Outcome.case st
+  file-lines : readFile (caseText c t) ≡ readLines (map lineText (linesOf name st)) nothingSaid 1
   unfolding readFile
-  file-read =
+  file-lines =
       ap (λ ls. readLines ls nothingSaid 1)
       (text-lines (caseLines c t) (lines-alone (linesOf name st) nothingSaid st reads))
-      ∙ lines-read (linesOf name st) nothingSaid st 1 reads ∙ ending-case st query-some causes-few
 
-pub text-read : (c : Case) (t : Lent) (n : ℕ) → writeRefusal c t n ≡ 0
-    → readFile (caseText c t) ≡ Outcome.case (saidOf c t)
-text-read c t n h = file-read c t (unrefused c t n h)
+  file-read : AllFew (bodySizes c t) → readFile (caseText c t) ≡ Outcome.case st
+  file-read few =
+      file-lines ∙ lines-read (linesOf name st) nothingSaid st 1 reads
+      (counts-few name st writes (subst AllFew (said-bodies c t) few))
+      ∙ ending-case st query-some causes-few
+
+  file-refused : (k : ℕ) → FirstLong (bodySizes c t) k → readFile (caseText c t) ≡ Outcome.refused 20 (suc (c .atoms + k))
+  file-refused k f =
+      let e : 1 + (length (st .names) + k) ≡ suc (c .atoms + k) = omega (arith, atoms-are) in
+      file-lines
+      ∙ lines-refused (linesOf name st) (length (st .names) + k) nothingSaid st 1 reads 
+      (count-over name st writes k (subst (λ l. FirstLong l k) (said-bodies c t) f))
+      ∙ ap (Outcome.refused 20) e
+
+module _ (c : Case) (t : Lent) (n : ℕ) (h : writeRefusal c t n ≡ 0) where
+  pub text-read : AllFew (bodySizes c t) → readFile (caseText c t) ≡ Outcome.case (saidOf c t)
+  text-read = file-read c t (unrefused c t n h)
+
+  pub text-refused : (k : ℕ) → FirstLong (bodySizes c t) k
+      → readFile (caseText c t) ≡ Outcome.refused 20 (suc (c .atoms + k))
+  text-refused = file-refused c t (unrefused c t n h)

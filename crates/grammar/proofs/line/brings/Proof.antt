@@ -4,29 +4,29 @@ use Rattle.grammar.proofs.LineLaws.{brought-as, brought-nothing}
 use Rattle.grammar.proofs.line.brings.Statement.{statement}
 use Rattle.grammar.proofs.line.brings.Tie as tie
 
-enum-told : tie.Need-enum-told
-enum-told c = search needs
-
-enum-told-2 : tie.Need-enum-told-2
-enum-told-2 c = search needs
-
 enum-known-x : tie.Need-enum-known-x
 enum-known-x c = search needs
 
 enum-known-x-2 : tie.Need-enum-known-x-2
 enum-known-x-2 c = search needs
 
+enum-known-x-3 : tie.Need-enum-known-x-3
+enum-known-x-3 c = search needs
+
+enum-known-x-4 : tie.Need-enum-known-x-4
+enum-known-x-4 c = search needs
+
 returns : tie.Need-returns
-returns c = brought-as _ (c .enum-told .given .1)
+returns c = brought-as _ (c .before .x .given .1)
 
 returns-2 : tie.Need-returns-2
-returns-2 c = brought-as _ (c .enum-told2 .given .1)
+returns-2 c = brought-as _ (c .before .x2 .given .1)
 
 returns-3 : tie.Need-returns-3
-returns-3 c = brought-as _ (c .before .x .given .1)
+returns-3 c = brought-as _ (c .before .x3 .given .1)
 
 returns-4 : tie.Need-returns-4
-returns-4 c = brought-as _ (c .before .x2 .given .1)
+returns-4 c = brought-as _ (c .before .x4 .given .1)
 
 returns-5 : tie.Need-returns-5
 returns-5 c = brought-nothing (c .before .args .x) (c .match .keys5)
@@ -35,10 +35,10 @@ pub brings-spec : {M : Type 1} → statement M
 brings-spec =
     tie.close
     (tie.spec
-    enum-told
-    enum-told-2
     enum-known-x
     enum-known-x-2
+    enum-known-x-3
+    enum-known-x-4
     returns
     returns-2
     returns-3

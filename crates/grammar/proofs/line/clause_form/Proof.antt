@@ -21,16 +21,20 @@ is-name-requires c κs = search (needs, word-filled, word-within)
 returns-2 : tie.Need-returns-2
 returns-2 c = search (needs, clause-word, failed)
 
-has-body-requires : tie.Need-has-body-requires
-has-body-requires c κs = search (needs, word-within)
+body-at-requires : tie.Need-body-at-requires
+body-at-requires c κs = search (needs, word-within)
+
+enum-known-n : tie.Need-enum-known-n
+enum-known-n c = search needs
+
+enum-told : tie.Need-enum-told
+enum-told c = search needs
 
 returns-3 : tie.Need-returns-3
-returns-3 c = search (needs, clause-unfit, failed, passed)
+returns-3 c = search (needs, clause-unfit, passed)
 
 returns-4 : tie.Need-returns-4
-returns-4 c =
-    let body = passed (c .before .has-body .ensures) (c .if2 .left) in
-    search (needs, clause-found, passed)
+returns-4 c = search (needs, clause-found, passed)
 
 pub clause-form-spec : {M : Type 1} → statement M
 clause-form-spec =
@@ -41,6 +45,8 @@ clause-form-spec =
     returns
     is-name-requires
     returns-2
-    has-body-requires
+    body-at-requires
+    enum-known-n
+    enum-told
     returns-3
     returns-4)

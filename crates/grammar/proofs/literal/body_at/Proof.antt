@@ -1,15 +1,16 @@
--- `literal::has_body` meets its contract. The invariant is `Counted`; the measure is what is left of the line.
+-- `literal::body_at` meets its contract. The invariant is `Counted`; the measure is what is left of the line.
 -- Assumes nothing.
 use borrow.Author.Needs.{needs}
+use Rattle.words.proofs.Tests.{failed, passed}
 use Prim.Native.Nat.{_-_}
 use lib.ListN.{length}
-use Rattle.grammar.proofs.Literals.{Counted, counted-none, counted-bad, counted-end, counted-few}
-use Rattle.grammar.proofs.Literals.{counted-less, counted-more}
-use Rattle.grammar.proofs.literal.has_body.Statement.{statement}
-use Rattle.grammar.proofs.literal.has_body.Tie as tie
+use Rattle.grammar.proofs.Literals.{Counted, counted-none, counted-bad, counted-unfit, counted-end}
+use Rattle.grammar.proofs.Literals.{counted-few, counted-less, counted-more}
+use Rattle.grammar.proofs.literal.body_at.Statement.{statement}
+use Rattle.grammar.proofs.literal.body_at.Tie as tie
 
 abbrev Inv-loop : tie.InvT-loop
-Inv-loop l at kind i₀ count₀ i count = Counted l at kind i count
+Inv-loop l at kind i₀ count₀ i count = Counted l at i count
 
 abbrev μ-loop : tie.MeasureT-loop
 μ-loop l at kind i₀ count₀ i count = length l - i
@@ -33,7 +34,10 @@ takes-requires : tie.Need-takes-requires Inv-loop μ-loop
 takes-requires c κs = search needs
 
 returns-2 : tie.Need-returns-2 Inv-loop μ-loop
-returns-2 c = search (needs, counted-end)
+returns-2 c = search (needs, counted-unfit, failed)
+
+returns-3 : tie.Need-returns-3 Inv-loop μ-loop
+returns-3 c = search (needs, counted-end, passed)
 
 enum-known-next : tie.Need-enum-known-next Inv-loop μ-loop
 enum-known-next c = search needs
@@ -47,8 +51,8 @@ loop-less c = search (needs, counted-less)
 loop-again : tie.Need-loop-again Inv-loop μ-loop
 loop-again c = search (needs, counted-more)
 
-pub has-body-spec : {M : Type 1} → statement M
-has-body-spec =
+pub body-at-spec : {M : Type 1} → statement M
+body-at-spec =
     tie.close
     (tie.spec
     Inv-loop
@@ -60,6 +64,7 @@ has-body-spec =
     enum-told-2
     takes-requires
     returns-2
+    returns-3
     enum-known-next
     add-count
     loop-less
