@@ -2,6 +2,7 @@
 //! is expected.
 
 use crate::answer::{answer, asked, Answer};
+use crate::bodies_tally;
 use crate::cheapest_tally;
 use crate::compare::{differing, shown, unmeant};
 use crate::costs_tally;
@@ -29,7 +30,7 @@ pub enum Test {
 }
 
 /// What a test gave: the evaluator's answer, what is counted of a generated file by its kinds of constraints, by its
-/// decided total and by its costs, and the complaint if it failed.
+/// decided total, by its costs and by its bodies, and the complaint if it failed.
 pub struct Outcome {
     pub own: Option<Answer>,
     pub met: Option<Vec<bool>>,
@@ -144,6 +145,7 @@ impl Bench {
                 decided_tally::met(&asked),
                 costs_tally::met(&made.bytes, &asked),
                 cheapest_tally::met(&asked),
+                bodies_tally::met(&made.bytes, &asked),
             ]
             .concat();
             (own, met)

@@ -6,19 +6,13 @@
 use crate::answer::{text, Asked};
 use crate::cheapest_tally::{cost_by, lowest};
 use crate::cost::price;
-use crate::file::{read_by, Numbered, Reading, Rules, CENTS, CHECKS, PER_CENT, RULES};
+use crate::file::{read_by, Numbered, Reading, Rules, CENTS, PER_CENT, RULES};
 use crate::form::{decimal, Form, DIGITS};
 use crate::question::ask_unheld;
 use crate::tree::tokens;
 
 /// A wrong reading: the words, and the rules by which it reads.
 type Misread = (&'static str, Rules);
-
-/// The places of 6, 8, 16 and 17 among the checks.
-const LONG: usize = 0;
-const NAMES: usize = 2;
-const DEAR: usize = 4;
-const AGAIN: usize = 5;
 
 /// The wrong readings: of the price, of the numbers, of the checks and of the lines' order.
 const MISREAD: [Misread; 30] = [
@@ -34,18 +28,18 @@ const MISREAD: [Misread; 30] = [
     ("other with at most six digits", numbered(|word| decimal(word).filter(|_| word.len() < DIGITS))),
     ("other with eight digits", numbered(eight_digits)),
     ("other without leading zeros", numbered(|word| decimal(word).filter(|n| n.to_string() == word))),
-    ("other with 16 behind 17", exchanged(DEAR, AGAIN)),
-    ("other with 16 before 8", exchanged(NAMES, DEAR)),
-    ("other with 16 before 6", exchanged(LONG, DEAR)),
-    ("other with 16 at 2,000,000", checked(DEAR, |_, said| is_over(said, CENTS - 1, PER_CENT))),
-    ("other with 16 from 2,000,002 on", checked(DEAR, |_, said| is_over(said, CENTS + 1, PER_CENT))),
-    ("other with 16 at 100 per cent", checked(DEAR, |_, said| is_over(said, CENTS, PER_CENT - 1))),
-    ("other with 16 from 102 per cent on", checked(DEAR, |_, said| is_over(said, CENTS, PER_CENT + 1))),
-    ("other with 16 before the supplement", checked(DEAR, |_, said| is_over_before(said, CENTS))),
-    ("other with 16 from 1,000,001 on", checked(DEAR, |_, said| is_over_before(said, CENTS / 2))),
-    ("other with 16 by the supplement rounded down", checked(DEAR, is_over_rounded_down)),
-    ("other with a second line behind a price of 0", checked(AGAIN, has_price)),
-    ("other with the last line of a name", checked(AGAIN, |_, _| false)),
+    ("other with 16 behind 17", Rules::in_order([6, 7, 20, 8, 9, 17, 16, 10])),
+    ("other with 16 before 8", Rules::in_order([6, 7, 20, 16, 8, 9, 17, 10])),
+    ("other with 16 before 6", Rules::in_order([16, 6, 7, 20, 8, 9, 17, 10])),
+    ("other with 16 at 2,000,000", Rules::checked(16, |_, said| is_over(said, CENTS - 1, PER_CENT))),
+    ("other with 16 from 2,000,002 on", Rules::checked(16, |_, said| is_over(said, CENTS + 1, PER_CENT))),
+    ("other with 16 at 100 per cent", Rules::checked(16, |_, said| is_over(said, CENTS, PER_CENT - 1))),
+    ("other with 16 from 102 per cent on", Rules::checked(16, |_, said| is_over(said, CENTS, PER_CENT + 1))),
+    ("other with 16 before the supplement", Rules::checked(16, |_, said| is_over_before(said, CENTS))),
+    ("other with 16 from 1,000,001 on", Rules::checked(16, |_, said| is_over_before(said, CENTS / 2))),
+    ("other with 16 by the supplement rounded down", Rules::checked(16, is_over_rounded_down)),
+    ("other with a second line behind a price of 0", Rules::checked(17, has_price)),
+    ("other with the last line of a name", Rules::checked(17, |_, _| false)),
     ("other with cost lines that name no atom", named(|said| !matches!(said, Form::Cost(..)))),
     ("other with cost lines before the others", ordered(|lines| lines_apart(lines, "cost", false))),
     ("other with cost lines behind the others", ordered(|lines| lines_apart(lines, "cost", true))),
@@ -72,21 +66,6 @@ const fn named(names_atoms: fn(&Form) -> bool) -> Rules {
 /// The rules with the lines in the order of `order`.
 const fn ordered(order: fn(Vec<Numbered>) -> Vec<Numbered>) -> Rules {
     Rules { order, ..RULES }
-}
-
-/// The rules with `fails` for the check at the place `at`.
-const fn checked(at: usize, fails: fn(&Reading, &Form) -> bool) -> Rules {
-    let mut checks = CHECKS;
-    checks[at] = (CHECKS[at].0, fails);
-    Rules { checks, ..RULES }
-}
-
-/// The rules with the checks at two places exchanged.
-const fn exchanged(one: usize, other: usize) -> Rules {
-    let mut checks = CHECKS;
-    checks[one] = CHECKS[other];
-    checks[other] = CHECKS[one];
-    Rules { checks, ..RULES }
 }
 
 /// The price with its supplement rounded to the nearest cent, half a cent to the even one.

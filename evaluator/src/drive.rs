@@ -13,12 +13,12 @@ pub struct Judged {
     pub complaint: Option<String>,
 }
 
-/// What a driver runs: how a stored file and the generated file of a seed are judged, the number of seeds, and the
-/// words of what is counted.
+/// What a driver runs: how a stored file and the generated file of a seed are judged, the seeds, and the words of what
+/// is counted.
 pub struct Drive {
     pub stored: fn(&Bench, &Path) -> Result<Judged, String>,
     pub generated: fn(&Bench, u64) -> Result<Judged, String>,
-    pub seeds: u64,
+    pub seeds: Vec<u64>,
     pub words: Vec<&'static str>,
 }
 
@@ -45,7 +45,7 @@ impl Drive {
             }
         }
         by_folder(&tests).iter().for_each(|line| println!("{line}"));
-        tests.extend((0..self.seeds).map(Test::Generated));
+        tests.extend(self.seeds.iter().copied().map(Test::Generated));
         let bench = Bench::new(program, limit);
         let mut tally = RowTally::new(self.words.clone());
         let mut passed = 0;
@@ -57,7 +57,7 @@ impl Drive {
             }
         }
         failures.extend(tally.missing().into_iter().map(|what| format!("never occurred: {what}")));
-        let lines = [vec![format!("generated: {} files", self.seeds)], tally.lines()].concat();
+        let lines = [vec![format!("generated: {} files", self.seeds.len())], tally.lines()].concat();
         concluded(passed, &failures, &lines)
     }
 }

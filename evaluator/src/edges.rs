@@ -16,7 +16,7 @@ use crate::sample::{Due, Sample};
 /// The files at one limit: within it, or one past it.
 pub type Edge = fn(&mut Random, usize) -> Sample;
 
-/// Every limit but those of cost lines, and the length of comments, which have none of their own.
+/// Every limit but those of cost lines and of bodies, and the length of comments, which have none of their own.
 pub const EDGES: [Edge; 10] = [
     atom_count,
     name_length,
@@ -33,6 +33,27 @@ pub const EDGES: [Edge; 10] = [
 /// The sample of `bytes` that is to be read, or with `past` = 1 to be refused with `number`.
 pub fn sample(bytes: Vec<u8>, past: usize, number: u32) -> Sample {
     Sample { bytes, due: if past == 0 { Due::Read } else { Due::Refused(number) } }
+}
+
+/// A file in which either of two causes explains, with the lines `more` among the others; with `past` = 1 the last of
+/// these is to be refused with `number`, unless another line before them is, and now and then one behind them would be
+/// too.
+pub fn among(random: &mut Random, more: Vec<String>, past: usize, number: u32) -> Sample {
+    let mut lines: Vec<String> = ["(if low shut)", "(if low stopped)", "(seen low)"].map(String::from).to_vec();
+    lines.extend(queries(random, &[String::from("shut"), String::from("stopped")], 2));
+    random.shuffle(&mut lines);
+    let at = random.between(0, lines.len());
+    lines.splice(at..at, more);
+    let (other, line) = *random.pick(&[(5, "(query shut"), (6, "(true a-name-of-17-byte)")]);
+    match random.below(4) {
+        0 if past == 1 => lines.push(String::from(line)),
+        1 if past == 1 => {
+            lines.insert(random.between(0, at), String::from(line));
+            return sample(file(random, &lines), past, other);
+        }
+        _ => (),
+    }
+    sample(file(random, &lines), past, number)
 }
 
 /// Queries of `name`: at most 15, so that a further one is lawful, or with `past` = 1 at most 16.

@@ -1,13 +1,14 @@
-//! Reading a case file: each line that is no comment is taken through the checks, 3 to 9, 16, 17 and 10, one after the
-//! other over the whole line.
+//! Reading a case file: each line that is no comment is taken through the checks, 3 to 7, 20, 8, 9, 16, 17 and 10, one
+//! after the other over the whole line.
 //!
-//! From: document 01, The file; What each operation refuses (Reading); document 02, [1], [2], [5], [7], [8].
+//! From: document 01, The file; What each operation refuses (Reading); document 02, [1], [2], [5], [7], [8], [9].
 //!
 //! | name | meaning |
 //! |---|---|
 //! | `Reading` | what the lines read so far say |
 //! | `Check`, `CHECKS` | a check from 6 on; all of them in their order |
 //! | `Rules`, `RULES` | how a file is read; as the documents say |
+//! | `Rules::checked`, `Rules::in_order` | the rules of the documents with another check; with the checks in another order |
 //! | `read`, `read_by` | the case of a file; the same by other rules |
 
 use crate::case::{causes, Body, Case, Clause};
@@ -21,6 +22,7 @@ pub const FILE_BYTES: usize = 32_768;
 pub const LINE_BYTES: usize = 200;
 pub const NAME_BYTES: usize = 16;
 pub const DEPTH: usize = 16;
+pub const LITERALS: usize = 11;
 pub const ATOMS: usize = 64;
 pub const CLAUSES: usize = 256;
 pub const CONSTRAINTS: usize = 32;
@@ -51,9 +53,10 @@ pub struct Reading {
 pub type Check = (u32, fn(&Reading, &Form) -> bool);
 
 /// The checks from 6 on, in their order.
-pub const CHECKS: [Check; 7] = [
+pub const CHECKS: [Check; 8] = [
     (6, |_, said| said.names().iter().any(|n| n.len() > NAME_BYTES)),
     (7, |_, said| said.depth() > DEPTH),
+    (20, |_, said| said.body().len() > LITERALS),
     (8, |reading, _| reading.names.len() > ATOMS),
     (9, |reading, said| reading.is_full_for(said)),
     (16, |_, said| matches!(said, Form::Cost(_, cents, per_cent) if is_dear(*cents, *per_cent))),
@@ -74,13 +77,42 @@ pub type Numbered<'a> = (usize, &'a [u8]);
 pub struct Rules {
     pub order: fn(Vec<Numbered>) -> Vec<Numbered>,
     pub number: Number,
-    pub checks: [Check; 7],
+    pub checks: [Check; 8],
     pub names_atoms: fn(&Form) -> bool,
     pub price: fn(u64, u64) -> u64,
 }
 
 /// The rules of the documents.
 pub const RULES: Rules = Rules { order: |lines| lines, number: decimal, checks: CHECKS, names_atoms: |_| true, price };
+
+/// The place of the check `number` among the checks.
+const fn place(number: u32) -> usize {
+    let mut at = 0;
+    while CHECKS[at].0 != number {
+        at += 1;
+    }
+    at
+}
+
+impl Rules {
+    /// The rules of the documents with `fails` for the check `number`.
+    pub const fn checked(number: u32, fails: fn(&Reading, &Form) -> bool) -> Rules {
+        let mut checks = CHECKS;
+        checks[place(number)] = (number, fails);
+        Rules { checks, ..RULES }
+    }
+
+    /// The rules of the documents with the checks in the order `numbers`.
+    pub const fn in_order(numbers: [u32; 8]) -> Rules {
+        let mut checks = CHECKS;
+        let mut at = 0;
+        while at < CHECKS.len() {
+            checks[at] = CHECKS[place(numbers[at])];
+            at += 1;
+        }
+        Rules { checks, ..RULES }
+    }
+}
 
 /// The case that `bytes` describes, or the refusal.
 pub fn read(bytes: &[u8]) -> Result<Case, Refusal> {
@@ -167,6 +199,20 @@ impl Reading {
     /// The prices that the cost lines of `name` give.
     pub fn prices_of(&self, name: &str) -> Vec<u32> {
         self.costs.iter().filter(|(atom, _)| Some(*atom) == self.named(name)).map(|(_, price)| *price).collect()
+    }
+
+    /// How many literals the bodies read so far have.
+    pub fn literals(&self) -> usize {
+        let rules = self.clauses.iter().map(|clause| match &clause.body {
+            Body::All(body) => body.len(),
+            Body::True | Body::False => 0,
+        });
+        rules.chain(self.constraints.iter().map(|c| c.body.len())).sum()
+    }
+
+    /// How many observations are read so far.
+    pub fn readings(&self) -> usize {
+        self.observations.len()
     }
 
     /// The literals of `body` with atoms as numbers.

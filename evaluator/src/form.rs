@@ -1,6 +1,6 @@
 //! The form that a tree of words is.
 //!
-//! From: document 01, The file; document 02, [5], [7], [8].
+//! From: document 01, The file; document 02, [5], [7], [8], [9].
 
 use crate::constraint::Kind;
 use crate::formula::{Connective, Formula, Literal};
@@ -116,6 +116,14 @@ impl Form {
             Form::Constraint(_, body) => body.iter().map(|l| &l.atom).collect(),
             Form::Seen(l) => vec![&l.atom],
             Form::Query(f) => f.atoms(),
+        }
+    }
+
+    /// The literals of this form's body as they are written, none if it has no body.
+    pub fn body(&self) -> &[Literal<String>] {
+        match self {
+            Form::Rule(_, body) | Form::Constraint(_, body) => body,
+            _ => &[],
         }
     }
 

@@ -12,10 +12,10 @@
 //! | held, writing | the record and the tables of a case; its text |
 //! | plain, vectors | the plain form, the vectors of operations |
 //! | random, names, prices, layout, families | drawn lawful files |
-//! | shapes, text_edges | drawn files with chains and rings; files whose text stands at a limit |
-//! | edges, cost_edges, lists, damage, sample | files at the limits, damaged files, the file of a seed |
+//! | shapes, text_edges, long_bodies | drawn files with chains and rings; files whose text stands at a limit; long bodies |
+//! | edges, cost_edges, body_edges, lists, damage, sample | files at the limits, damaged files, the file of a seed |
 //! | run, compare, tally, row_tally, bench, check | the driver |
-//! | kinds_tally, decided_tally, costs_tally, cheapest_tally | how many files tell wrong readings apart |
+//! | kinds_tally, decided_tally, costs_tally, cheapest_tally, bodies_tally | how many files tell wrong readings apart |
 //! | drive | what the drivers of `layers` and `tidy` share |
 //! | layers_tally, layers_check | the driver of the program `layers` |
 //! | tidy_tally, tidy_check | the driver of the program `tidy` |
@@ -24,6 +24,8 @@
 
 pub mod answer;
 pub mod bench;
+pub mod bodies_tally;
+pub mod body_edges;
 pub mod case;
 pub mod cheapest_tally;
 pub mod check;
@@ -49,6 +51,7 @@ pub mod layers_check;
 pub mod layers_tally;
 pub mod layout;
 pub mod lists;
+pub mod long_bodies;
 pub mod lookup;
 pub mod lookup_check;
 pub mod lookup_pairs;

@@ -1,14 +1,18 @@
 //! The generated files, by seed.
 
+use crate::body_edges::BODY_EDGES;
 use crate::cost_edges::COST_EDGES;
 use crate::damage::damaged;
 use crate::edges::EDGES;
 use crate::families::{chain, diagnosis, program, wide};
+use crate::file::LITERALS;
 use crate::layout::file;
 use crate::lists::{list_edge, KINDS};
+use crate::long_bodies::lengthened;
 use crate::random::Random;
 use crate::shapes::{shaped, Shaped};
 use crate::text_edges::{line_edge, text_edge, Edged};
+use std::ops::Range;
 
 /// The number of generated files; their seeds are the numbers below it.
 pub const SAMPLES: u64 = 6_000;
@@ -18,6 +22,9 @@ pub const SHAPES: u64 = 4_000;
 
 /// The number of generated files whose text stands at a limit; their seeds are the numbers from `SAMPLES` + `SHAPES` on.
 pub const TEXTS: u64 = 400;
+
+/// The number of generated files with long bodies; their seeds are the numbers from `SAMPLES` + `SHAPES` + `TEXTS` on.
+pub const BODIES: u64 = 1_200;
 
 /// What the generator knows of a file's answer.
 #[derive(Clone, Copy)]
@@ -41,7 +48,13 @@ pub fn shape(seed: u64) -> Option<Shaped> {
 /// The file whose text stands at a limit of `seed`, if it is the seed of one.
 pub fn edged(seed: u64) -> Option<Edged> {
     let edge = [line_edge, text_edge][seed as usize % 2];
-    (seed >= SAMPLES + SHAPES).then(|| edge(&mut Random::new(seed)))
+    (SAMPLES + SHAPES..bodies().start).contains(&seed).then(|| edge(&mut Random::new(seed)))
+}
+
+/// The seeds of the files with long bodies.
+pub fn bodies() -> Range<u64> {
+    let start = SAMPLES + SHAPES + TEXTS;
+    start..start + BODIES
 }
 
 /// The file of `seed`: below `SAMPLES` one of 20 stands at a limit, one of 100 at one of cost lines, half are damaged,
@@ -54,6 +67,9 @@ pub fn sample(seed: u64) -> Sample {
         return Sample { bytes: edged.bytes, due: Due::Read };
     }
     let mut random = Random::new(seed);
+    if bodies().contains(&seed) {
+        return long_bodies(&mut random, (seed - bodies().start) as usize);
+    }
     match seed % 100 {
         n if n % 20 == 0 => edge(&mut random, seed as usize / 20),
         50 => cost_edge(&mut random, seed as usize / 100),
@@ -90,9 +106,32 @@ fn cost_edge(random: &mut Random, at: usize) -> Sample {
     COST_EDGES[at % COST_EDGES.len()](random, at / COST_EDGES.len() % 2)
 }
 
+/// The file number `at` of those with long bodies: half stand at the limit, the kinds in turn, each from both sides in
+/// turn; the others are of the families, half of them damaged.
+fn long_bodies(random: &mut Random, at: usize) -> Sample {
+    if at % 2 == 0 {
+        return BODY_EDGES[at / 2 % BODY_EDGES.len()](random, at / 2 / BODY_EDGES.len() % 2);
+    }
+    let past = 2 * (at / 2 % 2);
+    let causes = random.between(0, 4);
+    let lines = family(random, causes);
+    let lines = lengthened(random, lines, LITERALS + past);
+    let bytes = file(random, &lines);
+    if past == 0 {
+        return Sample { bytes, due: Due::Read };
+    }
+    Sample { bytes: damaged(random, bytes), due: Due::Unknown }
+}
+
 /// A lawful file with at most `causes` causes, or one if that is 0 and the family needs one.
 fn whole(random: &mut Random, causes: usize) -> Vec<u8> {
-    let lines = match random.below(20) {
+    let lines = family(random, causes);
+    file(random, &lines)
+}
+
+/// The lines of such a file, of a drawn family.
+fn family(random: &mut Random, causes: usize) -> Vec<String> {
+    match random.below(20) {
         0 => wide(random, causes),
         1 | 2 => {
             let links = random.between(1, if causes > 6 { 12 } else { 53 });
@@ -106,6 +145,5 @@ fn whole(random: &mut Random, causes: usize) -> Vec<u8> {
             let defined = *random.pick(&[1, 1, 2, 3, 3, 4, 5, 6, 8, 12, 20]);
             program(random, causes, defined, n % 2 == 0)
         }
-    };
-    file(random, &lines)
+    }
 }

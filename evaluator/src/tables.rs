@@ -1,26 +1,28 @@
 //! The tables that the manual shows: the settings of a case, the answers under a cap on rounds, the limits.
 
 use crate::answer::{answer, LIST_SLOTS};
+use crate::body_edges::BODY_EDGES;
 use crate::case::Case;
-use crate::edges::EDGES;
+use crate::edges::{Edge, EDGES};
 use crate::file::{
-    ATOMS, CAUSES, CENTS, CLAUSES, CONSTRAINTS, DEPTH, FILE_BYTES, LINE_BYTES, NAME_BYTES, PER_CENT, QUERIES,
+    ATOMS, CAUSES, CENTS, CLAUSES, CONSTRAINTS, DEPTH, FILE_BYTES, LINE_BYTES, LITERALS, NAME_BYTES, PER_CENT, QUERIES,
 };
 use crate::form::DIGITS;
 use crate::formula::{Value, FALSE, TRUE};
 use crate::question::{ask, ask_capped, digits, Engine, Findings};
 use crate::random::Random;
 
-/// The limits in the manual's order: the words, the number, and the place among `EDGES`.
-const LIMITS: [(&str, usize, usize); 8] = [
-    ("names in a file", ATOMS, 0),
-    ("bytes of a name", NAME_BYTES, 1),
-    ("clauses, that is `true`, `false` and `if` lines", CLAUSES, 5),
-    ("constraints, that is `never` and `avoid` lines", CONSTRAINTS, 6),
-    ("bytes of a line that is no comment, without its LF", LINE_BYTES, 4),
-    ("bytes of a file", FILE_BYTES, 7),
-    ("depth of a query's formula", DEPTH, 3),
-    ("causes", CAUSES, 2),
+/// The limits in the manual's order: the words, the number, and the files at it.
+const LIMITS: [(&str, usize, Edge); 9] = [
+    ("names in a file", ATOMS, EDGES[0]),
+    ("bytes of a name", NAME_BYTES, EDGES[1]),
+    ("clauses, that is `true`, `false` and `if` lines", CLAUSES, EDGES[5]),
+    ("constraints, that is `never` and `avoid` lines", CONSTRAINTS, EDGES[6]),
+    ("literals of an `if`, `never` or `avoid` line, as written", LITERALS, BODY_EDGES[0]),
+    ("bytes of a line that is no comment, without its LF", LINE_BYTES, EDGES[4]),
+    ("bytes of a file", FILE_BYTES, EDGES[7]),
+    ("depth of a query's formula", DEPTH, EDGES[3]),
+    ("causes", CAUSES, EDGES[2]),
 ];
 
 /// The limits of cost lines in the manual's order: the words, the number, and a line one past it, behind a first one.
@@ -104,8 +106,8 @@ fn refusal(file: &[u8]) -> u32 {
 
 /// A row for each limit: what, at most how many, and the refusal that a file one past it gets.
 pub fn limits() -> Vec<String> {
-    let row = |(what, most, at): &(&str, usize, usize)| {
-        let past = EDGES[*at](&mut Random::new(0), 1);
+    let row = |(what, most, edge): &(&str, usize, Edge)| {
+        let past = edge(&mut Random::new(0), 1);
         format!("| {what} | {} | {} |", grouped(*most), refusal(&past.bytes))
     };
     let queries = [refusal(&b"(query a)\n".repeat(QUERIES + 1)), refusal(b"")];

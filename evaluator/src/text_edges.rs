@@ -1,9 +1,9 @@
 //! Files whose written text stands at its limits: a line of about 200 bytes, or a text of about 32,768.
 //!
-//! From: document 02, [8].
+//! From: document 02, [8], [9].
 
 use crate::families::literal;
-use crate::file::{FILE_BYTES, LINE_BYTES, NAME_BYTES};
+use crate::file::{FILE_BYTES, LINE_BYTES, LITERALS, NAME_BYTES};
 use crate::layout::joined;
 use crate::names::drawn_name;
 use crate::random::Random;
@@ -16,9 +16,6 @@ pub struct Edged {
 
 /// The most bytes that a line or a text is off its limit.
 const OFF: usize = 3;
-
-/// The most literals of a body.
-const LITERALS: usize = 11;
 
 /// A length within `OFF` of `limit`, and whether it is past it.
 fn around(random: &mut Random, limit: usize) -> (usize, bool) {

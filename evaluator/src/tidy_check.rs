@@ -5,7 +5,7 @@ use crate::compare::differing;
 use crate::drive::{Drive, Judged};
 use crate::plain::Operation;
 use crate::run::Input;
-use crate::sample::{edged, sample, SAMPLES, SHAPES, TEXTS};
+use crate::sample::{bodies, edged, sample};
 use crate::tidy_tally::{met, words, Tidied};
 use crate::vectors::Vector;
 use crate::writing::{tidied, tidy_text};
@@ -44,7 +44,7 @@ fn stored(bench: &Bench, path: &Path) -> Result<Judged, String> {
     Ok(Judged { met: Some(met), complaint })
 }
 
-/// Runs the generated file of `seed`; of those past the shapes the generator knows whether the text passes a limit.
+/// Runs the generated file of `seed`; of those whose text stands at a limit the generator knows whether it passes it.
 fn generated(bench: &Bench, seed: u64) -> Result<Judged, String> {
     let bytes = sample(seed).bytes;
     let (own, met) = judged(&bytes)?;
@@ -58,6 +58,6 @@ fn generated(bench: &Bench, seed: u64) -> Result<Judged, String> {
 /// Runs `program` on all case files under `folders` and on the generated files, each for at most `limit`; answers
 /// whether all passed.
 pub fn check(program: &Path, folders: &[&Path], limit: Duration) -> bool {
-    let drive = Drive { stored, generated, seeds: SAMPLES + SHAPES + TEXTS, words: words().collect() };
+    let drive = Drive { stored, generated, seeds: (0..bodies().end).collect(), words: words().collect() };
     drive.check(program, folders, limit)
 }

@@ -1,10 +1,10 @@
 //! How many files were written or refused, at which limits their texts stood, and how many would be written otherwise
 //! under a wrong reading of the rules.
 //!
-//! From: document 02, [8].
+//! From: document 02, [8], [9].
 
 use crate::case::{Body, Case};
-use crate::file::{Refusal, FILE_BYTES, LINE_BYTES};
+use crate::file::{Refusal, FILE_BYTES, LINE_BYTES, LITERALS};
 use crate::formula::Literal;
 use crate::writing::{joined, lines, Sections, Way, WAY};
 
@@ -18,14 +18,16 @@ type Row = (&'static str, fn(&[u8], &Tidied) -> bool);
 type Miswritten = (&'static str, Way);
 
 /// What is counted of a file; each must occur.
-const ROWS: [Row; 7] = [
+const ROWS: [Row; 9] = [
     ("written", |_, own| own.is_ok()),
     ("written with more bytes", |file, own| own.as_ref().is_ok_and(|(_, text)| text.len() > file.len())),
     ("refused by reading", |_, own| own.as_ref().is_err_and(|refusal| refusal.number != 18)),
+    ("refused with 20", |_, own| own.as_ref().is_err_and(|refusal| refusal.number == 20)),
     ("refused with 18", |_, own| own.as_ref().is_err_and(|refusal| refusal.number == 18)),
     ("a line of 200 bytes", |_, own| own.as_ref().is_ok_and(|(_, text)| text.lines().any(|l| l.len() == LINE_BYTES))),
     ("a text of 32,768 bytes", |_, own| own.as_ref().is_ok_and(|(_, text)| text.len() == FILE_BYTES)),
     ("an atom plain and negated in a body", |_, own| own.as_ref().is_ok_and(|(case, _)| has_both(case))),
+    ("a body of 11 literals", |_, own| own.as_ref().is_ok_and(|(case, _)| has_longest(case))),
 ];
 
 /// The wrong ways: of literals, of observations, of prices, of the order of lines, of spaces.
@@ -48,13 +50,22 @@ const MISWRITTEN: [Miswritten; 16] = [
     ("other with a space behind an inner bracket", Way { spaces: spaced_behind, ..WAY }),
 ];
 
+/// Whether `holds` holds of some body of `case`.
+fn some_body(case: &Case, holds: impl Fn(&[Literal<usize>]) -> bool) -> bool {
+    case.clauses.iter().any(|c| matches!(&c.body, Body::All(body) if holds(body)))
+        || case.constraints.iter().any(|c| holds(&c.body))
+}
+
 /// Whether some body of `case` has an atom and its negation.
 fn has_both(case: &Case) -> bool {
-    let both = |body: &[Literal<usize>]| {
+    some_body(case, |body| {
         body.iter().any(|l| body.iter().any(|other| l.atom == other.atom && l.negated != other.negated))
-    };
-    case.clauses.iter().any(|c| matches!(&c.body, Body::All(body) if both(body)))
-        || case.constraints.iter().any(|c| both(&c.body))
+    })
+}
+
+/// Whether some body of `case` has as many different literals as a line may have.
+fn has_longest(case: &Case) -> bool {
+    some_body(case, |body| (WAY.body)(body).len() == LITERALS)
 }
 
 /// The different ones among `literals`, negated ones before plain ones, each in atom order.

@@ -1,6 +1,6 @@
 //! Writing a case back: the text of a record and tables, and what is refused.
 //!
-//! From: document 02, [8].
+//! From: document 02, [8], [9].
 //!
 //! | name | meaning |
 //! |---|---|
@@ -10,7 +10,7 @@
 //! | `tidied` | what the program `tidy` should write for a file |
 
 use crate::case::{Body, Case, Clause};
-use crate::file::{read, Refusal, CENTS, FILE_BYTES, LINE_BYTES, NAME_BYTES};
+use crate::file::{read, read_by, Refusal, Rules, CENTS, FILE_BYTES, LINE_BYTES, LITERALS, NAME_BYTES};
 use crate::formula::{Connective, Formula, Literal};
 use crate::held::Held;
 use std::collections::BTreeSet;
@@ -128,12 +128,28 @@ fn writable(held: &Held) -> Option<Case> {
     is_lawful.then_some(Case { names, ..case })
 }
 
-/// Holds `text`, that of `held`, to the way back: read, it gives the same record and tables in their used entries;
-/// written again, it is the same. Each of its spaces stands between two words.
+/// The refusal that the text of `case` gets when it is read: 20 in the line of the first body with a 12th literal, none
+/// if there is no such body.
+fn long_body(case: &Case) -> Option<Refusal> {
+    let count = |literals: &[Literal<usize>]| plain_first(literals).len();
+    let clauses = case.clauses.iter().map(|clause| match &clause.body {
+        Body::True | Body::False => 0,
+        Body::All(body) => count(body),
+    });
+    let mut bodies = clauses.chain(case.constraints.iter().map(|c| count(&c.body)));
+    bodies.position(|n| n > LITERALS).map(|at| Refusal { number: 20, line: case.names.len() + at + 1 })
+}
+
+/// Holds `text`, that of `held`, which holds `case`, to the way back: read, it gives the same record and tables in their
+/// used entries; written again, it is the same. With a body that has a 12th literal it does so where bodies have no
+/// limit, and reading refuses it. Each of its spaces stands between two words.
 ///
 /// Panics if it does not.
-fn hold(held: &Held, text: &str) {
-    let Ok(again) = read(text.as_bytes()) else { panic!("a written text is refused") };
+fn hold(held: &Held, case: &Case, text: &str) {
+    let refusal = read(text.as_bytes()).err();
+    assert!(refusal == long_body(case), "a written text is refused, or one with a long body is not");
+    let again = read_by(&Rules::checked(20, |_, _| false), text.as_bytes());
+    let again = again.unwrap_or_else(|_| panic!("a written text is refused where bodies have no limit"));
     assert!(Held::of(&again) == held.used(), "a written text is read as another case");
     assert!(joined(&lines(&WAY, &again)) == text, "a text that was read is written otherwise");
     let is_parting = |w: &[u8]| w[1] != b' ' || !w.iter().any(|b| b"()\n".contains(b)) && w[0] != b' ' && w[2] != b' ';
@@ -153,7 +169,7 @@ pub fn written(held: &Held, room: usize) -> Result<String, u32> {
     if lines.iter().any(|line| line.len() > LINE_BYTES) || text.len() > FILE_BYTES {
         return Err(18);
     }
-    hold(held, &text);
+    hold(held, &case, &text);
     if text.len() > room {
         return Err(19);
     }

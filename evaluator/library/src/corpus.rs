@@ -100,6 +100,7 @@ pub fn refused_files() -> Vec<(u32, u64, Vec<u8>)> {
     let query = String::from("(query low)\n");
     let long_comment = String::from(";") + &"x".repeat(200) + "\n";
     let deep = |n: usize| format!("(query {}low{})\n", "(not ".repeat(n - 1), ")".repeat(n - 1));
+    let body = |front: &str, literal: &str, count: usize| format!("({front}{})\n", format!(" {literal}").repeat(count));
     let rows: Vec<(u32, u64, String)> = vec![
         (2, 0, query.clone() + &lines(3_275, ";23456789") + ";234567"),
         (2, 0, query.clone() + ";" + &"x".repeat(32_756)),
@@ -116,18 +117,22 @@ pub fn refused_files() -> Vec<(u32, u64, Vec<u8>)> {
         (5, 2, query.clone() + "(atom)\n"),
         (5, 3, query.clone() + "(atom low)\n(atom (not low))\n"),
         (5, 1, String::from("(atom low shut)\n") + &query),
+        (5, 2, query.clone() + &body("if low", "low", 12).replace(")", " (not))")),
         (6, 2, query.clone() + "(true a1234567890123456)\n"),
         (6, 2, query.clone() + "(cost a1234567890123456 2000001 0)\n"),
         (6, 2, query.clone() + "(atom a1234567890123456)\n"),
+        (6, 2, query.clone() + &body("if a1234567890123456", "low", 12)),
         (7, 2, String::from("(true low)\n") + &deep(17)),
         (8, 65, lines(65, "(true n#)") + "(query n0)\n"),
         (8, 65, lines(65, "(cost n# 1000000 100)") + "(query n0)\n"),
         (8, 65, lines(65, "(atom n#)") + "(query n0)\n"),
+        (8, 65, lines(64, "(atom n#)") + &body("if new", "n0", 11)),
         (9, 257, lines(300, "(true low)") + &query),
         (9, 34, query.clone() + &lines(40, "(never low)")),
         (9, 34, query.clone() + &lines(40, "(avoid low)")),
         (9, 34, query.clone() + &lines(20, "(never low)\n(avoid low)")),
         (9, 34, query.clone() + &lines(16, "(never low)") + &lines(17, "(avoid low)")),
+        (9, 34, query.clone() + &lines(32, "(never low)") + &body("avoid", "low", 11)),
         (10, 17, query.repeat(17)),
         (10, 20, query.repeat(16) + ";\n\n(true low)\n" + &query + "(\n"),
         (11, 0, String::new()),
@@ -145,6 +150,15 @@ pub fn refused_files() -> Vec<(u32, u64, Vec<u8>)> {
         (16, 3, query.clone() + "(cost low 0 0)\n(cost low 9999999 9999999)\n"),
         (17, 3, query.clone() + "(cost low 0 0)\n(cost low 1 0)\n"),
         (17, 5, query.clone() + "(cost low 7 7)\n(cost high 7 7)\n;\n(cost low 7 7)\n(\n"),
+        (20, 2, query.clone() + &body("if low", "low", 12)),
+        (20, 1, body("never", "(not low)", 12) + &query),
+        (20, 3, query.clone() + &body("avoid", "low", 11) + &body("avoid", "low", 13) + "(\n"),
+        (20, 4, long_comment.clone() + "\n" + &query + &body("if low", "high (not high)", 6)),
+        (20, 2, query.clone() + "(never a b c d e f g h i j k l)\n"),
+        (20, 65, lines(64, "(atom n#)") + &body("if new", "n0", 12)),
+        (20, 65, lines(64, "(atom n#)") + "(avoid" + &" n0".repeat(11) + " new)\n"),
+        (20, 257, lines(256, "(true low)") + &body("if low", "low", 12) + &query),
+        (20, 34, query.clone() + &lines(32, "(never low)") + &body("avoid", "low", 12)),
     ];
     rows.into_iter().map(|(number, line, text)| (number, line, text.into_bytes())).collect()
 }

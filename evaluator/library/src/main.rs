@@ -12,6 +12,7 @@
 //! | marked, chains, pricing | M1 to M10 with their tables, chains of atoms, and prices, worked out by hand |
 //! | vectors | operations that stand in files with their answers |
 //! | breaches, unsound, limits | each phrase of soundness broken alone, and each limit met |
+//! | bodies, long_bodies | lines around the limit of a body's literals, and records with longer bodies |
 //! | fences | calls with the fence in front |
 //! | reports, threads | the report, calls from several threads |
 //! | wrappers, owned | the safe calls of the Rust module, and its case |
@@ -19,6 +20,7 @@
 //! | constants, meanings, refusals | constants, what refusals mean by the manual, the module's refusals and verdicts |
 
 mod asking;
+mod bodies;
 mod breaches;
 mod calls;
 mod case_sizes;
@@ -33,6 +35,7 @@ mod held;
 mod layering;
 mod lent;
 mod limits;
+mod long_bodies;
 mod marked;
 mod meanings;
 mod outside;
@@ -80,6 +83,8 @@ fn main() -> ExitCode {
     writing::run(&mut tests, &folder);
     write_sizes::run(&mut tests);
     write_rows::run(&mut tests);
+    bodies::run(&mut tests);
+    long_bodies::run(&mut tests);
     unsound::run(&mut tests);
     limits::run(&mut tests);
     reports::run(&mut tests, &folder);

@@ -6,6 +6,7 @@ use crate::corpus::{folders, generated, refused_files, Input, EACH, M4};
 use crate::due;
 use crate::held::{Held, ATOMS, FORMULAS, NODES, PART_BYTES, QUERIES};
 use crate::tests::Tests;
+use evaluator::sample::bodies;
 use std::path::Path;
 
 /// The seeds of the generated files that are read.
@@ -37,6 +38,7 @@ fn corpus(tests: &mut Tests, folder: &Path) {
     files(tests, "read: generated files at limits", &generated(SEEDS, |s| s % 20 == 0));
     files(tests, "read: generated files, damaged", &generated(SEEDS, |s| s % 2 == 1));
     files(tests, "read: generated files, whole", &generated(SEEDS, |s| s % 2 == 0 && s % 20 != 0));
+    files(tests, "read: generated files with long bodies", &generated(bodies().end, |s| bodies().contains(&s)));
 }
 
 /// Files cut after each byte, and files with each byte replaced by each other one.
@@ -183,7 +185,7 @@ fn comments(tests: &mut Tests) {
 
 /// For each refusal from 2 on the files that get it, with the line worked out by hand.
 fn refusals(tests: &mut Tests) {
-    for number in (2..=12).chain([16, 17]) {
+    for number in (2..=12).chain([16, 17, 20]) {
         tests.family(&format!("read: refusal {number}"));
         for (_, line, file) in refused_files().into_iter().filter(|(n, _, _)| *n == number) {
             let due = due::refused(number, line);

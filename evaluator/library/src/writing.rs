@@ -10,7 +10,7 @@ use causes::lent::{self, Record, Tables};
 use causes::Refusal;
 use evaluator::file::{self, FILE_BYTES};
 use evaluator::random::Random;
-use evaluator::sample::{SAMPLES, SHAPES, TEXTS};
+use evaluator::sample::{bodies, SAMPLES, SHAPES, TEXTS};
 use std::path::Path;
 
 /// The seeds of the generated files that are written, of those with chains and rings too.
@@ -160,6 +160,9 @@ pub fn run(tests: &mut Tests, folder: &Path) {
     let inputs = generated(shapes + TEXTS, |seed| seed >= shapes);
     files(tests, "write: generated files with texts at the limits", &inputs);
     ways_back(tests, "write: the way back, texts at the limits", &inputs);
+    let inputs = generated(bodies().end, |seed| bodies().contains(&seed));
+    files(tests, "write: generated files with long bodies", &inputs);
+    ways_back(tests, "write: the way back, long bodies", &inputs);
     drawn_cases(tests);
     by_hand(tests);
     tests.family("write: files at limits, as the evaluator writes them");
