@@ -26,6 +26,7 @@ pub fn mend(refusal: Refusal) -> &'static str {
             "Write the price in cents, 2000000 at most with its supplement, and the supplement in per cent, 100 at most."
         }
         Refusal::SecondCost { .. } => "Leave one cost line for each name.",
+        Refusal::ManyLiterals { .. } => "Name a part of the body by a rule, and write that name in its place.",
         _ => "See the manual's section on refusals.",
     }
 }

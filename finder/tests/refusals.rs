@@ -65,7 +65,7 @@ fn seen(b: u8) -> String {
 
 #[test]
 fn each_refusal_is_told_with_its_line_its_meaning_and_its_mend() {
-    let mut met = [false; 18];
+    let mut met = [false; 21];
     let long = (String::from("long.case"), [b"(query a)\n".as_slice(), &b";\n".repeat(17_000)].concat());
     let files = stored().into_iter().map(|name| (name.clone(), bytes(&name))).chain([long]);
     for (name, file) in files {
@@ -78,8 +78,8 @@ fn each_refusal_is_told_with_its_line_its_meaning_and_its_mend() {
         assert_eq!(run.status, 1, "{name}");
         met[due.number as usize] = true;
     }
-    let numbers: Vec<usize> = (0..18).filter(|number| met[*number]).collect();
-    assert_eq!(numbers, (2..=12).chain([16, 17]).collect::<Vec<usize>>(), "a file for each refusal");
+    let numbers: Vec<usize> = (0..21).filter(|number| met[*number]).collect();
+    assert_eq!(numbers, (2..=12).chain([16, 17, 20]).collect::<Vec<usize>>(), "a file for each refusal");
 }
 
 #[test]
@@ -111,7 +111,7 @@ fn bytes_that_do_not_show_are_written_out() {
 
 #[test]
 fn the_manual_s_common_mistakes_get_their_numbers() {
-    let rows: [(&str, u32); 18] = [
+    let rows: [(&str, u32); 21] = [
         ("(query Low)", 4),
         ("(query\tlow)", 4),
         ("(query room_low)", 4),
@@ -130,6 +130,9 @@ fn the_manual_s_common_mistakes_get_their_numbers() {
         ("(cost 40 low 0)\n(query low)", 5),
         ("(cost low 12345678 0)\n(query low)", 5),
         ("(cost low 40 101)\n(query low)", 16),
+        ("(if low a b c d e f g h i j (not k) (not l))\n(query low)", 20),
+        ("(never low low low low low low low low low low low low)\n(query low)", 20),
+        ("(avoid low (not low) low low low low low low low low low low)\n(query low)", 20),
     ];
     for (text, number) in rows {
         assert_eq!(file::read(text.as_bytes()).err().map(|r| (r.number, r.line)), Some((number, 1)), "{text}");

@@ -1,8 +1,8 @@
 /* The cause finder's operations: read a case file, settle one setting, answer the question, number the atoms by layers
  * or find a ring of rules, write a case back as a file, write the report.
  *
- * From: document 01, "Case tables and sound cases" and "What each operation refuses"; document 02, [1], [3],
- * [5], [6], [7] and [8]. Link libembed.a (x86-64).
+ * From: document 01, "Case tables and sound cases" and "What each operation refuses"; document 02, [1], [3]
+ * and [5] to [9]. Link libembed.a (x86-64).
  *
  * Lent memory is a pointer and a number of elements. The pointer is aligned for its type and reaches that many
  * elements; memory that a call writes overlaps no other memory lent to the same call. A pointer to no elements isn't
@@ -25,7 +25,7 @@ extern "C" {
 #endif
 
 /* The version of this header and of the Rust module beside it. */
-#define CAUSES_VERSION "0.5.1"
+#define CAUSES_VERSION "0.5.2"
 
 /* Sizes of the lent tables, in elements. A longer table is lawful; what is past its size keeps its contents. */
 enum {
@@ -52,6 +52,10 @@ enum {
     CAUSES_MINIMAL = 15360,      /* the most minimal explanations: slots of a list */
     CAUSES_REPORT_BYTES = 264640 /* the longest report */
 };
+
+/* The most literals that an `if`, `never` or `avoid` line may have, counted as written; a rule's head isn't counted. A
+ * body in lent tables may have more: the case is sound, and its text is refused when read. */
+enum { CAUSES_LITERALS = 11 };
 
 /* Sizes of a thread's stack, in bytes, with which an operation ends; each has room to spare. */
 enum {
@@ -82,7 +86,7 @@ enum {
 /* Verdicts. */
 enum { CAUSES_UNEXPLAINED = 0, CAUSES_FOLLOWS = 1, CAUSES_DENIED = 2, CAUSES_OPEN = 3 };
 
-/* Refusals. 3 to 10, 16 and 17 have the line, counted from 1; the others have line 0. */
+/* Refusals. 3 to 10, 16, 17 and 20 have the line, counted from 1; the others have line 0. */
 enum {
     CAUSES_SHORT = 1,         /* a lent table, record or answer is shorter than its size */
     CAUSES_LONG_FILE = 2,     /* over 32,768 bytes */
@@ -102,11 +106,12 @@ enum {
     CAUSES_HIGH_PRICE = 16,   /* a price, or one worked out, over 2,000,000, or a supplement over 100 */
     CAUSES_SECOND_COST = 17,  /* a second cost line of a name */
     CAUSES_LONG_TEXT = 18,    /* a written line would be over 200 bytes without LF, or the text over 32,768 */
-    CAUSES_SHORT_OUTPUT = 19  /* the output is shorter than the text */
+    CAUSES_SHORT_OUTPUT = 19, /* the output is shorter than the text */
+    CAUSES_MANY_LITERALS = 20 /* a 12th literal of a body */
 };
 
-/* Reads a case file into the five tables. Refuses with 1 to 12, 16 and 17. 1 and 2 leave the tables as they were, the
- * others zero them in their sizes. answer: CAUSES_READ_WORDS. */
+/* Reads a case file into the five tables. Refuses with 1 to 12, 16, 17 and 20. 1 and 2 leave the tables as they were,
+ * the others zero them in their sizes. answer: CAUSES_READ_WORDS. */
 uint32_t causes_read(const uint8_t *file, size_t file_bytes,
                      uint64_t *clauses, size_t clause_words,
                      uint64_t *constraints, size_t constraint_words,
@@ -153,12 +158,13 @@ uint32_t causes_layers(const uint64_t *record, size_t record_words,
                        const uint8_t *formula, size_t formula_bytes,
                        uint64_t *answer, size_t answer_words);
 
-/* Writes a case back as a file: reading the text gives the same record and tables in their used entries. It has a line
- * `(atom N)` for each atom, then those of clauses, constraints, observations, queries and of the prices above 0, these
- * with supplement 0. Bytes behind the text keep their contents. Refuses with 1, 13, 18, 19, in this order, and then
- * doesn't touch the output; 13 here also for an atom whose entry of the names is no name, or one that an atom before it
- * has, or whose price is over 2,000,000, and 18 for a line that would be over 200 bytes without its LF, or a text over
- * CAUSES_FILE_BYTES. answer: CAUSES_WRITE_WORDS. */
+/* Writes a case back as a file: reading the text gives the same record and tables in their used entries, if no body has
+ * more than CAUSES_LITERALS literals. A longer body is written too; reading the text is then refused with 20, at the
+ * line of the first such body. The text has a line `(atom N)` for each atom, then those of clauses, constraints,
+ * observations, queries and of the prices above 0, these with supplement 0. Bytes behind it keep their contents.
+ * Refuses with 1, 13, 18, 19, in this order, and then doesn't touch the output; 13 here also for an atom whose entry of
+ * the names is no name, or one that an atom before it has, or whose price is over 2,000,000, and 18 for a line that
+ * would be over 200 bytes without its LF, or a text over CAUSES_FILE_BYTES. answer: CAUSES_WRITE_WORDS. */
 uint32_t causes_write(const uint64_t *record, size_t record_words,
                       const uint64_t *clauses, size_t clause_words,
                       const uint64_t *constraints, size_t constraint_words,
@@ -205,6 +211,7 @@ static inline const char *causes_refusal_text(uint32_t number)
     case CAUSES_SECOND_COST: return "the line is a second cost line for its name";
     case CAUSES_LONG_TEXT: return "a line of the text would be over 200 bytes, or the text over 32,768";
     case CAUSES_SHORT_OUTPUT: return "the lent output is too short for the text";
+    case CAUSES_MANY_LITERALS: return "the line's body has a 12th literal";
     default: return NULL;
     }
 }

@@ -44,8 +44,8 @@ struct causes_layering {
     uint64_t layered, count, entries[CAUSES_ATOMS];
 };
 
-/* Reads a file into a case. Refuses with 2 to 12, 16 and 17; then the line, 0 where no line is at fault, is put to *line
- * unless line is a null pointer, and the record is zeros. */
+/* Reads a file into a case. Refuses with 2 to 12, 16, 17 and 20; then the line, 0 where no line is at fault, is put to
+ * *line unless line is a null pointer, and the record is zeros. */
 static inline uint32_t causes_case_read(struct causes_case *c, const uint8_t *file, size_t file_bytes, uint64_t *line)
 {
     uint64_t words[CAUSES_READ_WORDS];
@@ -106,8 +106,9 @@ static inline uint32_t causes_case_layers(const struct causes_case *c, struct ca
     return refusal;
 }
 
-/* Writes a case back as a file to an output, for which CAUSES_FILE_BYTES bytes are always enough, and puts the length of
- * the text to *length. Refuses with 13, 18 and 19, and then puts 0. */
+/* Writes a case back as a file to an output, for which CAUSES_FILE_BYTES bytes are always enough, and puts the length
+ * of the text to *length. Refuses with 13, 18 and 19, and then puts 0. With a body of more than CAUSES_LITERALS
+ * literals, which a case filled by the caller may have, the text is refused with 20 when it is read. */
 static inline uint32_t causes_case_write(const struct causes_case *c, uint8_t *out, size_t out_bytes, uint64_t *length)
 {
     uint64_t words[CAUSES_WRITE_WORDS];

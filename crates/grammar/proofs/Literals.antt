@@ -1,5 +1,5 @@
--- Laws of the literals that tokens are: one for each way out of `negated_name` and `literal`, and those that `body_at` has
--- passed.
+-- Laws of the literals that tokens are: one for each way out of `negated_name` and `literal`, and those that `body_at`
+-- has passed.
 --
 --   behindAll ls x     the literals ls with those of x behind them
 --   Counted l at i n   the literals from place at on are n literals and those from place i on

@@ -18,9 +18,9 @@ use text::tokens::Next;
 use text::tokens::token;
 
 // The form of a line with the places of its parts: a clause's kind, the ends of its head, behind which its literals
-// begin, and their number; a constraint's kind, the place where its literals begin, and their number; the place where a
-// reading's literal or a formula begins, a formula's depth; the ends of a cost's name, its price and supplement; and the
-// ends of an atom line's name.
+// begin, and their number; a constraint's kind, the place where its literals begin, and their number; the place where
+// a reading's literal or a formula begins, a formula's depth; the ends of a cost's name, its price and supplement; and
+// the ends of an atom line's name.
 pub enum Form {
     Skipped,
     NoForm,

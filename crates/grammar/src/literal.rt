@@ -79,8 +79,8 @@ fn takes(kind: usize, n: usize) -> bool
     0 < n
 }
 
-// The body from a place to the end of the line: its number of literals, as many as a line of a kind takes, or that there
-// is none.
+// The body from a place to the end of the line: the number of its literals, as many as a line of a kind takes, or that
+// there is none.
 pub fn body_at(l: &[u8], at: usize, kind: usize) -> Body
     requires { ⌜ at ≤ length (now l) ⌝ }
     ensures { λ r. ⌜ BodyFound (now (l .entry)) at kind r ⌝ }

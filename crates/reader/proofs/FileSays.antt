@@ -17,18 +17,17 @@ use Rattle.logic.specs.Formula.{Formula}
 use Rattle.logic.specs.Nodes.{formulaOf}
 use Rattle.logic.proofs.Spelled.{one-formula-unique}
 use Rattle.program.specs.declared.case.Case.{Case}
-use Rattle.program.specs.Case.{clauseSize, constraintSize, formulaSize, nameSize, priceSize, nodesOf}
+use Rattle.program.specs.Case.{nodesOf}
 use Rattle.program.specs.Program.{clausesOf}
 use Rattle.text.specs.Lines.{lines}
-use Rattle.table.specs.Filled.{filled}
-use Rattle.names.specs.Names.{rowsOf}
 use Rattle.text.proofs.Each.{Each, each-at, each-gives}
 use Rattle.names.proofs.Rows.{filled-row}
-use Rattle.store.specs.Lent.{Lent}
-use Rattle.store.specs.Prices.{CostRow, priceIn, pricesOf}
+use Rattle.store.specs.Lent.{Lent, filledWith}
+use Rattle.store.specs.Prices.{CostRow, priceIn}
 use Rattle.store.specs.Saying.{ClauseRow, Said, nothingSaid, plainAtoms, negatedAtoms}
-use Rattle.store.specs.Tables.{clauseWords, constraintWords, formulaParts, caseSaid}
+use Rattle.store.specs.Tables.{wordsOf, caseSaid}
 use Rattle.store.specs.Held.{Long}
+use Rattle.store.proofs.Lent.{lent-same}
 use Rattle.store.proofs.Saying.{is-atoms}
 use Rattle.store.proofs.FilledRows.{formula-is}
 use Rattle.store.proofs.Prices.{price-at}
@@ -79,27 +78,23 @@ module _ (f : List ℕ) (st : Said) (e : readFile f ≡ Outcome.case st) where
   -- The record c, and the tables u filled over t
 
   module _ (c : Case) (t u : Lent) (long : Long t) (found : c ≡ caseSaid st)
-      (cl : u .clauses ≡ filled clauseSize (clauseWords (st .clauses)) (t .clauses))
-      (co : u .constraints ≡ filled constraintSize (constraintWords (st .constraints)) (t .constraints))
-      (fo : u .formula ≡ filled formulaSize (formulaParts (st .queries)) (t .formula))
-      (na : u .names ≡ filled nameSize (rowsOf (st .names)) (t .names))
-      (pr : u .prices ≡ filled priceSize (pricesOf (st .costs)) (t .prices)) where
+      (tables : u ≡ filledWith (wordsOf st) t) where
     clauses-said : clausesOf (u .clauses) (c .clauses) ≡ fileContent f .clauses
     clauses-said =
-        rw (cl, found)
+        rw (tables, found)
         (clauses-filled (st .clauses) (t .clauses) (long .clauses-long) (ended .formed .clauses .few) small)
         ∙ content-read .clauses-are
 
     constraints-said : constraintsOf (u .constraints) (c .constraints) ≡ fileContent f .constraints
     constraints-said =
-        rw (co, found)
+        rw (tables, found)
         (constraints-filled (st .constraints) (t .constraints) (long .constraints-long)
         (ended .formed .constraints .few))
         ∙ content-read .constraints-are
 
     queries-said : listOf (c .formulas) (λ q. formulaOf (nodesOf (c .nodes) (u .formula) q)) ≡ fileContent f .queries
     queries-said =
-        rw (fo, found)
+        rw (tables, found)
         (list-of-is (st .queries) Formula.truth _ (λ q l.
         let r = each-at _ (st .queries) q Formula.truth (ended .formed .queries .each) l in
         rw (formula-is (st .queries) (ended .formed .queries .few) q l (t .formula) (long .formula-long) (r .nodes-few))
@@ -110,7 +105,7 @@ module _ (f : List ℕ) (st : Said) (e : readFile f ≡ Outcome.case st) where
     says = record {
       atoms-are = rw found (ap length names-read);
       names-are = λ a h.
-          rw (na, ← names-read)
+          rw (tables, ← names-read)
           (filled-row (st .names) (t .names) a (long .names-long)
           (let few = ended .formed .names .rows .few in let l = rw found at h in omega arith));
       clauses-are = clauses-said;
@@ -119,7 +114,7 @@ module _ (f : List ℕ) (st : Said) (e : readFile f ≡ Outcome.case st) where
       negated-are = rw found negated-read;
       queries-are = queries-said;
       prices-are = λ a h.
-          rw pr (price-at (st .costs) (t .prices) (long .prices-long) a h)
+          rw tables (price-at (st .costs) (t .prices) (long .prices-long) a h)
           ∙ ap (λ (cs : List CostRow). priceIn cs a) (content-read .costs-are);
     }
 
@@ -136,32 +131,26 @@ pub record Accepted (f : List ℕ) (t u : Lent) (r : Answer) : Type 0 where
   pub file-is : readFile f ≡ Outcome.case said
   pub long : Long t
   pub found-is : r .found ≡ caseSaid said
-  pub clauses-are : u .clauses ≡ filled clauseSize (clauseWords (said .clauses)) (t .clauses)
-  pub constraints-are : u .constraints ≡ filled constraintSize (constraintWords (said .constraints)) (t .constraints)
-  pub formula-is : u .formula ≡ filled formulaSize (formulaParts (said .queries)) (t .formula)
-  pub names-are : u .names ≡ filled nameSize (rowsOf (said .names)) (t .names)
-  pub prices-are : u .prices ≡ filled priceSize (pricesOf (said .costs)) (t .prices)
+  pub tables-are : u ≡ filledWith (wordsOf said) t
 
-pub accepted : (f : List ℕ) (t u : Lent) (r : Answer) → ReadAs f t u r → r .refusal ≡ 0 → Accepted f t u r
-accepted f t u r h z =
-    let p = first-of-none (earlyRefusal f t) (refusalOf (readFile f)) (sym (h .refusal-is) ∙ z) in
-    let a = not-refused (readFile f) (file-numbered f) (p .1) in
-    let early = p .0 in
-    let e = a .1 in
-    record {
-      said = a .0;
-      file-is = e;
-      long = early-passed f t (sym early) refl .0;
-      found-is = rw (z, e) at (h .case-is);
-      clauses-are = rw (early, e) at (h .clauses-are);
-      constraints-are = rw (early, e) at (h .constraints-are);
-      formula-is = rw (early, e) at (h .formula-is);
-      names-are = rw (early, e) at (h .names-are);
-      prices-are = rw (early, e) at (h .prices-are);
-    }
+module _ (f : List ℕ) (t u : Lent) (r : Answer) (h : ReadAs f t u r) (z : r .refusal ≡ 0) where
+  unrefused : (earlyRefusal f t ≡ 0) × (refusalOf (readFile f) ≡ 0)
+  unrefused = first-of-none (earlyRefusal f t) (refusalOf (readFile f)) (sym (h .refusal-is) ∙ z)
+
+  pub accepted : Accepted f t u r
+  accepted =
+      let early = unrefused .0 in
+      let (st, e) = not-refused (readFile f) (file-numbered f) (unrefused .1) in
+      record {
+        said = st;
+        file-is = e;
+        long = early-passed f t (sym early) refl .0;
+        found-is = rw (z, e) at (h .case-is);
+        tables-are = lent-same (rw (early, e) at (h .clauses-are)) (rw (early, e) at (h .constraints-are))
+            (rw (early, e) at (h .formula-is)) (rw (early, e) at (h .names-are)) (rw (early, e) at (h .prices-are));
+      }
 
 pub answer-says : (f : List ℕ) (t u : Lent) (r : Answer) → ReadAs f t u r → r .refusal ≡ 0 → Says f (r .found) u
 answer-says f t u r h z =
     let a = accepted f t u r h z in
-    says f (a .said) (a .file-is) (r .found) t u (a .long) (a .found-is) (a .clauses-are) (a .constraints-are)
-    (a .formula-is) (a .names-are) (a .prices-are)
+    says f (a .said) (a .file-is) (r .found) t u (a .long) (a .found-is) (a .tables-are)

@@ -25,7 +25,8 @@ use Rattle.text.proofs.Each.{Each, each-append, each-split}
 use Rattle.grammar.specs.Line.{Line, Literal}
 use Rattle.grammar.specs.Bringing.{brings}
 use Rattle.names.specs.Names.{atomOf}
-use Rattle.store.specs.Saying.{ClauseRow, ConstraintRow, Said, someOn, atomsBy, saidBy}
+use Rattle.store.specs.Saying.{ClauseRow, ConstraintRow, Said, someOn, atomsBy, clauseRow, constraintRow}
+use Rattle.store.specs.Saying.{withClause, withConstraint, saidBy}
 use Rattle.store.proofs.Saying.{on-none, atoms-has}
 
 -- of the numbers below n one at most is a
@@ -50,6 +51,12 @@ digit-or : (x y : Bool) → digit (x || y) ≤ digit x + digit y
 digit-or true y = omega arith
 digit-or false y = omega arith
 
+sum-or : (n : ℕ) (x y : ℕ → Bool)
+    → sum n (λ i. digit (x i || y i)) ≤ sum n (λ i. digit (x i)) + sum n (λ i. digit (y i))
+sum-or n x y =
+    let each = sum-mono n _ (λ i. digit (x i) + digit (y i)) (λ i h. digit-or (x i) (y i)) in
+    omega (arith, each, sum-add n (λ i. digit (x i)) (λ i. digit (y i)))
+
 module _ (at : List ℕ → ℕ) where
   ones-are : (b : Bool) (l : List Literal) → ones (atomsBy at b l) ≡ sum 64 (λ i. digit (someOn at b l i))
   unfolding atomsBy
@@ -66,12 +73,8 @@ module _ (at : List ℕ → ℕ) where
   unfolding someOn
   ones-more b m w l =
       let t = pick b m (not m) in
-      let here : ℕ → ℕ = λ i. digit (t && eqb (at w) i) in
-      let there : ℕ → ℕ = λ i. digit (someOn at b l i) in
-      let both = sum-mono 64 (λ i. digit ((t && eqb (at w) i) || someOn at b l i)) (λ i. here i + there i)
-      (λ i h. digit-or (t && eqb (at w) i) (someOn at b l i)) in
-      omega (arith, ones-are b (Literal.literal m w ∷ l), ones-are b l, both, sum-add 64 here there,
-      tested-at t 64 (at w))
+      let both = sum-or 64 (λ i. t && eqb (at w) i) (someOn at b l) in
+      omega (arith, ones-are b (Literal.literal m w ∷ l), ones-are b l, both, tested-at t 64 (at w))
 
   pub atoms-few : (l : List Literal) → ones (atomsBy at false l) + ones (atomsBy at true l) ≤ length l
   atoms-few [] = omega (arith, ones-none false, ones-none true)
@@ -104,18 +107,26 @@ module _ (m : ℕ) (st : Said) (h : Within m st) where
   apart : Each (λ n. n ≤ m) (map clauseBody (st .clauses)) × Each (λ n. n ≤ m) (map constraintBody (st .constraints))
   apart = each-split (λ n. n ≤ m) (map clauseBody (st .clauses)) (map constraintBody (st .constraints)) h
 
-  pub said-within : (x : Line) → brings x .literals ≤ m → Within m (saidBy st x)
-  unfolding saidBy
-  said-within Line.skipped k = h
-  said-within Line.noForm k = h
-  said-within (Line.clause j w l) k =
+  clause-within : (k : ℕ) (w : List ℕ) (l : List Literal) → length l ≤ m
+      → Within m (withClause st (clauseRow (st .names) k w l))
+  clause-within k w l few =
       each-append (λ n. n ≤ m) (map clauseBody (st .clauses ++ (_ ∷ []))) _
       (each-push m clauseBody (st .clauses) _ (apart .0) (omega (arith, atoms-few (atomOf (st .names)) l)))
       (apart .1)
-  said-within (Line.constraint j l) k =
+
+  constraint-within : (k : ℕ) (l : List Literal) → length l ≤ m
+      → Within m (withConstraint st (constraintRow (st .names) k l))
+  constraint-within k l few =
       each-append (λ n. n ≤ m) (map clauseBody (st .clauses)) _ (apart .0)
       (each-push m constraintBody (st .constraints) _ (apart .1) (omega (arith, atoms-few (atomOf (st .names)) l)))
-  said-within (Line.seen x) k = h
-  said-within (Line.query f) k = h
-  said-within (Line.cost w p s) k = h
-  said-within (Line.atom w) k = h
+
+  pub said-within : (x : Line) → brings x .literals ≤ m → Within m (saidBy st x)
+  unfolding saidBy
+  said-within Line.skipped few = h
+  said-within Line.noForm few = h
+  said-within (Line.clause k w l) few = clause-within k w l few
+  said-within (Line.constraint k l) few = constraint-within k l few
+  said-within (Line.seen x) few = h
+  said-within (Line.query f) few = h
+  said-within (Line.cost w p s) few = h
+  said-within (Line.atom w) few = h

@@ -119,7 +119,8 @@ module _ {l : List ℕ} {x : Form} {c : Case} {y : Line} (s : Storable l x c y) 
           }
 
       pub constraint-stored : {at k n : ℕ} {m : Masks} {u : List ℕ} → x ≡ Constraint k at n
-          → MasksOf l at na (c .atoms) m → ConstraintStored m k c co r u → StoredAs y c (lent cl co fo na pr) r (lent cl u fo na pr)
+          → MasksOf l at na (c .atoms) m → ConstraintStored m k c co r u
+          → StoredAs y c (lent cl co fo na pr) r (lent cl u fo na pr)
       unfolding saidBy
       constraint-stored {k = k} q i d =
           let f = form-told q .1 in

@@ -33,7 +33,8 @@ use Rattle.checks.specs.Checks.{lookRefusal, lineRefusal, saidAfter}
 use Rattle.checks.specs.Naming.{IsName}
 use Rattle.checks.proofs.Naming.{name-lettered, name-bytes, name-short}
 use Rattle.checks.proofs.After.{after-line}
-use Rattle.checks.proofs.Passing.{RoomPasses, textNumber, roomNumber, form-refusal-is, room-none, look-none, line-looked}
+use Rattle.checks.proofs.Passing.{RoomPasses, textNumber, roomNumber, form-refusal-is, room-none, look-none}
+use Rattle.checks.proofs.Passing.{line-looked}
 use Rattle.writing.specs.Lines.{lineText}
 
 abbrev pub namedBy : Said → Line → Said

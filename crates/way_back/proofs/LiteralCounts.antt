@@ -1,7 +1,7 @@
 -- The lines of what is well formed have as many literals as its bodies hold: those of clauses and constraints, in table
 -- order, behind the atom lines; the others have none.
 -- Assumes nothing.
-use mathlib.Core.Path.{_≡_, refl, sym, ap, ap₂, subst, _∙_}
+use mathlib.Core.Path.{_≡_, refl, sym, ap, ap₂, _∙_}
 use mathlib.Core.List.{List, [], _∷_, _++_, map, map-append, append-assoc}
 use Prim.Native.Nat.{ℕ, _+_, _≤_}
 use native.Mathlib.Nat.{lt-of-lt-of-le}
@@ -77,11 +77,12 @@ module _ (name : ℕ → List ℕ) (st : Said) (w : Writes name st) where
 
   counts-are : map literalsIn (linesOf name st) ≡ front ++ (saidBodies st ++ map literalsIn others)
   counts-are =
+      let behind = map literalsIn others in
       map-append literalsIn (map Line.atom (st .names)) _ ∙ ap (λ l. front ++ l) (
       map-append literalsIn (map (clauseLine name) (st .clauses)) _
       ∙ ap₂ _++_ clauses-counted (map-append literalsIn (map (constraintLine name) (st .constraints)) others
-      ∙ ap (λ l. l ++ map literalsIn others) constraints-counted)
-      ∙ sym (append-assoc (map clauseBody (st .clauses)) (map constraintBody (st .constraints)) (map literalsIn others)))
+      ∙ ap (λ l. l ++ behind) constraints-counted)
+      ∙ sym (append-assoc (map clauseBody (st .clauses)) (map constraintBody (st .constraints)) behind))
 
   front-few : Each (λ n. n ≤ 11) front
   front-few = few-counted (map Line.atom (st .names)) (none-counted Line.atom (λ a. refl) (st .names))

@@ -1,5 +1,5 @@
--- The bodies of a case are as long as those of what it says, and as those of what was read, where it was read: then each
--- holds at most 11 literals. Assumes nothing.
+-- The bodies of a case are as long as those of what it says, and as those of what was read, where it was read: then
+-- each holds at most 11 literals. Assumes nothing.
 use mathlib.Core.Path.{_≡_, refl, sym, ap, ap₂, subst, _∙_}
 use mathlib.Core.List.{List, _++_, map}
 use Prim.Native.Nat.{ℕ, _≤_, _<_}
@@ -37,14 +37,15 @@ module _ (f : List ℕ) (t u : Lent) (r : Answer) (a : Accepted f t u r) where
 
   read-bodies : bodySizes (r .found) u ≡ saidBodies (a .said)
   read-bodies =
-      rw (a .found-is, a .clauses-are, a .constraints-are)
+      let cs = a .said .clauses in
+      let ds = a .said .constraints in
+      rw (a .found-is, a .tables-are)
       (ap₂ _++_
-      (sizes-are clauseBody (a .said .clauses) noRow _ (λ k l.
-      let w = clause-is (a .said .clauses) (t .clauses) (a .long .clauses-long) (formed .clauses .few) k l in
+      (sizes-are clauseBody cs noRow _ (λ k l.
+      let w = clause-is cs (t .clauses) (a .long .clauses-long) (formed .clauses .few) k l in
       ap₂ bodySize (w .plain-is) (w .negated-is)))
-      (sizes-are constraintBody (a .said .constraints) noConstraint _ (λ k l.
-      let w = constraint-is (a .said .constraints) (t .constraints) (a .long .constraints-long) (formed .constraints .few)
-      k l in
+      (sizes-are constraintBody ds noConstraint _ (λ k l.
+      let w = constraint-is ds (t .constraints) (a .long .constraints-long) (formed .constraints .few) k l in
       ap₂ bodySize (w .plain-is) (w .negated-is))))
 
   pub read-few : AllFew (bodySizes (r .found) u)

@@ -1,5 +1,5 @@
--- Reading the text of a case that writing does not refuse gives what the case says, or is refused with 20 at the line of
--- the first body with more than 11 literals. Assumes nothing.
+-- Reading the text of a case that writing does not refuse gives what the case says, or is refused with 20 at the line
+-- of the first body with more than 11 literals. Assumes nothing.
 use mathlib.Core.Path.{_≡_, ap, subst, _∙_}
 use mathlib.Core.Bool.{true}
 use mathlib.Core.List.{List, [], _∷_, map}
@@ -115,11 +115,12 @@ module _ (c : Case) (t : Lent) (u : Unrefused c t) where
       (counts-few name st writes (subst AllFew (said-bodies c t) few))
       ∙ ending-case st query-some causes-few
 
-  file-refused : (k : ℕ) → FirstLong (bodySizes c t) k → readFile (caseText c t) ≡ Outcome.refused 20 (suc (c .atoms + k))
+  file-refused : (k : ℕ) → FirstLong (bodySizes c t) k
+      → readFile (caseText c t) ≡ Outcome.refused 20 (suc (c .atoms + k))
   file-refused k f =
       let e : 1 + (length (st .names) + k) ≡ suc (c .atoms + k) = omega (arith, atoms-are) in
       file-lines
-      ∙ lines-refused (linesOf name st) (length (st .names) + k) nothingSaid st 1 reads 
+      ∙ lines-refused (linesOf name st) (length (st .names) + k) nothingSaid st 1 reads
       (count-over name st writes k (subst (λ l. FirstLong l k) (said-bodies c t) f))
       ∙ ap (Outcome.refused 20) e
 

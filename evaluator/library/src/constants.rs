@@ -14,11 +14,11 @@ use crate::tests::{differing, Tests};
 use crate::write_call::WRITE_WORDS;
 use causes::{sizes, stack};
 use evaluator::answer::LIST_SLOTS;
-use evaluator::file::{self, ATOMS, CAUSES, CLAUSES, CONSTRAINTS, FILE_BYTES, NAME_BYTES, QUERIES};
+use evaluator::file::{self, ATOMS, CAUSES, CLAUSES, CONSTRAINTS, FILE_BYTES, LITERALS, NAME_BYTES, QUERIES};
 use std::path::Path;
 
 /// The refusals of documents 01 and 02.
-pub const REFUSALS: [(&str, u32); 19] = [
+pub const REFUSALS: [(&str, u32); 20] = [
     ("SHORT", 1),
     ("LONG_FILE", 2),
     ("LONG_LINE", 3),
@@ -38,6 +38,7 @@ pub const REFUSALS: [(&str, u32); 19] = [
     ("SECOND_COST", 17),
     ("LONG_TEXT", 18),
     ("SHORT_OUTPUT", 19),
+    ("MANY_LITERALS", 20),
 ];
 
 /// The name of the refusal `number`; 0 is none.
@@ -89,6 +90,7 @@ pub fn due() -> Vec<(&'static str, u64)> {
         ("FORMULA_BYTES", FORMULA_BYTES as u64),
         ("PART_BYTES", (FORMULA_BYTES / QUERIES) as u64),
         ("QUERIES", QUERIES as u64),
+        ("LITERALS", LITERALS as u64),
         ("NAMES_BYTES", (ATOMS * NAME_BYTES) as u64),
         ("NAME_BYTES", NAME_BYTES as u64),
         ("PRICES", Held::zeros().prices.len() as u64),
@@ -130,7 +132,7 @@ pub fn due() -> Vec<(&'static str, u64)> {
 }
 
 /// The constants of the Rust module's sizes.
-const SIZES: [(&str, usize); 14] = [
+const SIZES: [(&str, usize); 15] = [
     ("CLAUSE_WORDS", sizes::CLAUSE_WORDS),
     ("CONSTRAINT_WORDS", sizes::CONSTRAINT_WORDS),
     ("FORMULA_BYTES", sizes::FORMULA_BYTES),
@@ -141,6 +143,7 @@ const SIZES: [(&str, usize); 14] = [
     ("ATOMS", sizes::ATOMS),
     ("RECORD_WORDS", sizes::RECORD_WORDS),
     ("QUERIES", sizes::QUERIES),
+    ("LITERALS", sizes::LITERALS),
     ("FILE_BYTES", sizes::FILE_BYTES),
     ("SETTINGS", sizes::SETTINGS),
     ("MINIMAL", sizes::MINIMAL),

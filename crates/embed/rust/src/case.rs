@@ -26,7 +26,7 @@ pub struct Case {
 }
 
 impl Case {
-    /// Reads a case file. Refuses with 2 to 12, 16 and 17.
+    /// Reads a case file. Refuses with 2 to 12, 16, 17 and 20.
     pub fn read(file: &[u8]) -> Result<Case, Refusal> {
         let mut tables = Box::new(Tables::new());
         let record = lent::read(file, &mut tables)?;
@@ -134,8 +134,9 @@ impl Case {
         }
     }
 
-    /// The case written back: a file that reads as the same case, a line `(atom N)` for each atom in front. Refuses with
-    /// 18 a case with a line that would be over 200 bytes, or with a text over 32,768.
+    /// The case written back: a file that reads as the same case, a line `(atom N)` for each atom in front. No body is
+    /// too long to be read again, for a case that was read has at most 11 literals in each. Refuses with 18 a case with
+    /// a line that would be over 200 bytes, or with a text over 32,768.
     ///
     /// ```
     /// let case = causes::Case::read(b"(if low (not ab) shut)\n(query shut)\n")?;

@@ -39,6 +39,23 @@
 //! assert_eq!(out[..length], *b"(atom a)\n(atom b)\n(query(and a b))\n");
 //! # Ok::<(), causes::Refusal>(())
 //! ```
+//!
+//! A line of a file has at most [`LITERALS`](crate::sizes::LITERALS) literals, a body in tables of the caller may have
+//! more. It is written as any other, and its text is refused when read:
+//!
+//! ```
+//! use causes::lent::{read, write, Tables};
+//!
+//! let mut tables = Tables::new();
+//! let record = read(b"(if a b c d e f g h i j k l)\n(true l)\n(query a)\n", &mut tables)?;
+//! tables.clauses[1] |= 1; // the rule's plain atoms, with atom 0 as the 12th
+//! let mut out = [0; causes::sizes::FILE_BYTES];
+//! let length = write(&record, &tables, &mut out)?;
+//! assert!(out[..length].ends_with(b"(if a a b c d e f g h i j k l)\n(true l)\n(query a)\n"));
+//! let refused = read(&out[..length], &mut tables).unwrap_err();
+//! assert_eq!(refused, causes::Refusal::ManyLiterals { line: 13 });
+//! # Ok::<(), causes::Refusal>(())
+//! ```
 
 mod operations;
 mod tables;

@@ -1,6 +1,6 @@
 //! Refusals.
 //!
-//! From: document 01, What each operation refuses; document 02, `[7]` and `[8]`; docs/MANUAL.md, Refusals.
+//! From: document 01, What each operation refuses; document 02, `[7]` to `[9]`; docs/MANUAL.md, Refusals.
 
 use std::error::Error;
 use std::fmt;
@@ -49,6 +49,9 @@ pub enum Refusal {
     },
     LongText,
     ShortOutput,
+    ManyLiterals {
+        line: u64,
+    },
     /// A number that this module doesn't know: the archive is a later one.
     Other {
         number: u32,
@@ -79,6 +82,7 @@ impl Refusal {
             17 => Refusal::SecondCost { line },
             18 => Refusal::LongText,
             19 => Refusal::ShortOutput,
+            20 => Refusal::ManyLiterals { line },
             _ => Refusal::Other { number, line },
         }
     }
@@ -109,6 +113,7 @@ impl Refusal {
             Refusal::SecondCost { line } => (17, Some(line), "the line is a second cost line for its name"),
             Refusal::LongText => (18, None, "a line of the text would be over 200 bytes, or the text over 32,768"),
             Refusal::ShortOutput => (19, None, "the lent output is too short for the text"),
+            Refusal::ManyLiterals { line } => (20, Some(line), "the line's body has a 12th literal"),
             Refusal::Other { number, line } => (number, (line > 0).then_some(line), "the library's header says why"),
         }
     }

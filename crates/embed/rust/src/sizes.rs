@@ -1,6 +1,6 @@
 //! The sizes of lent memory, in elements.
 //!
-//! From: document 01, Case tables and sound cases; What each operation refuses; document 02, `[1]`, `[5]` to `[8]`.
+//! From: document 01, Case tables and sound cases; What each operation refuses; document 02, `[1]`, `[5]` to `[9]`.
 
 /// Words of the clause table, three a clause.
 pub const CLAUSE_WORDS: usize = 768;
@@ -31,6 +31,10 @@ pub const RECORD_WORDS: usize = 6 + QUERIES;
 
 /// The most queries of a file, and formulas of a case.
 pub const QUERIES: usize = 16;
+
+/// The most literals that an `if`, `never` or `avoid` line may have, counted as written, without a rule's head. A body
+/// in lent tables may have more: the case is sound, and its text is refused when read.
+pub const LITERALS: usize = 11;
 
 /// The longest file that is read, and the longest text of a case: an output of so many bytes is long enough for each.
 pub const FILE_BYTES: usize = 32_768;

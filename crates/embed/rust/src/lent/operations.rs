@@ -90,8 +90,8 @@ fn accepted(number: u32, line: u64) -> Result<(), Refusal> {
     }
 }
 
-/// Reads a case file into `tables`. Refuses with 2 to 12, 16 and 17; 2 leaves the tables as they were, the others zero
-/// them.
+/// Reads a case file into `tables`. Refuses with 2 to 12, 16, 17 and 20; 2 leaves the tables as they were, the others
+/// zero them.
 pub fn read(file: &[u8], tables: &mut Tables) -> Result<Record, Refusal> {
     let mut words = [0; 1 + RECORD_WORDS];
     // SAFETY: each pointer comes with the length of its slice, and the tables are borrowed for writing.
@@ -200,9 +200,11 @@ pub fn layers(record: &Record, tables: &Tables) -> Result<Layers, Refusal> {
 }
 
 /// Writes a case back as a file to the front of `out` and answers the length of the text: reading it gives the same
-/// record and tables in their used entries. Refuses with 13 what is no sound case, and one with an atom whose name is
-/// none or is there twice or whose price is over 2,000,000; with 18 a line that would be over 200 bytes, or a text over
-/// 32,768; with 19 an output that is shorter than the text. Then it doesn't touch the output.
+/// record and tables in their used entries, if no body has more than [`LITERALS`](crate::sizes::LITERALS) literals. A
+/// longer body, which tables of the caller may have, is written too; reading the text is then refused with 20, at the
+/// line of the first such body. Refuses with 13 what is no sound case, and one with an atom whose name is none or is
+/// there twice or whose price is over 2,000,000; with 18 a line that would be over 200 bytes, or a text over 32,768;
+/// with 19 an output that is shorter than the text. Then it doesn't touch the output.
 pub fn write(record: &Record, tables: &Tables, out: &mut [u8]) -> Result<usize, Refusal> {
     let record = record.words();
     let mut words = [0; 1];
