@@ -116,7 +116,7 @@ module _ (f : List ℕ) (st : Said) (e : readFile f ≡ Outcome.case st) where
   said-formulas =
       let u = filledWith (wordsOf st) zeros in
       rw (filled-exact formulaSize (formulaParts (st .queries)) (padded formulaSize []) (padded-length formulaSize []))
-      at (says f st e (caseSaid st) zeros u zeros-long refl refl refl refl refl refl .queries-are)
+      at (says f st e (caseSaid st) zeros u zeros-long refl refl .queries-are)
 
   pub said-named : (a : ℕ) → Named (nameOf st a)
   said-named = every-named (st .names) (λ a h.
