@@ -5,7 +5,7 @@ use Rattle.checks.proofs.Taking.{text-refused, room-refused, form-stora
 use Rattle.checks.proofs.take.take_form.Statement.{statement}
 use Rattle.checks.proofs.take.take_form.Tie as tie
 
--- the places before: of the entry, of the names, of the checks 6 and 7 passed, of the line stored, and of all checks
+-- the places before: of the entry, of the names, of the early checks passed, of the line stored, and of all checks
 -- passed
 abbrev entry : tie.After-text-refusal → tie.Start
 entry c =
