@@ -14,7 +14,7 @@ use Rattle.program.specs.declared.case.Case.{Case}
 use Rattle.logic.specs.Nodes.{oneFormula}
 use Rattle.program.specs.Case.{clauseSize, constraintSize, formulaSize, partSize, tablesFull, nodesOf}
 use Rattle.program.specs.Program.{headsOf}
-use Rattle.program.specs.Sound.{limitsHold, within, bare, shaped, soundClause, soundClauses, soundConstraint}
+use Rattle.program.specs.Sound.{isEdition, limitsHold, within, bare, shaped, soundClause, soundClauses, soundConstraint}
 use Rattle.program.specs.Sound.{soundConstraints, fewCauses, soundFormula, soundFormulas}
 use Rattle.program.proofs.Soundness.{clauseTest, constraintTest, formula-fits}
 
@@ -24,10 +24,10 @@ unfolding tablesFull
 tables-full cl co fo a b c = rw (le-leb clauseSize _ a, le-leb constraintSize _ b) (le-leb formulaSize _ c)
 
 pub limits-hold : (c : Case) → 1 ≤ c .atoms → c .atoms ≤ 64 → c .clauses ≤ 256 → c .constraints ≤ 32
-    → 1 ≤ c .formulas → c .formulas ≤ 16 → limitsHold c ≡ true
+    → 1 ≤ c .formulas → c .formulas ≤ 16 → isEdition (c .edition) ≡ true → limitsHold c ≡ true
 unfolding limitsHold
-limits-hold c i a l o s f =
-    rw (le-leb 1 (c .atoms) i, le-leb _ 64 a, le-leb _ 256 l, le-leb _ 32 o, le-leb 1 (c .formulas) s) (le-leb _ 16 f)
+limits-hold c i a l o s f e =
+    rw (le-leb 1 (c .atoms) i, le-leb _ 64 a, le-leb _ 256 l, le-leb _ 32 o, le-leb 1 (c .formulas) s, le-leb _ 16 f) e
 
 pub within-below : (n p q : ℕ) → p < 2 ^ n → q < 2 ^ n → within n p q ≡ true
 unfolding within

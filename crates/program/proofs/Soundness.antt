@@ -16,7 +16,7 @@ use Rattle.program.specs.declared.case.Case.{Case}
 use Rattle.program.specs.Case.{clauseSize, constraintSize, formulaSize, partSize, tablesFull, headAt, plainAt}
 use Rattle.program.specs.Case.{negatedAt, forbidden, forbiddenNot, constraintKind, nodesOf}
 use Rattle.program.specs.Cause.{causesOf}
-use Rattle.program.specs.Sound.{limitsHold, within, bare, shaped, soundClause, soundClauses, soundConstraint}
+use Rattle.program.specs.Sound.{isEdition, limitsHold, within, bare, shaped, soundClause, soundClauses, soundConstraint}
 use Rattle.program.specs.Sound.{soundConstraints, fewCauses, soundFormula, soundFormulas, sound}
 
 -- ---- at most the number below m by one is below m
@@ -73,11 +73,27 @@ module _ (c : Case) where
               let none = lt-leb 1 (c .formulas) l in
               rw (le-leb 1 (c .atoms) some, le-leb (c .atoms) 64 atoms, le-leb (c .clauses) 256 clauses, few, none)
 
-          pub limits-last : 1 ≤ c .formulas → leb (c .formulas) 16 ≡ limitsHold c
-          unfolding limitsHold
-          limits-last l =
-              let one = le-leb 1 (c .formulas) l in
-              rw (le-leb 1 (c .atoms) some, le-leb (c .atoms) 64 atoms, le-leb (c .clauses) 256 clauses, few, one)
+          module _ (formulas : 1 ≤ c .formulas) where
+            pub limits-past-formulas : 16 < c .formulas → false ≡ limitsHold c
+            unfolding limitsHold
+            limits-past-formulas l =
+                let one = le-leb 1 (c .formulas) formulas in
+                let past = lt-leb (c .formulas) 16 l in
+                rw (le-leb 1 (c .atoms) some, le-leb (c .atoms) 64 atoms, le-leb (c .clauses) 256 clauses, few, one, past)
+
+            module _ (most : c .formulas ≤ 16) where
+              edition-decides : isEdition (c .edition) ≡ limitsHold c
+              unfolding limitsHold
+              edition-decides =
+                  let one = le-leb 1 (c .formulas) formulas in
+                  let top = le-leb (c .formulas) 16 most in
+                  rw (le-leb 1 (c .atoms) some, le-leb (c .atoms) 64 atoms, le-leb (c .clauses) 256 clauses, few, one, top)
+
+              pub limits-editionless : c .edition < 1 → false ≡ limitsHold c
+              limits-editionless l = ap (λ (b : Bool). b && leb (c .edition) 2) (sym (lt-leb 1 (c .edition) l)) ∙ edition-decides
+
+              pub limits-last : 1 ≤ c .edition → leb (c .edition) 2 ≡ limitsHold c
+              limits-last l = ap (λ (b : Bool). b && leb (c .edition) 2) (sym (le-leb 1 (c .edition) l)) ∙ edition-decides
 
 -- ---- a clause: the first test that fails, or the last
 module _ (n first p q : ℕ) where
@@ -164,28 +180,32 @@ module _ (cl co fo : List ℕ) (h : tablesFull cl co fo ≡ true) where
 
 -- ---- counts within the limits
 module _ (c : Case) (h : limitsHold c ≡ true) where
-  limits : Seven true (leb 1 (c .atoms)) (leb (c .atoms) 64) (leb (c .clauses) 256) (leb (c .constraints) 32)
-      (leb 1 (c .formulas)) (leb (c .formulas) 16)
+  limits : Seven (leb 1 (c .atoms)) (leb (c .atoms) 64) (leb (c .clauses) 256) (leb (c .constraints) 32)
+      (leb 1 (c .formulas)) (leb (c .formulas) 16) (isEdition (c .edition))
   unfolding limitsHold
   limits =
-      seven true (leb 1 (c .atoms)) (leb (c .atoms) 64) (leb (c .clauses) 256) (leb (c .constraints) 32)
-      (leb 1 (c .formulas)) (leb (c .formulas) 16) h
+      seven (leb 1 (c .atoms)) (leb (c .atoms) 64) (leb (c .clauses) 256) (leb (c .constraints) 32)
+      (leb 1 (c .formulas)) (leb (c .formulas) 16) (isEdition (c .edition)) h
 
   pub limits-atoms : (1 ≤ c .atoms) × (c .atoms ≤ 64)
   unfolding Seven
-  limits-atoms = (leb-true 1 (c .atoms) (limits .1), leb-true (c .atoms) 64 (limits .2))
+  limits-atoms = (leb-true 1 (c .atoms) (limits .0), leb-true (c .atoms) 64 (limits .1))
 
   limits-clauses : c .clauses ≤ 256
   unfolding Seven
-  limits-clauses = leb-true (c .clauses) 256 (limits .3)
+  limits-clauses = leb-true (c .clauses) 256 (limits .2)
 
   limits-constraints : c .constraints ≤ 32
   unfolding Seven
-  limits-constraints = leb-true (c .constraints) 32 (limits .4)
+  limits-constraints = leb-true (c .constraints) 32 (limits .3)
 
   limits-formulas : (1 ≤ c .formulas) × (c .formulas ≤ 16)
   unfolding Seven
-  limits-formulas = (leb-true 1 (c .formulas) (limits .5), leb-true (c .formulas) 16 (limits .6))
+  limits-formulas = (leb-true 1 (c .formulas) (limits .4), leb-true (c .formulas) 16 (limits .5))
+
+  limits-edition : isEdition (c .edition) ≡ true
+  unfolding Seven
+  limits-edition = limits .6
 
 -- ---- tables that hold as many entries as the counts say
 module _ (c : Case) (cl co fo : List ℕ) (f : tablesFull cl co fo ≡ true) (h : limitsHold c ≡ true) where
@@ -292,6 +312,9 @@ module _ (c : Case) (cl co fo : List ℕ) (h : sound c cl co fo ≡ true) where
 
   pub sound-formulas : (1 ≤ c .formulas) × (c .formulas ≤ 16)
   sound-formulas = limits-formulas c sound-limits
+
+  pub sound-edition : isEdition (c .edition) ≡ true
+  sound-edition = limits-edition c sound-limits
 
   -- each of its formulas
   module _ (q : ℕ) (l : q < c .formulas) where

@@ -1,7 +1,9 @@
 -- Sound cases.
--- From: document 01, "Case tables and sound cases", phrase by phrase; document 02, [5] (a constraint's third word).
+-- From: document 01, "Case tables and sound cases", phrase by phrase; document 02, [5] (a constraint's third word),
+-- [10] ("the case record holds the edition, 1 or 2, any other being unsound").
 --
---   limitsHold c          1 to 64 atoms, at most 256 clauses and 32 constraints, 1 to 16 formulas
+--   isEdition e           there is an edition e: 1 or 2
+--   limitsHold c          1 to 64 atoms, at most 256 clauses and 32 constraints, 1 to 16 formulas, edition 1 or 2
 --   within n p q          every bit of the two words names one of n atoms
 --   bare p q              neither word has a bit
 --   shaped k b            facts and assumptions have no literal (b), rules have one or more; there is no other kind
@@ -24,6 +26,9 @@ use Rattle.program.specs.Case.{constraintKind, nodesOf}
 use Rattle.program.specs.Program.{headsOf}
 use Rattle.program.specs.Cause.{causesAmong}
 
+abbrev pub isEdition : ℕ → Bool
+isEdition e = leb 1 e && leb e 2
+
 unfoldable pub limitsHold : Case → Bool
 limitsHold c =
     leb 1 (c .atoms)
@@ -32,6 +37,7 @@ limitsHold c =
     && leb (c .constraints) 32
     && leb 1 (c .formulas)
     && leb (c .formulas) 16
+    && isEdition (c .edition)
 
 unfoldable pub within : ℕ → ℕ → ℕ → Bool
 within n p q = ltb p (2 ^ n) && ltb q (2 ^ n)

@@ -2,8 +2,8 @@
 ghost use mathlib.Core.Path.{_≡_};
 ghost use Rattle.program.specs.Case.{tablesFull};
 
-// A case: how many entries its lent tables have in use, the observed literals, bit i for atom i, and how many nodes
-// each formula has.
+// A case: how many entries its lent tables have in use, the observed literals, bit i for atom i, how many nodes each
+// formula has, and the edition of its causes.
 pub struct Case {
     pub atoms: usize,
     pub clauses: usize,
@@ -12,6 +12,7 @@ pub struct Case {
     pub plain: u64,
     pub negated: u64,
     pub nodes: [usize; 16],
+    pub edition: usize,
 }
 
 impl Case {
@@ -24,6 +25,8 @@ impl Case {
     pub const FORMULAS: usize = 16;
 
     pub const NODES: usize = 128;
+
+    pub const EDITIONS: usize = 2;
 
     pub const CAUSES: u32 = 10;
 

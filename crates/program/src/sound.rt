@@ -9,7 +9,7 @@ ghost use Rattle.program.specs.Sound.{soundClauses, soundConstraint, sou
 ghost use Rattle.program.specs.Sound.{soundFormula, soundFormulas, sound};
 use crate::case::Case;
 
-// Whether the counts are within the limits.
+// Whether the counts are within the limits, and the edition is one there is.
 pub fn limits_hold(c: Case) -> bool
     ensures { λ r. ⌜ r ≡ limitsHold c ⌝ }
 {
@@ -28,7 +28,13 @@ pub fn limits_hold(c: Case) -> bool
     if c.formulas < 1 {
         return false;
     }
-    c.formulas <= Case::FORMULAS
+    if Case::FORMULAS < c.formulas {
+        return false;
+    }
+    if c.edition < 1 {
+        return false;
+    }
+    c.edition <= Case::EDITIONS
 }
 
 // Whether a body has no literal.
