@@ -4,6 +4,7 @@ use mathlib.Core.List.{List, [], _∷_, _++_, append-nil, append-assoc}
 use Prim.Native.Nat.{ℕ, _+_}
 use Rattle.words.specs.OneBit.{withoutBit, LowestOf}
 use Rattle.words.proofs.Bits.{has-zero}
+use Rattle.program.specs.declared.cause.Causes.{Causes}
 use Rattle.planes.specs.Fill.{Filled}
 use Rattle.cost.specs.declared.cheapest.Cheapest.{Cheapest}
 use Rattle.cost.specs.Cost.{costUnder}
@@ -15,7 +16,7 @@ use Rattle.cost.proofs.Lanes.{settings-at-none, settings-at-lowest}
 pub record Choosing (pr x y : List ℕ) (first w : ℕ) (best r : Cheapest) (left : ℕ) : Type 0 where
   pub passed : List ℕ
   pub all-are : passed ++ settingsAt first left 64 ≡ settingsAt first w 64
-  pub chosen : (causes : ℕ) (l : List ℕ) → Filled causes first x y → Chosen (costUnder pr causes) l best
+  pub chosen : (causes : Causes) (l : List ℕ) → Filled causes first x y → Chosen (costUnder pr causes) l best
       → Chosen (costUnder pr causes) (l ++ passed) r
 
 module _ {pr x y : List ℕ} {first w : ℕ} {best : Cheapest} where
@@ -28,7 +29,7 @@ module _ {pr x y : List ℕ} {first w : ℕ} {best : Cheapest} where
 
   module _ {r : Cheapest} {left : ℕ} (k : Choosing pr x y first w best r left) where
     pub choosing-next : {j n : ℕ} {r₁ : Cheapest} → LowestOf left j
-        → ((causes s : ℕ) → Filled causes s x y → n ≡ costUnder pr causes (s + j))
+        → ((causes : Causes) (s : ℕ) → Filled causes s x y → n ≡ costUnder pr causes (s + j))
         → ((f : ℕ → ℕ) (l : List ℕ) → n ≡ f (first + j) → Chosen f l r → Chosen f (l ++ ((first + j) ∷ [])) r₁)
         → Choosing pr x y first w best r₁ (withoutBit left j)
     choosing-next {j} {n} {r₁} b cost with = record {
@@ -40,7 +41,7 @@ module _ {pr x y : List ℕ} {first w : ℕ} {best : Cheapest} where
           (with (costUnder pr causes) (l ++ k .passed) (cost causes first f) (k .chosen causes l f c));
     }
 
-    pub choosing-end : left ≡ 0 → (causes : ℕ) (l : List ℕ) → Filled causes first x y
+    pub choosing-end : left ≡ 0 → (causes : Causes) (l : List ℕ) → Filled causes first x y
         → Chosen (costUnder pr causes) l best → Chosen (costUnder pr causes) (l ++ settingsAt first w 64) r
     choosing-end e causes l f c =
         subst (λ (m : List ℕ). Chosen (costUnder pr causes) (l ++ m) r) all (k .chosen causes l f c)

@@ -19,6 +19,7 @@ use Rattle.words.proofs.Bits.{has-or}
 use Rattle.words.proofs.Words.{has-word}
 use Rattle.words.proofs.Sums.{sum-ext, sum-le, sum-mono, sum-no-bits, sum-without}
 use Rattle.program.specs.declared.cause.Additions.{Additions}
+use Rattle.program.specs.declared.cause.Causes.{Causes}
 use Rattle.program.specs.Setting.{additionsOf}
 use Rattle.planes.specs.Planes.{at}
 use Rattle.planes.specs.Fill.{Filled}
@@ -90,7 +91,7 @@ module _ {pr x y : List ℕ} {j cost left : ℕ} (p : Paying pr x y j cost left)
         low true h = omega arith
         low false h = omega arith
 
-  pub paying-end : left ≡ 0 → j < 64 → (causes s : ℕ) → Filled causes s x y → cost ≡ costUnder pr causes (s + j)
+  pub paying-end : left ≡ 0 → j < 64 → (causes : Causes) (s : ℕ) → Filled causes s x y → cost ≡ costUnder pr causes (s + j)
   unfolding costOf
   paying-end e h causes s f =
       let none = rw e at (p .total-is) in

@@ -13,12 +13,13 @@ use Rattle.words.specs.Choice.{pick}
 use Rattle.words.specs.Below.{sum}
 use Rattle.words.specs.Bits.{has, word}
 use Rattle.program.specs.declared.cause.Additions.{Additions}
+use Rattle.program.specs.declared.cause.Causes.{Causes}
 use Rattle.program.specs.Setting.{additionsOf}
 
 unfoldable pub costOf : List ℕ → Additions → ℕ
 costOf pr x = sum 64 (λ a. pick (has (x .facts) a || has (x .assumptions) a) (getD pr a 0) 0)
 
-abbrev pub costUnder : List ℕ → ℕ → ℕ → ℕ
+abbrev pub costUnder : List ℕ → Causes → ℕ → ℕ
 costUnder pr causes s = costOf pr (additionsOf causes s)
 
 unfoldable pub pricedIn : List ℕ → ℕ

@@ -3,6 +3,7 @@ ghost use mathlib.Core.Path.{_≡_};
 ghost use mathlib.Core.List.{List, [], _∷_, _++_};
 ghost use Prim.Native.Nat.{ℕ, _+_, _≤_, _<_};
 ghost use lib.ListN.{length};
+ghost use Rattle.program.specs.declared.cause.Causes.{Causes};
 ghost use Rattle.program.specs.Case.{priceSize};
 ghost use Rattle.planes.specs.Fill.{Filled};
 ghost use Rattle.cost.specs.Cost.{costUnder, pricedIn};
@@ -79,7 +80,7 @@ pub fn choose(
 ) -> Cheapest
     requires { ⌜ (priceSize ≤ length (now prices)) × (priced ≡ pricedIn (now prices))
         × (minimals .first ≤ 59049) ⌝ }
-    ensures { λ r. ⌜ ((causes : ℕ) (l : List ℕ)
+    ensures { λ r. ⌜ ((causes : Causes) (l : List ℕ)
         → Filled causes (minimals .first) (now (x .entry)) (now (y .entry))
         → Chosen (costUnder (now (prices .entry)) causes) l best
         → Chosen (costUnder (now (prices .entry)) causes) (l ++ laneSettings minimals) r) ⌝ }

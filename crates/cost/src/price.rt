@@ -3,6 +3,7 @@ ghost use mathlib.Core.Path.{_≡_};
 ghost use Prim.Native.Nat.{ℕ, _+_, _≤_, _<_};
 ghost use lib.ListN.{length};
 ghost use Rattle.words.specs.Choice.{pick};
+ghost use Rattle.program.specs.declared.cause.Causes.{Causes};
 ghost use Rattle.program.specs.Case.{priceSize};
 ghost use Rattle.planes.specs.Fill.{Filled};
 ghost use Rattle.cost.specs.Cost.{costUnder, pricedIn};
@@ -36,7 +37,7 @@ fn price_if(on: bool, price: u32) -> u64
 // 0.
 pub fn cost_in(prices: &[u32], priced: u64, x: &[u64; 64], y: &[u64; 64], j: u32) -> u64
     requires { ⌜ (priceSize ≤ length (now prices)) × (priced ≡ pricedIn (now prices)) × (j < 64) ⌝ }
-    ensures { λ r. ⌜ ((causes s : ℕ) → Filled causes s (now (x .entry)) (now (y .entry))
+    ensures { λ r. ⌜ ((causes : Causes) (s : ℕ) → Filled causes s (now (x .entry)) (now (y .entry))
         → r ≡ costUnder (now (prices .entry)) causes (s + j)) ⌝ }
 {
     let mut cost: u64 = 0;

@@ -10,8 +10,8 @@ use lib.Seq.{getD-set-same, getD-set-other}
 use Rattle.words.specs.Below.{any}
 use Rattle.words.specs.Bits.{has}
 use Rattle.words.proofs.Below.{any-ext, any-or}
-use Rattle.program.specs.Cause.{atomsIn}
-use Rattle.program.specs.Setting.{choicesFor, settingsOf, additionsOf}
+use Rattle.program.specs.declared.cause.Causes.{Causes}
+use Rattle.program.specs.Setting.{choicesOf, settingsOf, additionsOf}
 use Rattle.program.proofs.Sets.{additions-facts-of, additions-assumptions-of}
 use Rattle.explanation.specs.Covering.{someDropped, Decodes}
 use Rattle.explanation.specs.Row.{rowBit, droppedAt, Droppable, settingBit, Block}
@@ -21,7 +21,7 @@ and-or : (c u v : Bool) → (c && (u || v)) ≡ ((c && u) || (c && v))
 and-or true u v = refl
 and-or false u v = refl
 
-module _ {p : ℕ → Bool} {first b e causes : ℕ} {weights x y row₀ : List ℕ}
+module _ {p : ℕ → Bool} {first b e : ℕ} {causes : Causes} {weights x y row₀ : List ℕ}
     (k : Block p first b e causes weights x y row₀) (w : ℕ) where
   abbrev row : List ℕ
   row = set row₀ b w
@@ -59,10 +59,10 @@ module _ {p : ℕ → Bool} {first b e causes : ℕ} {weights x y row₀ : List 
 
     module _ (a : ℕ) (h : a < 64) where
       -- a digit of the cause a, where u says that s has it, whose dropping leads to the setting s - n at a place
-      half : (place n : ℕ) (u : Bool) → (u ≡ true → has causes a ≡ true) → (u ≡ true → place ≡ 59072 + (s - n))
-          → (has causes a && (u && rowBit row place)) ≡ (u && settingBit row (s - n))
+      half : (place n : ℕ) (u : Bool) → (u ≡ true → has (causes .all) a ≡ true) → (u ≡ true → place ≡ 59072 + (s - n))
+          → (has (causes .all) a && (u && rowBit row place)) ≡ (u && settingBit row (s - n))
       half place n true f g = ap₂ (λ (t : Bool) (i : ℕ). t && rowBit row i) (f refl) (g refl)
-      half place n false f g = and-false (has causes a)
+      half place n false f g = and-false (has (causes .all) a)
 
       fact-place : fact a ≡ true → 64 * b - weight a + j ≡ 59072 + (s - 1 * weight a)
       fact-place z =
@@ -83,20 +83,20 @@ module _ {p : ℕ → Bool} {first b e causes : ℕ} {weights x y row₀ : List 
           )
 
       -- the test of the cause a is that of what is added for it
-      one : (has causes a && droppedAt row (64 * b) weights x y j a)
+      one : (has (causes .all) a && droppedAt row (64 * b) weights x y j a)
           ≡ (fact a && settingBit row (s - 1 * weight a) || assumption a && settingBit row (s - 2 * weight a))
       one =
-          ap₂ (λ (u v : Bool). has causes a && (u && rowBit row (64 * b - weight a + j)
+          ap₂ (λ (u v : Bool). has (causes .all) a && (u && rowBit row (64 * b - weight a + j)
           || v && rowBit row (64 * b - 2 * weight a + j)))
           (k .filled .facts-are j a l h) (k .filled .assumptions-are j a l h)
-          ∙ and-or (has causes a) _ _
+          ∙ and-or (has (causes .all) a) _ _
           ∙ ap₂ _||_
           (half _ (1 * weight a) (fact a) (additions-facts-of causes s a h) fact-place)
           (half _ (2 * weight a) (assumption a) (additions-assumptions-of causes s a h) assumption-place)
 
     -- the lanes found are those that lack one digit of a setting with its bit
-    pub lane-dropped : (r : ℕ) → Droppable row (64 * b) causes weights x y r
-        → has r j ≡ someDropped (settingBit row) (choicesFor (atomsIn causes)) s
+    pub lane-dropped : (r : ℕ) → Droppable row (64 * b) (causes .all) weights x y r
+        → has r j ≡ someDropped (settingBit row) (choicesOf causes) s
     lane-dropped r d =
         d .lanes-are j l
         ∙ any-ext 64 _ _ one

@@ -15,8 +15,8 @@ use Rattle.words.specs.Bits.{has}
 use Rattle.words.proofs.Tests.{lt-or-le, true-or-false}
 use Rattle.words.proofs.Bits.{has-or}
 use Rattle.words.proofs.Counts.{Within, ones-grow}
-use Rattle.program.specs.Cause.{atomsIn}
-use Rattle.program.specs.Setting.{choicesFor, settingsOf}
+use Rattle.program.specs.declared.cause.Causes.{Causes}
+use Rattle.program.specs.Setting.{choicesOf, settingsOf}
 use Rattle.program.proofs.Settings.{settings-product}
 use Rattle.explanation.specs.Subset.{someProper}
 use Rattle.explanation.specs.Covering.{covers}
@@ -35,15 +35,15 @@ unfolding covers
 proper-covers p cs i z = ap (λ (t : Bool). p i || t) z ∙ or-true (p i)
 
 -- the lanes of w are those of covered settings alone
-pub record Growing (p : ℕ → Bool) (first causes w : ℕ) : Type 0 where
+pub record Growing (p : ℕ → Bool) (first : ℕ) (causes : Causes) (w : ℕ) : Type 0 where
   pub sound : (j : ℕ) → j < 64 → first + j < settingsOf causes → has w j ≡ true
-      → covers p (choicesFor (atomsIn causes)) (first + j) ≡ true
+      → covers p (choicesOf causes) (first + j) ≡ true
 
 -- ---- a block, whose word of the row becomes a word w
-module _ {p : ℕ → Bool} {first b e causes : ℕ} {weights x y row₀ : List ℕ}
+module _ {p : ℕ → Bool} {first b e : ℕ} {causes : Causes} {weights x y row₀ : List ℕ}
     (k : Block p first b e causes weights x y row₀) (inside : b < length row₀) where
   abbrev cs : List ℕ
-  cs = choicesFor (atomsIn causes)
+  cs = choicesOf causes
 
   abbrev row : ℕ → List ℕ
   row w = set row₀ b w
@@ -55,7 +55,7 @@ module _ {p : ℕ → Bool} {first b e causes : ℕ} {weights x y row₀ : List 
   }
 
   -- r has the lanes in which a setting that lacks one digit has its bit
-  module _ (w r : ℕ) (g : Growing p first causes w) (d : Droppable (row w) (64 * b) causes weights x y r) where
+  module _ (w r : ℕ) (g : Growing p first causes w) (d : Droppable (row w) (64 * b) (causes .all) weights x y r) where
     -- ---- the word grows, and has covered settings alone
     -- a setting below lane j that has its bit is covered
     sound-below : (j : ℕ) → j < 64 → first + j < settingsOf causes → (t : ℕ) → t < first + j
@@ -135,7 +135,7 @@ module _ {p : ℕ → Bool} {first b e causes : ℕ} {weights x y row₀ : List 
       covered-all t l = exact 64 (omega arith) t (omega arith) (omega arith)
 
 -- ---- the loop: word b has become w, which has the lanes that explain, and has covered settings alone
-pub record Stands (row₀ : List ℕ) (b e causes : ℕ) (weights x y row : List ℕ) (w : ℕ) : Type 0 where
+pub record Stands (row₀ : List ℕ) (b e : ℕ) (causes : Causes) (weights x y row : List ℕ) (w : ℕ) : Type 0 where
   pub row-is : row ≡ set row₀ b w
   pub from : Within 64 e w
   pub grows : (p : ℕ → Bool) (first : ℕ) → Block p first b e causes weights x y row₀ → Growing p first causes w
@@ -145,14 +145,14 @@ set-again [] i u v = refl
 set-again (z ∷ l) zero u v = refl
 set-again (z ∷ l) (suc i) u v = ap (λ (t : List ℕ). z ∷ t) (set-again l i u v)
 
-module _ {row₀ : List ℕ} {b e causes : ℕ} {weights x y : List ℕ} (inside : b < length row₀) where
+module _ {row₀ : List ℕ} {b e : ℕ} {causes : Causes} {weights x y : List ℕ} (inside : b < length row₀) where
   pub stands-start : Stands row₀ b e causes weights x y (set row₀ b e) e
   stands-start = record { row-is = refl; from = λ j l h. h; grows = λ p first k. growing-start k inside }
 
   module _ {row : List ℕ} {w r : ℕ} (s : Stands row₀ b e causes weights x y row w)
-      (d : Droppable row (64 * b) causes weights x y r) where
-    d-set : Droppable (set row₀ b w) (64 * b) causes weights x y r
-    d-set = subst (λ (l : List ℕ). Droppable l (64 * b) causes weights x y r) (s .row-is) d
+      (d : Droppable row (64 * b) (causes .all) weights x y r) where
+    d-set : Droppable (set row₀ b w) (64 * b) (causes .all) weights x y r
+    d-set = subst (λ (l : List ℕ). Droppable l (64 * b) (causes .all) weights x y r) (s .row-is) d
 
     pub stands-next : Stands row₀ b e causes weights x y (set row b (bitOr w r)) (bitOr w r)
     stands-next = record {
@@ -175,6 +175,6 @@ module _ {row₀ : List ℕ} {b e causes : ℕ} {weights x y : List ℕ} (inside
       size-is = ap length (s .row-is) ∙ length-set row₀ b w ∙ size;
       larger-is = λ p first k j l m. larger-all k inside w r (s .grows p first k) d-set (s .from) f j l m;
       covered = λ p first k.
-          subst (CoveredRow p (choicesFor (atomsIn causes)) (min (first + 64) (settingsOf causes))) (sym (s .row-is))
+          subst (CoveredRow p (choicesOf causes) (min (first + 64) (settingsOf causes))) (sym (s .row-is))
           (covered-all k inside w r (s .grows p first k) d-set (s .from) f);
     }

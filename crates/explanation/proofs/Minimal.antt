@@ -42,8 +42,9 @@ module _ (J K : Judge) (e : (s : ℕ) → J .explains s ≡ K .explains s) (cs :
   minimal-alike = ap₂ (λ (a b : Bool). a && not b) (e s) proper-alike
 
 -- the formulas of a case say nothing of what explains its readings
-pub explains-alike : (c d : Case) (cl co : List ℕ) (s : ℕ) → c .atoms ≡ d .atoms → c .clauses ≡ d .clauses
+pub explains-alike : (c d : Case) (cl co : List ℕ) (s : ℕ) → c .edition ≡ d .edition → c .atoms ≡ d .atoms
+    → c .clauses ≡ d .clauses
     → c .constraints ≡ d .constraints → c .plain ≡ d .plain → c .negated ≡ d .negated
     → explains c cl co s ≡ explains d cl co s
 unfolding setExplains explainsUnder observedTrue
-explains-alike c d cl co s a l k p q = rw (causes-alike c d cl a l, l, k, p, q)
+explains-alike c d cl co s e a l k p q = rw (causes-alike c d cl e a l, l, k, p, q)

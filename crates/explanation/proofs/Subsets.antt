@@ -6,20 +6,21 @@ use mathlib.Core.Bool.{Bool, true, false, not, _&&_, _||_, or-true}
 use mathlib.Core.List.{List, [], _∷_}
 use mathlib.Core.Logic.{_⊎_, inl, inr, ⊎-elim}
 use Prim.Native.Nat.{ℕ, zero, suc, _*_, _/_, _%_, _≤_, _<_}
-use native.Mathlib.Nat.{div-add-mod, div-lt-iff-lt-mul, mul-comm, mul-le-mul-left}
+use native.Mathlib.Nat.{div-add-mod, div-lt-iff-lt-mul, le-trans, mul-comm, mul-le-mul-left}
 use native.Mathlib.Omega.{arith}
 use lib.Dec.{eqb}
+use lib.ListN.{length}
+use lib.Pow.{pow-pos}
 use borrow.Author.Tests.{eqb-true, eqb-false, eq-eqb, ne-eqb, not-true}
 use Rattle.words.proofs.Tests.{and-true-l, and-true-r}
 use Rattle.words.proofs.Below.{any-found, any-true}
 use Rattle.program.specs.Setting.{choicesFor, product}
+use Rattle.program.proofs.Settings.{choices-many}
 use Rattle.explanation.specs.Subset.{subsetOf, properOf, someProper}
 
 -- ---- choice counts
-pub choices-positive : (l : List ℕ) → 0 < product (choicesFor l)
-unfolding choicesFor product
-choices-positive [] = omega arith
-choices-positive (a ∷ l) = let h = choices-positive l in omega arith
+pub choices-positive : (tw : ℕ) (l : List ℕ) → 0 < product (choicesFor tw l)
+choices-positive tw l = le-trans (pow-pos (length l)) (choices-many tw l)
 
 pub factor-positive : (c n : ℕ) → 0 < c * n → 0 < c
 factor-positive zero n h = absurd (omega arith)

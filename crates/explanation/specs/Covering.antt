@@ -3,7 +3,7 @@
 --
 --   covers p cs s         s or a proper subset of s passes the test p
 --   someDropped q cs s    some setting that lacks one digit of s passes the test q
---   weightIn l a          what the digit of the cause a counts, where l are the causes in rising order
+--   weightIn tw l a       what the digit of the cause a counts, where l are the causes in rising order, tw of them twofold
 --   Weights w t           the table t has the weight of each cause of w
 --   Decodes w s x         s is a setting of the causes w, and adds x
 use mathlib.Core.Path.{_≡_}
@@ -15,8 +15,9 @@ use lib.ListN.{getD}
 use Rattle.words.specs.Choice.{pick}
 use Rattle.words.specs.OneBit.{BitOf}
 use Rattle.program.specs.declared.cause.Additions.{Additions}
+use Rattle.program.specs.declared.cause.Causes.{Causes}
 use Rattle.program.specs.Cause.{atomsIn}
-use Rattle.program.specs.Setting.{settingsOf, additionsOf}
+use Rattle.program.specs.Setting.{choiceOf, settingsOf, additionsOf}
 use Rattle.explanation.specs.Subset.{someProper}
 
 unfoldable pub covers : (ℕ → Bool) → List ℕ → ℕ → Bool
@@ -28,13 +29,13 @@ someDropped q [] s = false
 someDropped q (c ∷ cs) s =
     (not (eqb (s % c) 0) && q (c * (s / c))) || someDropped (λ t. q (s % c + c * t)) cs (s / c)
 
-unfoldable pub weightIn : List ℕ → ℕ → ℕ
-weightIn [] a = 0
-weightIn (b ∷ l) a = pick (eqb a b) 1 (3 * weightIn l a)
+unfoldable pub weightIn : ℕ → List ℕ → ℕ → ℕ
+weightIn tw [] a = 0
+weightIn tw (b ∷ l) a = pick (eqb a b) 1 (choiceOf tw b * weightIn tw l a)
 
-abbrev pub Weights : ℕ → List ℕ → Type 0
-Weights w t = (a : ℕ) → BitOf w a → getD t a 0 ≡ weightIn (atomsIn w) a
+abbrev pub Weights : Causes → List ℕ → Type 0
+Weights w t = (a : ℕ) → BitOf (w .all) a → getD t a 0 ≡ weightIn (w .twofold) (atomsIn (w .all)) a
 
-pub record Decodes (w s : ℕ) (x : Additions) : Type 0 where
+pub record Decodes (w : Causes) (s : ℕ) (x : Additions) : Type 0 where
   pub below : s < settingsOf w
   pub adds : x ≡ additionsOf w s

@@ -18,8 +18,8 @@ use lib.ListN.{length, getD}
 use Rattle.words.specs.Choice.{pick}
 use Rattle.words.specs.Below.{any}
 use Rattle.words.specs.Bits.{has}
-use Rattle.program.specs.Cause.{atomsIn}
-use Rattle.program.specs.Setting.{choicesFor, settingsOf}
+use Rattle.program.specs.declared.cause.Causes.{Causes}
+use Rattle.program.specs.Setting.{choicesOf, settingsOf}
 use Rattle.planes.specs.Planes.{at}
 use Rattle.planes.specs.Fill.{Filled}
 use Rattle.explanation.specs.Subset.{someProper}
@@ -46,18 +46,18 @@ pub record Droppable (row : List ℕ) (place causes : ℕ) (weights x y : List �
   pub lanes-are : (j : ℕ) → j < 64 → has r j ≡ any 64 (λ a. has causes a && droppedAt row place weights x y j a)
 
 -- e has the lanes that explain by the test p
-pub record Block (p : ℕ → Bool) (first b e causes : ℕ) (weights x y row : List ℕ) : Type 0 where
+pub record Block (p : ℕ → Bool) (first b e : ℕ) (causes : Causes) (weights x y row : List ℕ) : Type 0 where
   pub place-is : 59072 + first ≡ 64 * b
   pub filled : Filled causes first x y
   pub weights-are : Weights causes weights
   pub explains : (j : ℕ) → j < 64 → first + j < settingsOf causes → has e j ≡ p (first + j)
-  pub covered : CoveredRow p (choicesFor (atomsIn causes)) first row
+  pub covered : CoveredRow p (choicesOf causes) first row
 
 -- r has the lanes of which a proper subset explains, row₁ is the row after it
-pub record Covers (row : List ℕ) (b e causes : ℕ) (weights x y row₁ : List ℕ) (r : ℕ) : Type 0 where
+pub record Covers (row : List ℕ) (b e : ℕ) (causes : Causes) (weights x y row₁ : List ℕ) (r : ℕ) : Type 0 where
   pub size-is : length row₁ ≡ 1848
   pub larger-is : (p : ℕ → Bool) (first : ℕ) → Block p first b e causes weights x y row
       → (j : ℕ) → j < 64 → first + j < settingsOf causes
-      → has r j ≡ someProper p (choicesFor (atomsIn causes)) (first + j)
+      → has r j ≡ someProper p (choicesOf causes) (first + j)
   pub covered : (p : ℕ → Bool) (first : ℕ) → Block p first b e causes weights x y row
-      → CoveredRow p (choicesFor (atomsIn causes)) (min (first + 64) (settingsOf causes)) row₁
+      → CoveredRow p (choicesOf causes) (min (first + 64) (settingsOf causes)) row₁

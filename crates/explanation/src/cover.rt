@@ -6,6 +6,7 @@ ghost use lib.ListN.{length, getD};
 ghost use Rattle.words.specs.Bits.{has};
 ghost use Rattle.words.specs.OneBit.{BitOf};
 ghost use Rattle.explanation.specs.Row.{rowBit, Glued, Droppable, Covers};
+use program::cause::Causes;
 
 // The upper bits of low from bit r on, and behind them the lower bits of high.
 fn glue(low: u64, high: u64, r: u32) -> u64
@@ -60,20 +61,20 @@ pub fn cover(
     row: &mut [u64; 1848],
     b: usize,
     e: u64,
-    causes: u64,
+    causes: Causes,
     weights: &[usize; 64],
     x: &[u64; 64],
     y: &[u64; 64],
 ) -> u64
     requires { ⌜ (length (now row) ≡ 1848) × (923 ≤ b) × (b < 1846)
-        × ((a : ℕ) → BitOf causes a → 2 * getD (now weights) a 0 ≤ 59072) ⌝ }
+        × ((a : ℕ) → BitOf (causes .all) a → 2 * getD (now weights) a 0 ≤ 59072) ⌝ }
     ensures { λ r. ⌜ Covers (now (row .entry)) b e causes (now (weights .entry)) (now (x .entry)) (now (y .entry))
         (now (row .exit)) r ⌝ }
 {
     let mut word = e;
     row[b] = e;
     loop {
-        let larger = dropped(row, 64 * b, causes, weights, x, y);
+        let larger = dropped(row, 64 * b, causes.all, weights, x, y);
         let all = word | larger;
         if all == word {
             break larger;

@@ -17,6 +17,7 @@ use Rattle.logic.proofs.Interpretations.{Good, nothing-good, changed, has-chang
 use Rattle.program.specs.declared.cause.Additions.{Additions}
 use Rattle.program.specs.Program.{programWith}
 use Rattle.program.proofs.Heads.{heads-lt}
+use Rattle.program.specs.declared.cause.Causes.{Causes}
 use Rattle.program.proofs.Sets.{additions-set}
 use Rattle.settle.specs.Rounds.{rounds, roundCount}
 use Rattle.settle.proofs.Steady.{program-steady}
@@ -35,7 +36,7 @@ use Rattle.planes.proofs.Choosing.{differs-none}
 use Rattle.lanes.proofs.LaneRounds.{Settling}
 
 -- the planes ot, of and oh have the opening o in each lane, xs and ys what the settings from first on add
-module _ (cl : List ℕ) (n : ℕ) (o : Opening) (eo : o ≡ openingOf cl n) (causes first : ℕ)
+module _ (cl : List ℕ) (n : ℕ) (o : Opening) (eo : o ≡ openingOf cl n) (causes : Causes) (first : ℕ)
     (ot of oh xs ys t f : List ℕ) (et : Even (o .trues) ot) (ef : Even (o .falses) of) (eh : Even (o .heads) oh)
     (g : Filled causes first xs ys) (c : Changed) (b : Opens ot of oh xs ys t f c) where
   abbrev x : ℕ → Additions

@@ -8,6 +8,7 @@ ghost use Rattle.lanes.specs.Rounds.{addsAt, Settles};
 use crate::decided::decided_in;
 use prepared::dependent::touched;
 use prepared::opening::Opening;
+use program::cause::Causes;
 use round::begin::begin;
 use round::redo::redo;
 
@@ -40,7 +41,7 @@ pub fn run(
     ot: &[u64; 64],
     of: &[u64; 64],
     oh: &[u64; 64],
-    causes: u64,
+    causes: Causes,
     first: usize,
     m: u32,
     x: &[u64; 64],

@@ -15,6 +15,7 @@ use Rattle.words.proofs.Tests.{lt-or-le}
 use Rattle.words.proofs.Bits.{has-zero}
 use Rattle.words.proofs.BitWalks.{has-with}
 use Rattle.program.specs.declared.cause.Additions.{Additions}
+use Rattle.program.specs.declared.cause.Causes.{Causes}
 use Rattle.program.specs.Setting.{additionsOf}
 use Rattle.prepared.specs.Dependents.{Zeros, Spread}
 use Rattle.planes.specs.Planes.{at}
@@ -63,12 +64,12 @@ below-end : (w : ℕ → ℕ) (k : ℕ) (x : List ℕ) → Below w k x → 64 �
 below-end w k x b h j a l m = b j a l m ∙ ap (λ (t : Bool). t && has (w j) a) (lt-ltb j k (omega arith))
 
 -- ---- the planes hold k of the settings from s on; next is what the setting behind them adds
-pub record Filling (causes s : ℕ) (next : Additions) (k : ℕ) (x y : List ℕ) : Type 0 where
+pub record Filling (causes : Causes) (s : ℕ) (next : Additions) (k : ℕ) (x y : List ℕ) : Type 0 where
   pub next-is : next ≡ additionsOf causes (s + k)
   pub facts-are : Below (λ j. additionsOf causes (s + j) .facts) k x
   pub assumptions-are : Below (λ j. additionsOf causes (s + j) .assumptions) k y
 
-module _ (causes s : ℕ) where
+module _ (causes : Causes) (s : ℕ) where
   pub filling-start : (added : Additions) (x y : List ℕ) → added ≡ additionsOf causes s → Zeros x → Zeros y
       → Filling causes s added 0 x y
   filling-start added x y e p q = record {

@@ -8,10 +8,11 @@ ghost use Rattle.prepared.specs.Dependents.{Zeros};
 ghost use Rattle.planes.specs.Planes.{Sizes};
 ghost use Rattle.planes.specs.Fill.{Filled, Even};
 use program::cause::Additions;
+use program::cause::Causes;
 
 // Fills the planes of the facts and of the assumptions of 64 settings from one on, of which the first adds this;
 // answers what the setting behind them adds. The planes are 0 at first.
-pub fn fill(causes: u64, added: Additions, x: &mut [u64; 64], y: &mut [u64; 64]) -> Additions
+pub fn fill(causes: Causes, added: Additions, x: &mut [u64; 64], y: &mut [u64; 64]) -> Additions
     requires { ⌜ Sizes (now x) (now y) × Zeros (now x) × Zeros (now y) ⌝ }
     ensures { λ r. ⌜ ((s : ℕ) → added ≡ additionsOf causes s
         → Filled causes s (now (x .exit)) (now (y .exit)) × (r ≡ additionsOf causes (s + 64))) ⌝ }

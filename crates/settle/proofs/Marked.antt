@@ -9,7 +9,7 @@ use Rattle.words.specs.Bits.{has, word}
 use Rattle.logic.specs.Formula.{valueOf, literalsBelow}
 use Rattle.program.specs.declared.case.Case.{Case}
 use Rattle.program.specs.Program.{clauseAt, clausesOf, addedBelow, headsOf}
-use Rattle.program.specs.Cause.{causesAmong, causesOf, atomsFrom}
+use Rattle.program.specs.Cause.{causesAmong, causesIn, causesOf, atomsFrom}
 use Rattle.program.specs.Setting.{choicesFor, product, digits, digitOf, settingsOf, additionsOf}
 use Rattle.settle.specs.declared.settle.Settled.{Settled}
 use Rattle.settle.specs.Step.{bodiesOf, someTrue, allFalse, nextValue, step}
@@ -22,7 +22,7 @@ record Row : Type 0 where
   clauses : List ℕ
   expected : List Settled
 
--- a case with n atoms, m clauses, one formula of one node, and these observed literals
+-- a case of edition 1 with n atoms, m clauses, one formula of one node, and these observed literals
 abbrev caseOf : ℕ → ℕ → ℕ → ℕ → Case
 caseOf n m p q = record {
   atoms = n;
@@ -32,6 +32,7 @@ caseOf n m p q = record {
   plain = p;
   negated = q;
   nodes = 1 ∷ [];
+  edition = 1;
 }
 
 abbrev answer : ℕ → ℕ → ℕ → ℕ → Settled
@@ -74,7 +75,7 @@ abbrev marked : List Row
 marked = m3 ∷ m9 ∷ m10 ∷ []
 
 marked-settled : map answers marked ≡ map (λ (r : Row). r .expected) marked
-unfolding has word valueOf literalsBelow clauseAt clausesOf addedBelow headsOf causesAmong causesOf atomsFrom
+unfolding has word valueOf literalsBelow clauseAt clausesOf addedBelow headsOf causesAmong causesIn causesOf atomsFrom
     choicesFor product digits digitOf settingsOf additionsOf bodiesOf someTrue allFalse nextValue step
     rounds roundCount sum ones settled
 marked-settled = refl

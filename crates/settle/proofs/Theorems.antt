@@ -59,8 +59,8 @@ module _ (c : Case) (cl co fo : List ℕ) (x : Additions)
   atoms-le : c .atoms ≤ 64
   atoms-le = sound-atoms c cl co fo h .1
 
-  causes-within : causesOf c cl < 2 ^ c .atoms
-  causes-within = causes-of-lt c cl atoms-le
+  causes-within : causesOf c cl .all < 2 ^ c .atoms
+  causes-within = causes-of-lt c cl atoms-le (sound-head c cl co fo h)
 
   set-steady : Steady (programWith cl (c .clauses) x)
   set-steady = program-steady cl (c .clauses) x

@@ -1,7 +1,7 @@
 -- What the operation *settle one setting* answers, on every input.
--- From: document 01, "What each operation refuses"; document 02, [6] (the decided atoms).
+-- From: document 01, "What each operation refuses"; document 02, [6] (the decided atoms), [10] (14 by the product).
 --
---   settleRefusal     0, or 1 a lent table too short, 13 the case isn't sound, 14 the setting is 3^k or more
+--   settleRefusal     0, or 1 a lent table too short, 13 the case isn't sound, 14 the case has no such setting
 --   programOf         the case's program with a setting's facts and assumptions added
 --   refusedWith n     the answer of the refusal n
 --   SettledOne        the answer, part by part

@@ -49,7 +49,7 @@ pub fn settle_one(
         return Answer::refused(13);
     }
     let heads = program::cause::heads(clauses, c.clauses);
-    let causes = program::cause::causes(c.atoms, heads);
+    let causes = program::cause::causes_in(c.edition, c.atoms, clauses, c.clauses, heads);
     if program::cause::settings(causes) <= setting {
         return Answer::refused(14);
     }

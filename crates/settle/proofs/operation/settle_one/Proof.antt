@@ -2,7 +2,7 @@
 -- Assumes nothing.
 use mathlib.Core.Path.{_≡_, sym, ap, _∙_}
 use mathlib.Core.Bool.{true}
-use Prim.Native.Nat.{ℕ, _*_, _≤_, _<_}
+use Prim.Native.Nat.{_*_, _≤_, _<_, min}
 use native.Mathlib.Omega.{arith}
 use lib.ListN.{length}
 use borrow.Author.Needs.{needs}
@@ -10,11 +10,13 @@ use borrow.Author.Tests.{not-true, not-false}
 use Rattle.program.specs.declared.cause.Additions.{Additions}
 use Rattle.program.specs.Case.{tablesFull}
 use Rattle.program.specs.Program.{programWith}
-use Rattle.program.specs.Cause.{causesAmong, causesOf}
+use Rattle.program.specs.declared.cause.Causes.{Causes}
+use Rattle.program.specs.Cause.{causesOf}
 use Rattle.program.specs.Setting.{settingsOf, additionsOf}
 use Rattle.program.specs.Sound.{sound}
 use Rattle.program.proofs.Causes.{causes-of}
-use Rattle.program.proofs.Soundness.{full-clauses, sound-atoms, sound-clauses, sound-few}
+use Rattle.program.proofs.Counting.{capped-is}
+use Rattle.program.proofs.Soundness.{full-clauses, sound-atoms, sound-clauses, sound-settings}
 use Rattle.settle.specs.Rounds.{settled}
 use Rattle.settle.proofs.Answers.{refusal-short, refusal-unsound, refusal-past, refusal-none}
 use Rattle.settle.proofs.Answers.{answer-refused, answer-settled}
@@ -49,11 +51,10 @@ clauses-fit c =
     let f = full-clauses (a .clauses .now) (a .constraints .now) (a .formula .now) (is-full (filled c)) in
     (l, omega arith)
 
-causes-are : (c : tie.After-causes) → let a = entry (filled (c .before .before)) .args in
-    c .causes .result ≡ causesOf (a .c) (a .clauses .now)
+causes-are : (c : tie.After-causes-in) → let a = entry (filled (c .before .before)) .args in
+    c .causes-in .result ≡ causesOf (a .c) (a .clauses .now)
 causes-are c =
-    let a = entry (filled (c .before .before)) .args in
-    c .causes .ensures ∙ ap (causesAmong (a .c .atoms)) (c .before .heads .ensures) ∙ sym (causes-of _ _)
+    c .causes-in .ensures ∙ sym (causes-of _ _)
 
 tables-full-requires : tie.Need-tables-full-requires
 tables-full-requires c κs = search needs
@@ -81,18 +82,23 @@ returns-2 c =
 heads-requires : tie.Need-heads-requires
 heads-requires c κs = clauses-fit c
 
-causes-requires : tie.Need-causes-requires
-causes-requires c κs = sound-atoms _ _ _ _ (is-sound (c .before))
+causes-in-requires : tie.Need-causes-in-requires
+causes-in-requires c κs =
+    let n = sound-atoms _ _ _ _ (is-sound (c .before)) in
+    let l = clauses-fit (c .before) in
+    (n .0, n .1, l .0, l .1, c .heads .ensures)
 
 settings-requires : tie.Need-settings-requires
-settings-requires c κs = rw (causes-are c) (sound-few _ _ _ _ (is-sound (c .before .before)))
+settings-requires c κs = search needs
 
 refused-requires-3 : tie.Need-refused-requires-3
 refused-requires-3 c κs = search needs
 
 settings-are : (c : tie.After-settings) → let a = entry (filled (tested c)) .args in
     c .settings .result ≡ settingsOf (causesOf (a .c) (a .clauses .now))
-settings-are c = c .settings .ensures ∙ ap settingsOf (causes-are (c .before))
+settings-are c =
+    let few = sound-settings _ _ _ _ (is-sound (tested c)) in
+    capped-is _ _ few (c .settings .ensures ∙ ap (λ (w : Causes). min (settingsOf w) 59050) (causes-are (c .before)))
 
 returns-3 : tie.Need-returns-3
 returns-3 c =
@@ -118,7 +124,7 @@ returns-4 c =
     let a = entry (filled (tested d)) .args in
     let below : a .setting < settingsOf (causesOf (a .c) (a .clauses .now)) = omega (arith, settings-are d) in
     let added =
-    c .before .before .added .ensures ∙ ap (λ (w : ℕ). additionsOf w (a .setting)) (causes-are (d .before)) in
+    c .before .before .added .ensures ∙ ap (λ (w : Causes). additionsOf w (a .setting)) (causes-are (d .before)) in
     answer-settled _ _ _ _ _ (c .before .run .result)
     (refusal-none _ _ _ _ _ (is-full (filled (tested d))) (is-sound (tested d)) below)
     (c .before .run .ensures ∙ ap (λ (x : Additions). settled (programWith (a .clauses .now) (a .c .clauses) x)) added)
@@ -134,7 +140,7 @@ settle-one-spec =
     refused-requires-2
     returns-2
     heads-requires
-    causes-requires
+    causes-in-requires
     settings-requires
     refused-requires-3
     returns-3
