@@ -8,7 +8,7 @@ use lib.Bits.{bitAnd}
 use lib.Dec.{ltb}
 use Rattle.words.specs.Bits.{has}
 use Rattle.words.proofs.Bits.{has-zero, has-and, has-or, has-not, differs}
-use Rattle.words.proofs.Words.{has-word}
+use Rattle.words.proofs.Words.{word-lt, has-word}
 use Rattle.words.proofs.Sums.{sum-zeros}
 use Rattle.words.proofs.Counts.{Within}
 use Rattle.logic.specs.declared.interpretation.Interpretation.{Interpretation}
@@ -17,8 +17,6 @@ use Rattle.logic.proofs.Interpretations.{Good, nothing-good, changed, has-chang
 use Rattle.program.specs.declared.cause.Additions.{Additions}
 use Rattle.program.specs.Program.{programWith}
 use Rattle.program.proofs.Heads.{heads-lt}
-use Rattle.program.specs.declared.cause.Causes.{Causes}
-use Rattle.program.proofs.Sets.{additions-set}
 use Rattle.settle.specs.Rounds.{rounds, roundCount}
 use Rattle.settle.proofs.Steady.{program-steady}
 use Rattle.settle.proofs.Reached.{rounds-good}
@@ -28,25 +26,25 @@ use Rattle.prepared.specs.Opening.{openingOf, opened}
 use Rattle.prepared.proofs.Openings.{opened-step}
 use Rattle.round.specs.declared.redo.Changed.{Changed}
 use Rattle.planes.specs.Planes.{at, column}
-use Rattle.planes.specs.Fill.{Filled, Even}
+use Rattle.planes.specs.Fill.{Even}
 use Rattle.round.specs.Begin.{decidedAt, Opens}
-use Rattle.lanes.specs.Rounds.{addsAt}
+use Rattle.lanes.specs.Rounds.{addedIn}
 use Rattle.planes.proofs.Columns.{column-is}
 use Rattle.planes.proofs.Choosing.{differs-none}
 use Rattle.lanes.proofs.LaneRounds.{Settling}
 
--- the planes ot, of and oh have the opening o in each lane, xs and ys what the settings from first on add
-module _ (cl : List ℕ) (n : ℕ) (o : Opening) (eo : o ≡ openingOf cl n) (causes : Causes) (first : ℕ)
+-- the planes ot, of and oh have the opening o in each lane, xs and ys what each lane adds
+module _ (cl : List ℕ) (n : ℕ) (o : Opening) (eo : o ≡ openingOf cl n)
     (ot of oh xs ys t f : List ℕ) (et : Even (o .trues) ot) (ef : Even (o .falses) of) (eh : Even (o .heads) oh)
-    (g : Filled causes first xs ys) (c : Changed) (b : Opens ot of oh xs ys t f c) where
+    (c : Changed) (b : Opens ot of oh xs ys t f c) where
   abbrev x : ℕ → Additions
-  x = addsAt causes first
+  x = addedIn xs ys
 
   facts-fit : (j : ℕ) → x j .facts < 2 ^ 64
-  facts-fit j = additions-set causes _ .facts-fit
+  facts-fit j = word-lt 64 (at xs j)
 
   assumptions-fit : (j : ℕ) → x j .assumptions < 2 ^ 64
-  assumptions-fit j = additions-set causes _ .assumptions-fit
+  assumptions-fit j = word-lt 64 (at ys j)
 
   heads-fit : o .heads < 2 ^ 64
   unfolding openingOf
@@ -60,7 +58,7 @@ module _ (cl : List ℕ) (n : ℕ) (o : Opening) (eo : o ≡ openingOf cl n) (ca
   module _ (j : ℕ) (l : j < 64) where
     true-bit : (a : ℕ) → a < 64 → at t j a ≡ has (opened o (x j) .trues) a
     true-bit a m =
-        b .trues-are a m j l ∙ ap₂ _||_ (et a m j l) (g .facts-are j a l m)
+        b .trues-are a m j l ∙ ap₂ _||_ (et a m j l) (sym (has-word 64 (at xs j) a m))
         ∙ sym (has-or (o .trues) (x j .facts) a)
 
     -- the assumptions that are no heads
@@ -68,7 +66,7 @@ module _ (cl : List ℕ) (n : ℕ) (o : Opening) (eo : o ≡ openingOf cl n) (ca
         → has (bitAnd (x j .assumptions) (2 ^ 64 - 1 - o .heads)) a ≡ (at ys j a && not (at oh j a))
     free-bit a m =
         has-and (x j .assumptions) _ a
-        ∙ ap₂ _&&_ (sym (g .assumptions-are j a l m))
+        ∙ ap₂ _&&_ (has-word 64 (at ys j) a m)
         (has-not 64 (o .heads) a heads-fit m ∙ ap not (sym (eh a m j l)))
 
     false-bit : (a : ℕ) → a < 64 → at f j a ≡ has (opened o (x j) .falses) a
@@ -77,7 +75,7 @@ module _ (cl : List ℕ) (n : ℕ) (o : Opening) (eo : o ≡ openingOf cl n) (ca
         ∙ sym (has-and _ _ a
         ∙ ap₂ _&&_
         (has-or (o .falses) _ a ∙ ap₂ _||_ (sym (ef a m j l)) (free-bit a m))
-        (has-not 64 (x j .facts) a (facts-fit j) m ∙ ap not (sym (g .facts-are j a l m))))
+        (has-not 64 (x j .facts) a (facts-fit j) m ∙ ap not (has-word 64 (at xs j) a m)))
 
     first-column : column t f j ≡ rounds (programWith cl n (x j)) 1
     first-column =

@@ -3,12 +3,11 @@ ghost use mathlib.Core.Path.{_≡_};
 ghost use Prim.Native.Nat.{_≤_, min};
 ghost use Rattle.prepared.specs.Prepared.{Prepared};
 ghost use Rattle.planes.specs.Planes.{Sizes};
-ghost use Rattle.planes.specs.Fill.{Even, Filled};
-ghost use Rattle.lanes.specs.Rounds.{addsAt, Settles};
+ghost use Rattle.planes.specs.Fill.{Even};
+ghost use Rattle.lanes.specs.Rounds.{addedIn, Settles};
 use crate::decided::decided_in;
 use prepared::dependent::touched;
 use prepared::opening::Opening;
-use program::cause::Causes;
 use round::begin::begin;
 use round::redo::redo;
 
@@ -29,8 +28,8 @@ pub struct Sums {
     pub decided: u64,
 }
 
-// Settles the 64 settings from first on, in lanes; answers the sums over the first m of them.
-// opening, causes and first say what the planes ot, of, oh, x and y are filled with.
+// Settles 64 settings, in lanes; answers the sums over the first m of them. The planes x and y have what they add, and
+// ot, of and oh the opening in each lane.
 pub fn run(
     clauses: &[u64],
     n: usize,
@@ -41,8 +40,6 @@ pub fn run(
     ot: &[u64; 64],
     of: &[u64; 64],
     oh: &[u64; 64],
-    causes: Causes,
-    first: usize,
     m: u32,
     x: &[u64; 64],
     y: &[u64; 64],
@@ -51,8 +48,9 @@ pub fn run(
 ) -> Sums
     requires { ⌜ Prepared (now clauses) n opening (now dependents) (now last) (now prev)
         × Even (opening .trues) (now ot) × Even (opening .falses) (now of) × Even (opening .heads) (now oh)
-        × Filled causes first (now x) (now y) × (1 ≤ m) × (m ≤ 64) × Sizes (now t) (now f) ⌝ }
-    ensures { λ r. ⌜ Settles (now (clauses .entry)) n (addsAt causes first) m (now (t .exit)) (now (f .exit)) r ⌝ }
+        × (1 ≤ m) × (m ≤ 64) × Sizes (now t) (now f) ⌝ }
+    ensures { λ r. ⌜ Settles (now (clauses .entry)) n (addedIn (now (x .entry)) (now (y .entry))) m
+        (now (t .exit)) (now (f .exit)) r ⌝ }
 {
     let mut ut = [0u64; 64];
     let mut uf = [0u64; 64];

@@ -13,15 +13,16 @@ use Rattle.logic.specs.Nodes.{oneFormula, formulaOf}
 use Rattle.program.specs.declared.case.Case.{Case}
 use Rattle.program.specs.Case.{formulaSize, partSize, tablesFull, nodesOf}
 use Rattle.program.specs.Program.{programWith}
-use Rattle.program.specs.Cause.{causesOf, atomsIn}
-use Rattle.program.specs.Setting.{choicesFor, settingsOf, additionsOf}
+use Rattle.program.specs.declared.cause.Causes.{Causes}
+use Rattle.program.specs.Cause.{causesOf}
+use Rattle.program.specs.Setting.{choicesOf, settingsOf, additionsOf}
 use Rattle.program.specs.Sound.{limitsHold, sound, soundFormula}
 use Rattle.program.proofs.Causes.{causes-alike}
 use Rattle.program.proofs.MakingSound.{tables-full, limits-hold, formula-passes, formulas-pass}
 use Rattle.program.proofs.Soundness.{full-clauses, full-constraints, full-formula, formula-few, formula-one}
 use Rattle.program.proofs.Soundness.{nodes-length, nodes-first, sound-full, sound-atoms, sound-clauses}
 use Rattle.program.proofs.Soundness.{sound-constraints, sound-formulas, sound-each, sound-clause-table}
-use Rattle.program.proofs.Soundness.{sound-constraint-table, sound-within, sound-causes, sound-rest}
+use Rattle.program.proofs.Soundness.{sound-constraint-table, sound-within, sound-few, sound-rest}
 use Rattle.settle.specs.declared.settle.Settled.{Settled}
 use Rattle.settle.specs.Rounds.{settled}
 use Rattle.settle.specs.Operation.{programOf}
@@ -90,7 +91,7 @@ module _ (c : Case) (cl co fo : List ℕ) (h : sound c cl co fo ≡ true) (q : �
   sound-alone : sound (alone c q) cl co (alonePart c fo q) ≡ true
   sound-alone =
       sym (sound-rest (alone c q) cl co (alonePart c fo q) full-alone limits-alone (sound-clause-table c cl co fo h)
-      (sound-constraint-table c cl co fo h) (sound-within c cl co fo h) (sound-causes c cl co fo h))
+      (sound-constraint-table c cl co fo h) (sound-within c cl co fo h) (sound-few c cl co fo h))
       ∙ formulas-pass (c .atoms) 1 (padded 16 (count ∷ [])) (alonePart c fo q) formula-alone
 
   -- ---- its judge says the same
@@ -101,25 +102,25 @@ module _ (c : Case) (cl co fo : List ℕ) (h : sound c cl co fo ≡ true) (q : �
   K = judgeOf (alone c q) cl co (alonePart c fo q)
 
   same-causes : causesOf (alone c q) cl ≡ causesOf c cl
-  same-causes = causes-alike (alone c q) c cl refl refl
+  same-causes = causes-alike (alone c q) c cl refl refl refl
 
   same-explains : (s : ℕ) → K .explains s ≡ J .explains s
-  same-explains s = explains-alike (alone c q) c cl co s refl refl refl refl refl
+  same-explains s = explains-alike (alone c q) c cl co s refl refl refl refl refl refl
 
   -- what h takes of each settled setting, summed
   same-sum : (h : Settled → ℕ) → sum (settingsIn (alone c q) cl) (λ s. h (settled (programOf (alone c q) cl s)))
       ≡ sum (settingsIn c cl) (λ s. h (settled (programOf c cl s)))
   same-sum h =
-      ap (λ (w : ℕ). sum (settingsOf w) (λ s. h (settled (programWith cl (c .clauses) (additionsOf w s))))) same-causes
+      ap (λ (w : Causes). sum (settingsOf w) (λ s. h (settled (programWith cl (c .clauses) (additionsOf w s))))) same-causes
 
   same-value : (s : ℕ) → K .value 0 s ≡ J .value q s
   same-value s =
-      ap₂ (λ (w : ℕ) (f : Formula). valueOf (settledWith c cl (additionsOf w s)) f) same-causes
+      ap₂ (λ (w : Causes) (f : Formula). valueOf (settledWith c cl (additionsOf w s)) f) same-causes
       (ap formulaOf part-alone)
 
   same-minimals : minimalsIn (alone c q) cl co (alonePart c fo q) ≡ minimalsIn c cl co fo
   same-minimals =
-      ap (λ (w : ℕ). minimalsBelow K (choicesFor (atomsIn w)) (settingsOf w)) same-causes
+      ap (λ (w : Causes). minimalsBelow K (choicesOf w) (settingsOf w)) same-causes
       ∙ minimals-alike K J same-explains _ _
 
   pub query-alone : QueryAlone c cl co fo q

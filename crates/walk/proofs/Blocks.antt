@@ -16,16 +16,19 @@ use Rattle.logic.specs.Interpretation.{valueAt, Disjoint}
 use Rattle.program.specs.declared.case.Case.{Case}
 use Rattle.program.specs.declared.cause.Additions.{Additions}
 use Rattle.program.specs.Program.{Clause, programWith}
-use Rattle.program.specs.Cause.{causesOf, atomsIn}
-use Rattle.program.specs.Setting.{choicesFor, settingsOf, additionsOf}
+use Rattle.program.specs.declared.cause.Causes.{Causes}
+use Rattle.program.specs.Cause.{causesOf}
+use Rattle.program.specs.Setting.{choicesOf, settingsOf, additionsOf}
 use Rattle.program.proofs.Soundness.{sound-formulas, sound-each}
+use Rattle.program.proofs.Soundness.{sound-settings}
 use Rattle.settle.specs.declared.settle.Settled.{Settled}
 use Rattle.settle.specs.Rounds.{settled}
 use Rattle.settle.proofs.Reached.{settled-good}
 use Rattle.planes.specs.Planes.{column, Planes}
 use Rattle.planes.specs.Fill.{Filled}
 use Rattle.lanes.specs.declared.rounds.Sums.{Sums}
-use Rattle.lanes.specs.Rounds.{addsAt, Settles}
+use Rattle.lanes.specs.Rounds.{addedIn, Settles}
+use Rattle.lanes.proofs.Additions.{settles-filled}
 use Rattle.lanes.proofs.LaneRounds.{sums}
 use Rattle.explanation.specs.Explanation.{explainsUnder}
 use Rattle.explanation.specs.Judge.{Judge, judgeOf}
@@ -47,7 +50,7 @@ use Rattle.verdict.specs.Counting.{noCounts}
 use Rattle.verdict.specs.Lane.{queryUnder, Room, Seen}
 use Rattle.verdict.specs.Visited.{Visited}
 use Rattle.walk.specs.Walking.{Bounded, Summed, Walked}
-use Rattle.walk.proofs.Bounds.{settings-few, rounds-few, decided-few, formula-fits}
+use Rattle.walk.proofs.Bounds.{rounds-few, decided-few, formula-fits}
 use Rattle.walk.proofs.MinimalLanes.{minimals-block}
 use Rattle.verdict.proofs.Counting.{minimals-none, minimals-le, counted-none, counted-few}
 use Rattle.verdict.proofs.Asking.{askable-counted}
@@ -62,32 +65,32 @@ abbrev pub noneFound : ℕ → Found
 noneFound n = record { counts = noCounts n; written = 0 }
 
 -- the walk before setting s, whose bit is the first of word b of the row
-pub record Walking (c : Case) (cl co fo pr : List ℕ) (causes end : ℕ) (list₀ work₀ list work row : List ℕ) (f : Found)
+pub record Walking (c : Case) (cl co fo pr : List ℕ) (causes : Causes) (end : ℕ) (list₀ work₀ list work row : List ℕ) (f : Found)
     (r : Sums) (k : Cheapest) (added : Additions) (b s : ℕ) : Type 0 where
   pub place-is : 59072 + s ≡ 64 * b
   pub added-is : added ≡ additionsOf causes s
   pub size-is : length row ≡ 1848
-  pub covered : CoveredRow (judgeOf c cl co fo .explains) (choicesFor (atomsIn causes)) (min s end) row
-  pub visited : Visited (judgeOf c cl co fo) (choicesFor (atomsIn causes)) list₀ work₀ (min s end) f list work
+  pub covered : CoveredRow (judgeOf c cl co fo .explains) (choicesOf causes) (min s end) row
+  pub visited : Visited (judgeOf c cl co fo) (choicesOf causes) list₀ work₀ (min s end) f list work
   pub summed : Summed (judgeOf c cl co fo) (min s end) r
   pub chosen : Chosen (costUnder pr causes)
-      (minimalsBelow (judgeOf c cl co fo) (choicesFor (atomsIn causes)) (min s end)) k
+      (minimalsBelow (judgeOf c cl co fo) (choicesOf causes) (min s end)) k
 
-module _ {c : Case} {cl co fo : List ℕ} {causes end : ℕ} {work₀ : List ℕ}
+module _ {c : Case} {cl co fo : List ℕ} {causes : Causes} {end : ℕ} {work₀ : List ℕ}
     (g : Bounded c cl co fo causes end work₀) where
   abbrev J : Judge
   J = judgeOf c cl co fo
 
   abbrev cs : List ℕ
-  cs = choicesFor (atomsIn causes)
+  cs = choicesOf causes
 
   end-is : end ≡ settingsOf causes
   end-is = g .end-is ∙ ap settingsOf (sym (g .causes-are))
 
   pub end-few : end ≤ 59049
-  end-few = omega (arith, g .end-is, settings-few c cl co fo (g .is-sound))
+  end-few = omega (arith, g .end-is, sound-settings c cl co fo (g .is-sound))
 
-  pub weights-few : (weights : List ℕ) → Weights causes weights → (a : ℕ) → BitOf causes a
+  pub weights-few : (weights : List ℕ) → Weights causes weights → (a : ℕ) → BitOf (causes .all) a
       → 2 * getD weights a 0 ≤ 59072
   weights-few weights w = weights-low causes weights w (omega (arith, end-is, end-few))
 
@@ -118,12 +121,12 @@ module _ {c : Case} {cl co fo : List ℕ} {causes end : ℕ} {work₀ : List ℕ
       {b s : ℕ} (w : Walking c cl co fo pr causes end list₀ work₀ list work row f r best added b s) where
     -- ---- the end
     pub walking-end : end ≤ s
-        → Walked J (costUnder pr (causesOf c cl)) (choicesFor (atomsIn (causesOf c cl))) list₀ work₀ end
+        → Walked J (costUnder pr (causesOf c cl)) (choicesOf (causesOf c cl)) list₀ work₀ end
         (record { found = f; sums = r; cheapest = best }) list work
     walking-end l =
         let there : min s end ≡ end = omega arith in
         let t : Tally = record { found = f; sums = r; cheapest = best } in
-        subst (λ (i : ℕ). Walked J (costUnder pr i) (choicesFor (atomsIn i)) list₀ work₀ end t list work)
+        subst (λ (i : Causes). Walked J (costUnder pr i) (choicesOf i) list₀ work₀ end t list work)
         (g .causes-are) (record {
           visited = subst (λ (n : ℕ). Visited J cs list₀ work₀ n f list work) there (w .visited);
           summed = subst (λ (n : ℕ). Summed J n r) there (w .summed);
@@ -155,25 +158,28 @@ module _ {c : Case} {cl co fo : List ℕ} {causes end : ℕ} {work₀ : List ℕ
       }
 
       -- the first m lanes are those of settings, and d has the sums over them
-      module _ {m : ℕ} {d : Sums} {t u : List ℕ} (em : m ≡ min 64 (end - s))
-          (v : Settles cl (c .clauses) (addsAt causes s) m t u d) where
+      module _ {m : ℕ} {d : Sums} {t u x y : List ℕ} (em : m ≡ min 64 (end - s)) (ex : Filled causes s x y)
+          (vl : Settles cl (c .clauses) (addedIn x y) m t u d) where
+        v : Settles cl (c .clauses) (λ j. additionsOf causes (s + j)) m t u d
+        v = settles-filled ex cl (c .clauses) (omega (arith, em)) vl
+
         -- the case with what setting s + j adds, were i the causes
-        abbrev program : ℕ → ℕ → List Clause
+        abbrev program : Causes → ℕ → List Clause
         program i j = programWith cl (c .clauses) (additionsOf i (s + j))
 
         lane-is : (j : ℕ) → j < 64 → column t u j ≡ settled (program (causesOf c cl) j) .interpretation
         lane-is j q =
-            v .columns-are j q ∙ ap (λ (i : ℕ). settled (program i j) .interpretation) (g .causes-are)
+            v .columns-are j q ∙ ap (λ (i : Causes). settled (program i j) .interpretation) (g .causes-are)
 
         pub lanes-planes : Planes t u
         lanes-planes j q =
             subst (λ (i : Interpretation). Disjoint i) (sym (v .columns-are j q))
-            (settled-good (programWith cl (c .clauses) (addsAt causes s j)) .disjoint)
+            (settled-good (programWith cl (c .clauses) (additionsOf causes (s + j))) .disjoint)
 
         -- what h takes of each settled setting of the block, summed
         block-sum : (h : Settled → ℕ) → sum m (λ j. h (settled (program causes j)))
             ≡ sum m (λ j. h (settled (program (causesOf c cl) j)))
-        block-sum h = ap (λ (i : ℕ). sum m (λ j. h (settled (program i j)))) (g .causes-are)
+        block-sum h = ap (λ (i : Causes). sum m (λ j. h (settled (program i j)))) (g .causes-are)
 
         rounds-block : d .rounds ≡ sum m (λ j. J .rounds (s + j))
         rounds-block = v .rounds-are ∙ block-sum (λ (x : Settled). x .rounds)
@@ -206,7 +212,7 @@ module _ {c : Case} {cl co fo : List ℕ} {causes end : ℕ} {work₀ : List ℕ
             sum-fits (J .decided) (w .summed .decided-are) decided-block (decided-few c cl co fo (g .is-sound))
 
         -- e has the lanes that explain, larger those of which a proper subset explains
-        module _ {e larger : ℕ} {weights x y row₁ : List ℕ} (ew : Weights causes weights) (ex : Filled causes s x y)
+        module _ {e larger : ℕ} {weights row₁ : List ℕ} (ew : Weights causes weights)
             (ee : (j : ℕ) → j < 64 → has e j ≡ explainsUnder c co (valueAt (column t u j)))
             (el : Covers row b e causes weights x y row₁ larger) where
           explains-is : (j : ℕ) → j < 64 → has e j ≡ J .explains (s + j)
@@ -237,7 +243,7 @@ module _ {c : Case} {cl co fo : List ℕ} {causes end : ℕ} {work₀ : List ℕ
 
           -- ms are the minimal settings of the block, and best₁ the cheapest with them
           chosen-next : {ms : Minimals} {best₁ : Cheapest} → MinimalIn e larger m s ms
-              → ((i : ℕ) (l : List ℕ) → Filled i (ms .first) x y → Chosen (costUnder pr i) l best
+              → ((i : Causes) (l : List ℕ) → Filled i (ms .first) x y → Chosen (costUnder pr i) l best
               → Chosen (costUnder pr i) (l ++ laneSettings ms) best₁)
               → Chosen (costUnder pr causes) (minimals (s + m)) best₁
           chosen-next {ms} {best₁} p choose =
@@ -250,7 +256,7 @@ module _ {c : Case} {cl co fo : List ℕ} {causes end : ℕ} {work₀ : List ℕ
               → ((J : Judge) (cs ls ws : List ℕ) → Seen J cs (c .nodes) fo e larger t u m s
               → Visited J cs ls ws s f list work → Visited J cs ls ws (s + m) f₁ list₁ work₁)
               → MinimalIn e larger m s ms
-              → ((i : ℕ) (l : List ℕ) → Filled i (ms .first) x y → Chosen (costUnder pr i) l best
+              → ((i : Causes) (l : List ℕ) → Filled i (ms .first) x y → Chosen (costUnder pr i) l best
               → Chosen (costUnder pr i) (l ++ laneSettings ms) best₁)
               → Walking c cl co fo pr causes end list₀ work₀ list₁ work₁ row₁ f₁ (both r d) best₁ next (b + 1)
               (s + 64)

@@ -1,37 +1,23 @@
--- Bounds of a sound case: how many settings it has, how many rounds settling one takes and atoms it decides, and how
--- long its tables are. Assumes nothing.
+-- Bounds of a sound case: how many rounds settling a setting takes and atoms it decides, and how long its tables are.
+-- Assumes nothing.
 use mathlib.Core.Path.{_≡_}
 use mathlib.Core.Bool.{true}
 use mathlib.Core.List.{List}
-use Prim.Native.Nat.{ℕ, _*_, _^_, _≤_, _<_}
-use native.Mathlib.Nat.{lt-of-lt-of-le}
+use Prim.Native.Nat.{ℕ, _*_, _≤_}
 use native.Mathlib.Omega.{arith}
 use lib.ListN.{length}
-use lib.Pow.{pow-mono}
 use Rattle.program.specs.declared.case.Case.{Case}
 use Rattle.program.specs.Case.{constraintSize, formulaSize}
-use Rattle.program.specs.Cause.{causesOf}
-use Rattle.program.specs.Setting.{settingsOf}
 use Rattle.program.specs.Sound.{sound}
-use Rattle.program.proofs.Causes.{causes-of-lt}
 use Rattle.program.proofs.Soundness.{full-clauses, full-constraints, full-formula, sound-full}
-use Rattle.program.proofs.Soundness.{sound-atoms, sound-clauses, sound-constraints, sound-few}
+use Rattle.program.proofs.Soundness.{sound-atoms, sound-clauses, sound-constraints}
 use Rattle.settle.specs.Rounds.{settled}
 use Rattle.settle.specs.Operation.{programOf}
 use Rattle.settle.proofs.Reached.{good-decided, settled-good}
 use Rattle.settle.proofs.Theorems.{round-count-least, decided-exact}
 use Rattle.explanation.specs.Judge.{judgeOf}
-use Rattle.explanation.proofs.Weighing.{settings-low}
 
 module _ (c : Case) (cl co fo : List ℕ) (h : sound c cl co fo ≡ true) where
-  pub causes-fit : causesOf c cl < 2 ^ 64
-  causes-fit =
-      let l = sound-atoms c cl co fo h .1 in
-      lt-of-lt-of-le (causes-of-lt c cl l) (pow-mono l)
-
-  pub settings-few : settingsOf (causesOf c cl) ≤ 59049
-  settings-few = settings-low (causesOf c cl) causes-fit (sound-few c cl co fo h)
-
   pub rounds-few : (s : ℕ) → judgeOf c cl co fo .rounds s ≤ 64
   rounds-few s = omega (arith, round-count-least c cl co fo s h .at-most, sound-atoms c cl co fo h .1)
 

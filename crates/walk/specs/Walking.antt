@@ -11,6 +11,7 @@ use mathlib.Core.List.{List}
 use Prim.Native.Nat.{ℕ, _≤_}
 use lib.ListN.{length}
 use Rattle.program.specs.declared.case.Case.{Case}
+use Rattle.program.specs.declared.cause.Causes.{Causes}
 use Rattle.program.specs.Program.{headsOf}
 use Rattle.program.specs.Cause.{causesOf}
 use Rattle.program.specs.Setting.{settingsOf}
@@ -26,19 +27,19 @@ use Rattle.verdict.specs.Walk.{minimalsBelow, roundsBelow, decidedBelow}
 use Rattle.verdict.specs.Visited.{Visited}
 use Rattle.walk.specs.declared.walk.Tally.{Tally}
 
-pub record AtHand (c : Case) (cl co fo : List ℕ) (heads causes : ℕ) : Type 0 where
+pub record AtHand (c : Case) (cl co fo : List ℕ) (heads : ℕ) (causes : Causes) : Type 0 where
   pub is-sound : sound c cl co fo ≡ true
   pub heads-are : heads ≡ headsOf cl (c .clauses)
   pub causes-are : causes ≡ causesOf c cl
 
-pub record Bounded (c : Case) (cl co fo : List ℕ) (causes end : ℕ) (work : List ℕ) : Type 0 where
+pub record Bounded (c : Case) (cl co fo : List ℕ) (causes : Causes) (end : ℕ) (work : List ℕ) : Type 0 where
   pub is-sound : sound c cl co fo ≡ true
   pub causes-are : causes ≡ causesOf c cl
   pub end-is : end ≡ settingsOf (causesOf c cl)
   pub work-long : end ≤ length work
 
 -- ot, of and oh have the opening's words in each lane
-pub record Tabled (c : Case) (cl : List ℕ) (causes : ℕ) (o : Opening) (dependents last prev weights ot of oh : List ℕ)
+pub record Tabled (c : Case) (cl : List ℕ) (causes : Causes) (o : Opening) (dependents last prev weights ot of oh : List ℕ)
     : Type 0 where
   pub tables : prepared.Prepared cl (c .clauses) o dependents last prev
   pub weights-are : Weights causes weights

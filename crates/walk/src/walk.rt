@@ -3,8 +3,8 @@ ghost use mathlib.Core.Path.{_≡_};
 ghost use Prim.Native.Nat.{_≤_};
 ghost use lib.ListN.{length};
 ghost use Rattle.program.specs.Case.{priceSize};
-ghost use Rattle.program.specs.Cause.{causesOf, atomsIn};
-ghost use Rattle.program.specs.Setting.{choicesFor, settingsOf};
+ghost use Rattle.program.specs.Cause.{causesOf};
+ghost use Rattle.program.specs.Setting.{choicesOf, settingsOf};
 ghost use Rattle.explanation.specs.Judge.{judgeOf};
 ghost use Rattle.cost.specs.Cost.{costUnder};
 ghost use Rattle.walk.specs.Walking.{AtHand, Bounded, Tabled, Walked};
@@ -23,6 +23,7 @@ use planes::fill::fill;
 use prepared::opening::Opening;
 use program::case::Case;
 use program::cause::Additions;
+use program::cause::Causes;
 use verdict::counts::Counts;
 use verdict::visit::Found;
 use verdict::visit::visit;
@@ -43,7 +44,7 @@ fn visit_all(
     constraints: &[u64],
     formula: &[u8],
     prices: &[u32],
-    causes: u64,
+    causes: Causes,
     opening: Opening,
     dependents: &[u64; 64],
     last: &[usize; 64],
@@ -62,7 +63,7 @@ fn visit_all(
         (now oh) × (length (now row) ≡ 1848) × (priceSize ≤ length (now prices)) ⌝ }
     ensures { λ r. ⌜ Walked (judgeOf c (now (clauses .entry)) (now (constraints .entry)) (now (formula .entry)))
         (costUnder (now (prices .entry)) (causesOf c (now (clauses .entry))))
-        (choicesFor (atomsIn (causesOf c (now (clauses .entry))))) (now (list .entry)) (now (work .entry)) end r
+        (choicesOf (causesOf c (now (clauses .entry)))) (now (list .entry)) (now (work .entry)) end r
         (now (list .exit)) (now (work .exit)) ⌝ }
 {
     let nodes = c.nodes;
@@ -97,8 +98,6 @@ fn visit_all(
             ot,
             of,
             oh,
-            causes,
-            s,
             m,
             &x,
             &y,
@@ -132,7 +131,7 @@ pub fn walk(
     formula: &[u8],
     prices: &[u32],
     heads: u64,
-    causes: u64,
+    causes: Causes,
     end: usize,
     list: &mut [u16],
     work: &mut [u8],
@@ -142,7 +141,7 @@ pub fn walk(
         × (priceSize ≤ length (now prices)) ⌝ }
     ensures { λ r. ⌜ Walked (judgeOf c (now (clauses .entry)) (now (constraints .entry)) (now (formula .entry)))
         (costUnder (now (prices .entry)) (causesOf c (now (clauses .entry))))
-        (choicesFor (atomsIn (causesOf c (now (clauses .entry))))) (now (list .entry)) (now (work .entry)) end r
+        (choicesOf (causesOf c (now (clauses .entry)))) (now (list .entry)) (now (work .entry)) end r
         (now (list .exit)) (now (work .exit)) ⌝ }
 {
     let mut dependents = [0u64; 64];

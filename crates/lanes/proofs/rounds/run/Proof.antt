@@ -10,7 +10,7 @@ use Rattle.prepared.specs.Dependents.{touchedFrom}
 use Rattle.prepared.proofs.Filling.{dependents-words}
 use Rattle.prepared.proofs.Touching.{touched-from}
 use Rattle.planes.specs.Planes.{Sizes}
-use Rattle.lanes.specs.Rounds.{addsAt}
+use Rattle.lanes.specs.Rounds.{addedIn}
 use Rattle.lanes.proofs.FirstRound.{settling-start}
 use Rattle.lanes.proofs.LaneRounds.{Settling, settling-planes, settling-few, settling-small, settling-total}
 use Rattle.lanes.proofs.LaneRounds.{settling-next, settling-end}
@@ -18,11 +18,11 @@ use Rattle.lanes.proofs.rounds.run.Statement.{statement}
 use Rattle.lanes.proofs.rounds.run.Tie as tie
 
 abbrev Inv-loop : tie.InvT-loop
-Inv-loop cl n deps last prev ot of oh causes first m x y t₀ f₀ ut₀ uf₀ valid c₀ total₀ k₀ t f ut uf c total k =
-    Settling cl n (addsAt causes first) m t f c k total × Sizes ut uf
+Inv-loop cl n deps last prev ot of oh m x y t₀ f₀ ut₀ uf₀ valid c₀ total₀ k₀ t f ut uf c total k =
+    Settling cl n (addedIn x y) m t f c k total × Sizes ut uf
 
 abbrev μ-loop : tie.MeasureT-loop
-μ-loop cl n deps last prev ot of oh causes first m x y t₀ f₀ ut₀ uf₀ valid c₀ total₀ k₀ t f ut uf c total k =
+μ-loop cl n deps last prev ot of oh m x y t₀ f₀ ut₀ uf₀ valid c₀ total₀ k₀ t f ut uf c total k =
     64 - k
 
 -- the places before: the first round's, the loop's, and those in the loop
@@ -56,7 +56,7 @@ changed-counted c = c .count .ensures
 few-rounds : (c : tie.Else1 Inv-loop μ-loop) → looped c .loop .k < 64
 few-rounds c =
     let l = looped c in
-    settling-few _ _ _ _ (entry (l .before) .pre .6) _ _ _ _ _ (l .loop .inv .0) (omega arith) (c .if1 .left)
+    settling-few _ _ _ _ (entry (l .before) .pre .5) _ _ _ _ _ (l .loop .inv .0) (omega arith) (c .if1 .left)
 
 heads-are : (c : tie.After-touched Inv-loop μ-loop) → let l = looped (counted (c .before)) in
     let a = entry (l .before) .args in
@@ -66,15 +66,15 @@ heads-are c =
     c .touched .ensures ∙ touched-from _ _ (b .args .dependents .now) (b .pre .0 .dependents-are) _
 
 lowest-requires : tie.Need-lowest-requires Inv-loop μ-loop
-lowest-requires c κs = (c .before .pre .5, c .before .pre .6)
+lowest-requires c κs = (c .before .pre .4, c .before .pre .5)
 
 begin-requires : tie.Need-begin-requires Inv-loop μ-loop
-begin-requires c κs = c .before .before .before .before .pre .7
+begin-requires c κs = c .before .before .before .before .pre .6
 
 loop-holds : tie.Need-loop-holds Inv-loop μ-loop
 loop-holds c =
     let p = entry c .pre in (
-      settling-start _ _ _ (p .0 .opening-is) _ _ _ _ _ _ _ _ _ (p .1) (p .2) (p .3) (p .4) _
+      settling-start _ _ _ (p .0 .opening-is) _ _ _ _ _ _ _ (p .1) (p .2) (p .3) _
           (c .begin .ensures) _,
       record { first-size = refl; second-size = refl },
     )
@@ -83,14 +83,14 @@ cast-rounds : tie.Need-cast-rounds Inv-loop μ-loop
 cast-rounds c =
     let l = c .before .before in
     let small : l .loop .total ≤ 4096 =
-    settling-small _ _ _ _ (entry (l .before) .pre .6) _ _ _ _ _ (l .loop .inv .0) in
+    settling-small _ _ _ _ (entry (l .before) .pre .5) _ _ _ _ _ (l .loop .inv .0) in
     search needs
 
 decided-in-requires : tie.Need-decided-in-requires Inv-loop μ-loop
 decided-in-requires c κs =
     let l = ended c in
     let p = entry (l .before) .pre in
-    (p .5, p .6, settling-planes _ _ _ _ (p .6) _ _ _ _ _ (l .loop .inv .0))
+    (p .4, p .5, settling-planes _ _ _ _ (p .5) _ _ _ _ _ (l .loop .inv .0))
 
 cast-decided : tie.Need-cast-decided Inv-loop μ-loop
 cast-decided c = search needs
@@ -102,7 +102,7 @@ add-total : tie.Need-add-total Inv-loop μ-loop
 add-total c =
     let l = looped (counted c) in
     let valid = opened (l .before) .lowest .result in
-    let total = settling-total _ _ _ _ (entry (l .before) .pre .6) _ _ _ _ _ (l .loop .inv .0) valid (omega arith)
+    let total = settling-total _ _ _ _ (entry (l .before) .pre .5) _ _ _ _ _ (l .loop .inv .0) valid (omega arith)
     (omega arith) in
     omega (arith, changed-counted c, total)
 
@@ -115,7 +115,7 @@ redo-requires : tie.Need-redo-requires Inv-loop μ-loop
 redo-requires c κs =
     let l = looped (counted (gathered c .before)) in
     let p = entry (l .before) .pre in
-    let planes = settling-planes _ _ _ _ (p .6) _ _ _ _ _ (l .loop .inv .0) in
+    let planes = settling-planes _ _ _ _ (p .5) _ _ _ _ _ (l .loop .inv .0) in
     let q = p .0 in
     let i = l .loop .inv in
     (q .clauses-few, q .clauses-held, q .lasts-are, q .linked, planes, i .0 .sizes, i .1)
@@ -132,7 +132,7 @@ loop-again c =
     let l = looped (counted (g .before)) in
     let valid = opened (l .before) .lowest .ensures in
     let e = c .redo .ensures in
-    let next = settling-next _ _ _ _ (entry (l .before) .pre .6) _ _ _ _ _ (l .loop .inv .0) _ _ _ _ _ (omega arith)
+    let next = settling-next _ _ _ _ (entry (l .before) .pre .5) _ _ _ _ _ (l .loop .inv .0) _ _ _ _ _ (omega arith)
     (omega arith) valid (heads-are g) (e .1 .0) (e .0) in
     (rw (changed-counted (g .before)) next, e .1 .1)
 
@@ -140,7 +140,7 @@ returns : tie.Need-returns Inv-loop μ-loop
 returns c =
     let d = c .before in
     let l = ended d in
-    settling-end _ _ _ _ (entry (l .before) .pre .6) _ _ _ _ _ (l .loop .inv .0) (none-changed (d .before .before))
+    settling-end _ _ _ _ (entry (l .before) .pre .5) _ _ _ _ _ (l .loop .inv .0) (none-changed (d .before .before))
     (c .decided-in .ensures)
 
 pub run-spec : {M : Type 1} → statement M

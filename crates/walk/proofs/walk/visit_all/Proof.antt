@@ -121,7 +121,6 @@ run-requires c κs =
       p .trues-even,
       p .falses-even,
       p .heads-even,
-      d .before .fill .ensures _ (l .loop .inv .added-is) .0,
       omega (arith, d .lanes-of .ensures),
       omega (arith, d .lanes-of .ensures),
       record { first-size = refl; second-size = refl },
@@ -134,7 +133,7 @@ add-rounds c =
     omega (
       arith,
       rounds-fit (entry (looped t) .pre .0) (looped t .loop .inv) (t .loop-test .taken) (counted d .lanes-of .ensures)
-          (d .run .ensures),
+          (counted d .before .fill .ensures _ (looped t .loop .inv .added-is) .0) (d .run .ensures),
     )
 
 add-decided : tie.Need-add-decided Inv-loop μ-loop
@@ -144,7 +143,7 @@ add-decided c =
     omega (
       arith,
       decided-fit (entry (looped t) .pre .0) (looped t .loop .inv) (t .loop-test .taken) (counted d .lanes-of .ensures)
-          (d .run .ensures),
+          (counted d .before .fill .ensures _ (looped t .loop .inv .added-is) .0) (d .run .ensures),
     )
 
 explaining-requires : tie.Need-explaining-requires Inv-loop μ-loop
@@ -153,7 +152,8 @@ explaining-requires c κs =
     let t = turn d in
     let p = entry (looped t) .pre .0 in
     let n = constraints-fit _ _ _ _ (p .is-sound) in (
-      lanes-planes p (looped t .loop .inv) (t .loop-test .taken) (counted d .lanes-of .ensures) (d .run .ensures),
+      lanes-planes p (looped t .loop .inv) (t .loop-test .taken) (counted d .lanes-of .ensures)
+          (counted d .before .fill .ensures _ (looped t .loop .inv .added-is) .0) (d .run .ensures),
       n .0,
       n .1,
     )
@@ -230,7 +230,7 @@ loop-again c =
     let p = entry (looped t) .pre in
     let i = looped t .loop .inv in
     let x = m .before .fill .ensures _ (i .added-is) in
-    walking-next (p .0) i (t .loop-test .taken) (m .lanes-of .ensures) (d .run .ensures) (p .1 .weights-are) (x .0)
+    walking-next (p .0) i (t .loop-test .taken) (m .lanes-of .ensures) (x .0) (d .run .ensures) (p .1 .weights-are)
     (e .explaining .ensures) (k .cover .ensures) (x .1) (v .visit .ensures) (q .minimals-of .ensures)
     (c .choose .ensures)
 

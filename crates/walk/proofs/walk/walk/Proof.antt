@@ -2,7 +2,7 @@
 use mathlib.Core.Path.{refl}
 use Prim.Native.Nat.{ℕ}
 use lib.ListN.{getD-replicate, length-replicate}
-use Rattle.program.proofs.Soundness.{sound-few}
+use Rattle.program.proofs.Soundness.{sound-settings}
 use Rattle.walk.proofs.Bounds.{clauses-fit}
 use Rattle.verdict.proofs.Leaving.{list-kept, work-kept}
 use Rattle.walk.proofs.walk.walk.Statement.{statement}
@@ -50,7 +50,7 @@ prepare-requires c κs =
 weigh-requires : tie.Need-weigh-requires
 weigh-requires c κs =
     let p = entry (blank (c .before .before)) .pre .0 in
-    (rw (p .causes-are) (sound-few _ _ _ _ (p .is-sound)), refl)
+    (rw (p .causes-are) (sound-settings _ _ _ _ (p .is-sound)), refl)
 
 broadcast-requires : tie.Need-broadcast-requires
 broadcast-requires c κs = refl
