@@ -22,7 +22,7 @@ use Rattle.program.proofs.MakingSound.{tables-full, limits-hold, formula-passes
 use Rattle.program.proofs.Soundness.{full-clauses, full-constraints, full-formula, formula-few, formula-one}
 use Rattle.program.proofs.Soundness.{nodes-length, nodes-first, sound-full, sound-atoms, sound-clauses}
 use Rattle.program.proofs.Soundness.{sound-constraints, sound-formulas, sound-each, sound-clause-table}
-use Rattle.program.proofs.Soundness.{sound-constraint-table, sound-within, sound-few, sound-rest}
+use Rattle.program.proofs.Soundness.{sound-constraint-table, sound-within, sound-few, sound-edition, sound-rest}
 use Rattle.settle.specs.declared.settle.Settled.{Settled}
 use Rattle.settle.specs.Rounds.{settled}
 use Rattle.settle.specs.Operation.{programOf}
@@ -86,7 +86,7 @@ module _ (c : Case) (cl co fo : List ℕ) (h : sound c cl co fo ≡ true) (q : �
   limits-alone =
       let atoms = sound-atoms c cl co fo h in
       limits-hold (alone c q) (atoms .0) (atoms .1) (sound-clauses c cl co fo h) (sound-constraints c cl co fo h)
-      (omega arith) (omega arith)
+      (omega arith) (omega arith) (sound-edition c cl co fo h)
 
   sound-alone : sound (alone c q) cl co (alonePart c fo q) ≡ true
   sound-alone =

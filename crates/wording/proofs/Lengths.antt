@@ -1,11 +1,15 @@
 -- Laws of the length of a report's lines. Assumes nothing.
 use mathlib.Core.List.{List, [], _∷_, _++_}
+use mathlib.Core.Logic.{⊎-elim}
 use Prim.Native.Nat.{ℕ, zero, suc, _+_, _*_, _^_, _≤_, _<_}
-use native.Mathlib.Nat.{mul-suc}
+use native.Mathlib.Nat.{mul-suc, pow-le-pow-right, zero-lt-suc}
 use native.Mathlib.Omega.{arith}
 use lib.ListN.{length, length-append}
+use Rattle.words.proofs.Tests.{lt-or-le}
+use Rattle.program.specs.declared.cause.Causes.{Causes}
 use Rattle.program.specs.Cause.{atomsIn}
-use Rattle.program.specs.Setting.{digitsOf}
+use Rattle.program.specs.Setting.{digitsOf, settingsOf}
+use Rattle.program.proofs.Settings.{choices-many, settings-product}
 use Rattle.text.specs.Bytes.{bytes}
 use Rattle.output.specs.Decimal.{decimal}
 use Rattle.output.specs.Forms.{spaced, line}
@@ -67,6 +71,20 @@ with-abducible-length zero w ps h = omega arith
 with-abducible-length (suc zero) w ps h = rw (spaced-more, form-length, spaced-one) (omega arith)
 with-abducible-length (suc (suc d)) w ps h = rw (spaced-more, form-length, spaced-one) (omega arith)
 
+-- with at most 59,049 settings there are at most 15 causes, as each has two choices or more
+causes-few : (w : Causes) → settingsOf w ≤ 59049 → length (atomsIn (w .all)) ≤ 15
+causes-few w h =
+    ⊎-elim (λ (l : length (atomsIn (w .all)) < 16). omega arith)
+    (λ (l : 16 ≤ length (atomsIn (w .all))).
+    absurd (omega (
+      arith,
+      h,
+      settings-product w,
+      choices-many (w .twofold) (atomsIn (w .all)),
+      pow-le-pow-right (zero-lt-suc 1) l,
+    )))
+    (lt-or-le (length (atomsIn (w .all))) 16)
+
 module _ (name : ℕ → List ℕ) (short : (a : ℕ) → length (name a) ≤ 16) where
   abducibles-length : (l ds : List ℕ) → length (spaced (abducibles name l ds)) ≤ 25 * length l
   unfolding abducibles
@@ -75,13 +93,14 @@ module _ (name : ℕ → List ℕ) (short : (a : ℕ) → length (name a) ≤ 16
   abducibles-length (a ∷ l) (d ∷ ds) =
       omega (arith, with-abducible-length d (name a) (abducibles name l ds) (short a), abducibles-length l ds)
 
-  module _ (w : ℕ) (few : length (atomsIn w) ≤ 10) where
-    cause-line-length : (s : ℕ) → length (causeLine name w s) ≤ 258
+  module _ (w : Causes) (few : settingsOf w ≤ 59049) where
+    cause-line-length : (s : ℕ) → length (causeLine name w s) ≤ 383
     unfolding causeLine
-    cause-line-length s = rw line-length (omega (arith, abducibles-length (atomsIn w) (digitsOf w s)))
+    cause-line-length s =
+        rw line-length (omega (arith, causes-few w few, abducibles-length (atomsIn (w .all)) (digitsOf w s)))
 
     pub answer-length : (vs : List ℕ) (t : Totals) (l : List ℕ) → length vs ≤ 16 → Short t → length l ≤ 1024
-        → length (answerText name w vs t l) ≤ 264640
+        → length (answerText name w vs t l) ≤ 392640
     unfolding answerText roundsLine decidedLine
     answer-length vs t l g s f =
         let rounds = roundsLine (t .rounds) in
@@ -100,6 +119,6 @@ module _ (name : ℕ → List ℕ) (short : (a : ℕ) → length (name a) ≤ 16
           number-line-length (bytes "rounds") (t .rounds) 7 (decimal-short 6 (t .rounds) (s .rounds-short)),
           number-line-length (bytes "decided") (t .decided) 7 (decimal-short 6 (t .decided) (s .decided-short)),
           minimal-line-length (t .minimal) (length l) (s .minimal-short) (omega arith),
-          lines-length (causeLine name w) 258 cause-line-length l,
+          lines-length (causeLine name w) 383 cause-line-length l,
           cheapest-length (t .minimal) (t .cost),
         )

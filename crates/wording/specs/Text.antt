@@ -15,6 +15,7 @@
 use mathlib.Core.List.{List, [], _∷_, _++_}
 use Prim.Native.Nat.{ℕ, zero, suc}
 use lib.ListN.{length}
+use Rattle.program.specs.declared.cause.Causes.{Causes}
 use Rattle.program.specs.Cause.{atomsIn}
 use Rattle.program.specs.Setting.{digitsOf}
 use Rattle.text.specs.Bytes.{bytes}
@@ -65,10 +66,10 @@ abducibles name (a ∷ l) [] = []
 abducibles name (a ∷ l) (d ∷ ds) = withAbducible d (name a) (abducibles name l ds)
 
 -- "(cause (true N) (false N) ..)"
-unfoldable pub causeLine : (ℕ → List ℕ) → ℕ → ℕ → List ℕ
-causeLine name w s = line (bytes "cause") (abducibles name (atomsIn w) (digitsOf w s))
+unfoldable pub causeLine : (ℕ → List ℕ) → Causes → ℕ → List ℕ
+causeLine name w s = line (bytes "cause") (abducibles name (atomsIn (w .all)) (digitsOf w s))
 
-abbrev pub causeLines : (ℕ → List ℕ) → ℕ → List ℕ → List ℕ
+abbrev pub causeLines : (ℕ → List ℕ) → Causes → List ℕ → List ℕ
 causeLines name w l = linesOf (causeLine name w) l
 
 -- "(cheapest n)"
@@ -80,7 +81,7 @@ unfoldable pub cheapestLines : ℕ → ℕ → List ℕ
 cheapestLines zero c = []
 cheapestLines (suc m) c = cheapestLine c
 
-unfoldable pub answerText : (ℕ → List ℕ) → ℕ → List ℕ → Totals → List ℕ → List ℕ
+unfoldable pub answerText : (ℕ → List ℕ) → Causes → List ℕ → Totals → List ℕ → List ℕ
 answerText name w vs t l =
     verdictLines vs
     ++ (roundsLine (t .rounds)

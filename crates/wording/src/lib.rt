@@ -16,6 +16,8 @@ use output::put;
 use output::put_decimal;
 use output::put_name;
 use output::put_text;
+use program::cause::Causes;
+use program::cause::choice;
 
 // The numbers of an answer that its text shows: the rounds and the decided atoms over all settings, the minimal
 // explanations, and the lowest cost among them.
@@ -108,10 +110,10 @@ fn put_abducible(out: &mut [u8], at: usize, names: &[u8], atom: usize, digit: u6
 }
 
 // Writes what a setting adds, digit by digit, lowest first, a digit for each cause in atom order.
-fn put_abducibles(out: &mut [u8], at: usize, names: &[u8], causes: u64, setting: u64) -> usize
+fn put_abducibles(out: &mut [u8], at: usize, names: &[u8], causes: Causes, setting: u64) -> usize
     requires { ⌜ (nameSize ≤ length (now names))
-        × Room (spaced (abducibles (nameIn (now names)) (atomsIn causes) (digitsOf causes setting))) at ⌝ }
-    ensures { λ r. ⌜ Writes (spaced (abducibles (nameIn (now (names .entry))) (atomsIn causes) (digitsOf causes
+        × Room (spaced (abducibles (nameIn (now names)) (atomsIn (causes .all)) (digitsOf causes setting))) at ⌝ }
+    ensures { λ r. ⌜ Writes (spaced (abducibles (nameIn (now (names .entry))) (atomsIn (causes .all)) (digitsOf causes
         setting)))
         (now (out .entry)) at r (now (out .exit)) ⌝ }
 {
@@ -119,9 +121,10 @@ fn put_abducibles(out: &mut [u8], at: usize, names: &[u8], causes: u64, setting:
     let mut rest = setting;
     let mut atom: u32 = 0;
     while atom < 64 {
-        if words::test(causes, atom) {
-            place = put_abducible(out, place, names, atom as usize, rest % 3);
-            rest = rest / 3;
+        let base = choice(causes.twofold, atom);
+        if words::test(causes.all, atom) {
+            place = put_abducible(out, place, names, atom as usize, rest % base);
+            rest = rest / base;
         }
         atom += 1;
     }
@@ -129,7 +132,7 @@ fn put_abducibles(out: &mut [u8], at: usize, names: &[u8], causes: u64, setting:
 }
 
 // Writes the line of a setting.
-fn cause_line(out: &mut [u8], at: usize, names: &[u8], causes: u64, setting: u64) -> usize
+fn cause_line(out: &mut [u8], at: usize, names: &[u8], causes: Causes, setting: u64) -> usize
     requires { ⌜ (nameSize ≤ length (now names)) × Room (causeLine (nameIn (now names)) causes setting) at ⌝ }
     ensures { λ r. ⌜ Writes (causeLine (nameIn (now (names .entry))) causes setting) (now (out .entry)) at r
         (now (out .exit)) ⌝ }
@@ -140,7 +143,7 @@ fn cause_line(out: &mut [u8], at: usize, names: &[u8], causes: u64, setting: u64
 }
 
 // Writes the lines of the settings of a list.
-fn cause_lines(out: &mut [u8], at: usize, names: &[u8], causes: u64, list: &[u16]) -> usize
+fn cause_lines(out: &mut [u8], at: usize, names: &[u8], causes: Causes, list: &[u16]) -> usize
     requires { ⌜ (nameSize ≤ length (now names)) × Room (causeLines (nameIn (now names)) causes (now list)) at ⌝ }
     ensures { λ r. ⌜ Writes (causeLines (nameIn (now (names .entry))) causes (now (list .entry)))
         (now (out .entry)) at r (now (out .exit)) ⌝ }
@@ -172,7 +175,7 @@ pub fn answer_text(
     verdicts: &[u64],
     totals: Totals,
     names: &[u8],
-    causes: u64,
+    causes: Causes,
     list: &[u16],
 ) -> usize
     requires { ⌜ (nameSize ≤ length (now names))
