@@ -2,6 +2,7 @@
 use mathlib.Core.Path.{_≡_, refl, sym, ap}
 use mathlib.Core.List.{List, [], _∷_, _++_}
 use Prim.Native.Nat.{ℕ, zero, suc}
+use Rattle.program.specs.declared.cause.Causes.{Causes}
 use Rattle.program.specs.Cause.{atomsIn}
 use Rattle.program.specs.Setting.{digitsOf}
 use Rattle.text.specs.Bytes.{bytes}
@@ -81,10 +82,10 @@ pub refusal-text : (n k : ℕ) → refusalText n k ≡ pairText refusedOpening n
 unfolding refusalText
 refusal-text n k = line-two (bytes "refused") (decimal n) (decimal k)
 
-pub cause-text : (name : ℕ → List ℕ) (w s : ℕ)
-    → causeLine name w s ≡ causeOpening ++ (spaced (abducibles name (atomsIn w) (digitsOf w s)) ++ lineEnd)
+pub cause-text : (name : ℕ → List ℕ) (w : Causes) (s : ℕ)
+    → causeLine name w s ≡ causeOpening ++ (spaced (abducibles name (atomsIn (w .all)) (digitsOf w s)) ++ lineEnd)
 unfolding causeLine
-cause-text name w s = line-parts (bytes "cause") (abducibles name (atomsIn w) (digitsOf w s))
+cause-text name w s = line-parts (bytes "cause") (abducibles name (atomsIn (w .all)) (digitsOf w s))
 
 -- ---- what a digit adds for the cause named w
 pub fact-text : (w : List ℕ) → spaced (withAbducible 1 w []) ≡ factOpening ++ (w ++ bytes ")")

@@ -5,6 +5,7 @@ use mathlib.Core.List.{List, [], _++_}
 use Prim.Native.Nat.{ℕ, _+_, _≤_}
 use native.Mathlib.Omega.{arith}
 use lib.ListN.{length, length-append}
+use Rattle.program.specs.declared.cause.Causes.{Causes}
 use Rattle.program.specs.Cause.{atomsIn}
 use Rattle.program.specs.Setting.{digitsOf}
 use Rattle.text.specs.Bytes.{bytes}
@@ -33,8 +34,8 @@ module _ {out out₁ out₂ out₃ : List ℕ} {at i j r : ℕ} where
       → Writes lineEnd out₂ j r out₃ → Writes (numberText opening n) out at r out₃
   number-written opening n a b c = pieces-written a b c
 
-  pub cause-written : (name : ℕ → List ℕ) (w s : ℕ) → Writes causeOpening out at i out₁
-      → Writes (spaced (abducibles name (atomsIn w) (digitsOf w s))) out₁ i j out₂ → Writes lineEnd out₂ j r out₃
+  pub cause-written : (name : ℕ → List ℕ) (w : Causes) (s : ℕ) → Writes causeOpening out at i out₁
+      → Writes (spaced (abducibles name (atomsIn (w .all)) (digitsOf w s))) out₁ i j out₂ → Writes lineEnd out₂ j r out₃
       → Writes (causeLine name w s) out at r out₃
   cause-written name w s a b c = rw cause-text (pieces-written a b c)
 
@@ -46,11 +47,11 @@ pub number-room : (opening : List ℕ) (n : ℕ) {at : ℕ} → Room (numberText
     → at + (length opening + length (decimal n) + 2) ≤ textLimit
 number-room opening n h = pieces-room opening (decimal n) lineEnd h
 
-pub cause-room : (name : ℕ → List ℕ) (w s : ℕ) {at : ℕ} → Room (causeLine name w s) at
-    → at + (8 + length (spaced (abducibles name (atomsIn w) (digitsOf w s)))) ≤ textLimit
+pub cause-room : (name : ℕ → List ℕ) (w : Causes) (s : ℕ) {at : ℕ} → Room (causeLine name w s) at
+    → at + (8 + length (spaced (abducibles name (atomsIn (w .all)) (digitsOf w s)))) ≤ textLimit
 cause-room name w s h =
     omega
-    (arith, pieces-room causeOpening (spaced (abducibles name (atomsIn w) (digitsOf w s))) lineEnd (rw cause-text at h))
+    (arith, pieces-room causeOpening (spaced (abducibles name (atomsIn (w .all)) (digitsOf w s))) lineEnd (rw cause-text at h))
 
 pub form-room : (opening w : List ℕ) {at : ℕ} → Room (opening ++ (w ++ bytes ")")) at
     → at + (length opening + length w + 1) ≤ textLimit

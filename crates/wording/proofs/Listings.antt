@@ -7,6 +7,7 @@ use native.Mathlib.Numerals.{add-one}
 use native.Mathlib.Omega.{arith}
 use lib.ListN.{length, drop, getD, drop-of-length-le, length-append}
 use lib.Seq.{drop-cons}
+use Rattle.program.specs.declared.cause.Causes.{Causes}
 use Rattle.output.specs.Decimal.{decimal}
 use Rattle.output.specs.Writing.{Writes, textLimit, Room}
 use Rattle.output.proofs.Laying.{writes-append}
@@ -64,7 +65,7 @@ pub number-ends : (opening : List ℕ) (n : ℕ) {at r : ℕ} {out u : List ℕ}
 number-ends opening n h = omega (arith, simp length-append at (h .place-is))
 
 -- an answer that lists the settings of a list
-module _ (name : ℕ → List ℕ) (w : ℕ) (vs : List ℕ) (t : Totals) (list : List ℕ) where
+module _ (name : ℕ → List ℕ) (w : Causes) (vs : List ℕ) (t : Totals) (list : List ℕ) where
   answer-text : answerText name w vs t list
       ≡ verdictLines vs
       ++ (numberText roundsOpening (t .rounds)
@@ -93,7 +94,7 @@ module _ (name : ℕ → List ℕ) (w : ℕ) (vs : List ℕ) (t : Totals) (list 
       (writes-append second (writes-append third (writes-append fourth (writes-append lines last)))))
 
 -- an answer on one query
-pub answer-one : (name : ℕ → List ℕ) (w v : ℕ) (t : Totals) (l : List ℕ)
+pub answer-one : (name : ℕ → List ℕ) (w : Causes) (v : ℕ) (t : Totals) (l : List ℕ)
     → answerText name w (v ∷ []) t l
     ≡ verdictLine v
     ++ (roundsLine (t .rounds)

@@ -5,6 +5,7 @@ use Prim.Native.Nat.{ℕ, suc, _<_}
 use native.Mathlib.Nat.{zero-lt-suc}
 use native.Mathlib.Omega.{arith}
 use lib.ListN.{length, getD}
+use Rattle.program.specs.declared.cause.Causes.{Causes}
 use Rattle.program.specs.Cause.{atomsIn}
 use Rattle.program.specs.Setting.{digitsOf}
 use Rattle.program.proofs.Atoms.{atoms-below}
@@ -43,11 +44,11 @@ module _ (f g : ℕ → List ℕ) (agree : (a : ℕ) → a < 64 → f a ≡ g a)
       ap₂ (withAbducible d) (agree a (h 0 (zero-lt-suc (length l))))
       (abducibles-alike l ds (λ i k. h (suc i) (omega arith)))
 
-  cause-line-alike : (w s : ℕ) → causeLine f w s ≡ causeLine g w s
+  cause-line-alike : (w : Causes) (s : ℕ) → causeLine f w s ≡ causeLine g w s
   unfolding causeLine
-  cause-line-alike w s = rw (abducibles-alike (atomsIn w) (digitsOf w s) (atoms-below w))
+  cause-line-alike w s = rw (abducibles-alike (atomsIn (w .all)) (digitsOf w s) (atoms-below (w .all)))
 
-  pub answer-alike : (w : ℕ) (vs : List ℕ) (t : Totals) (l : List ℕ) → answerText f w vs t l ≡ answerText g w vs t l
+  pub answer-alike : (w : Causes) (vs : List ℕ) (t : Totals) (l : List ℕ) → answerText f w vs t l ≡ answerText g w vs t l
   unfolding answerText
   answer-alike w vs t l =
       rw (lines-alike (causeLine f w) (causeLine g w) l (λ i k. cause-line-alike w (getD l i 0)))

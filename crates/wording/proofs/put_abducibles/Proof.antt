@@ -3,7 +3,8 @@
 use borrow.Author.Needs.{needs}
 use native.Mathlib.Omega.{arith}
 use mathlib.Core.Logic.{⊎-elim}
-use Prim.Native.Nat.{_-_}
+use Prim.Native.Nat.{_-_, _≤_}
+use Rattle.program.proofs.Settings.{choice-some}
 use Rattle.names.specs.Row.{nameIn}
 use Rattle.output.proofs.Laying.{writes-length}
 use Rattle.wording.proofs.Abducibles.{AtAtom, atom-start, atom-room, atom-cause, atom-other, atom-end}
@@ -17,8 +18,15 @@ Inv-loop out₀ at names causes setting place₀ rest₀ atom₀ out place rest 
 abbrev μ-loop : tie.MeasureT-loop
 μ-loop out₀ at names causes setting place₀ rest₀ atom₀ out place rest atom = 64 - atom
 
+-- the base of a cause is no 0
+base-some : (c : tie.Then1 Inv-loop μ-loop) → 1 ≤ c .before .before .choice .result
+base-some c = rw (c .before .before .choice .ensures) (choice-some _ _)
+
 loop-holds : tie.Need-loop-holds Inv-loop μ-loop
 loop-holds c = atom-start _ _ _ _ _
+
+choice-requires : tie.Need-choice-requires Inv-loop μ-loop
+choice-requires c κs = search needs
 
 test-requires : tie.Need-test-requires Inv-loop μ-loop
 test-requires c κs = search needs
@@ -26,8 +34,14 @@ test-requires c κs = search needs
 cast-put-abducible : tie.Need-cast-put-abducible Inv-loop μ-loop
 cast-put-abducible c = search needs
 
+rem-put-abducible : tie.Need-rem-put-abducible Inv-loop μ-loop
+rem-put-abducible c = base-some (c .before)
+
 put-abducible-requires : tie.Need-put-abducible-requires Inv-loop μ-loop
 put-abducible-requires c κs = (omega arith, search atom-room)
+
+div-rest : tie.Need-div-rest Inv-loop μ-loop
+div-rest c = base-some (c .before .before .before .before)
 
 add-atom : tie.Need-add-atom Inv-loop μ-loop
 add-atom c = search needs
@@ -53,9 +67,12 @@ put-abducibles-spec =
     Inv-loop
     μ-loop
     loop-holds
+    choice-requires
     test-requires
     cast-put-abducible
+    rem-put-abducible
     put-abducible-requires
+    div-rest
     add-atom
     loop-less
     loop-again
