@@ -62,6 +62,18 @@ costed-after st (Line.query f) = refl
 costed-after st (Line.cost w p s) = costed-push (st .costs) _
 costed-after st (Line.atom w) = refl
 
+-- the editions after a line
+pub editions-after : (st : Said) (y : Line) → length (saidBy st y .editions) ≡ length (st .editions)
+unfolding saidBy
+editions-after st Line.skipped = refl
+editions-after st Line.noForm = refl
+editions-after st (Line.clause k w l) = refl
+editions-after st (Line.constraint k l) = refl
+editions-after st (Line.seen x) = refl
+editions-after st (Line.query f) = refl
+editions-after st (Line.cost w p s) = refl
+editions-after st (Line.atom w) = refl
+
 -- whether a line whose names are known is a second cost
 second-is : (st : Said) (y : Line) → length (st .names) ≤ 64 → Each (Known (st .names)) (lineNames y)
     → let a = costAtom (atomOf (st .names)) y in (ltb a 64 && has (costedIn (st .costs)) a) ≡ isSecondCost st y

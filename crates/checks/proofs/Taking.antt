@@ -45,15 +45,15 @@ use Rattle.checks.specs.Looked.{Formed, Told, LookedAs}
 use Rattle.checks.specs.Progress.{CostAtomIs, Reached}
 use Rattle.checks.specs.Took.{Took, FormTaken, LineTaken}
 use Rattle.checks.proofs.Refusing.{names-refused}
-use Rattle.checks.proofs.Costed.{second-same, costed-same}
+use Rattle.checks.proofs.Costed.{second-same, costed-same, editions-after}
 use Rattle.checks.proofs.Passing.{RoomPasses, textNumber, roomNumber, form-refusal-is, room-passes}
 use Rattle.checks.proofs.Passing.{text-passes, many-refused}
 
 abbrev pub taken : ℕ → Progress → Taken
 taken n p = record { refusal = n; reached = p }
 
-abbrev pub progress : Case → ℕ → Progress
-progress c w = record { found = c; costed = w }
+abbrev pub progress : Case → ℕ → ℕ → Progress
+progress c w n = record { found = c; costed = w; editions = n }
 
 first-of-some : (n m : ℕ) → (n ≡ 0 → ⊥) → firstOf n m ≡ n
 first-of-some zero m h = absurd (h refl)
@@ -166,7 +166,8 @@ module _ {l : List ℕ} {x : Form} (f : Formed l x) {b : Brings} (g : Brought x 
 
             pub form-taken : {r : Case} {v : Lent} {w : ℕ}
                 → StoredAs (lineOf (tokens l)) (withAtomCount c n) (lent cl co fo u pr) r v
-                → w ≡ withAtom (p .costed) a → FormTaken l p (lent cl co fo na pr) (taken 0 (progress r w)) v
+                → w ≡ withAtom (p .costed) a
+                → FormTaken l p (lent cl co fo na pr) (taken 0 (progress r w (p .editions))) v
             form-taken {r} {v} {w} stored q = record {
               kept = kept-trans-all _ _ names-kept v (stored .kept);
               took = λ st g.
@@ -181,6 +182,8 @@ module _ {l : List ℕ} {x : Form} (f : Formed l x) {b : Brings} (g : Brought x 
                       costed-are =
                           q ∙ costed-same _ (withAtomCount c n) _ held names-long-kept (lineOf (tokens l)) all
                           (atom .atom-is few) (g .costed-are);
+                      editions-are =
+                          g .editions-are ∙ sym (editions-after (named st (g .held)) (lineOf (tokens l)));
                     };
                   };
             }

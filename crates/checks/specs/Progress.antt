@@ -1,6 +1,7 @@
--- What the reader knows between two lines: the record, the tables, and which atoms have a cost line, for which neither
--- has a place.
--- From: document 02, [7] ("when a name has a second cost line", also behind a price of 0).
+-- What the reader knows between two lines: the record, the tables, and for which neither has a place: which atoms have
+-- a cost line, and how many edition lines there are.
+-- From: document 02, [7] ("when a name has a second cost line", also behind a price of 0), [10] ("when a second edition
+-- line comes").
 --
 --   costedIn cs         the atoms of the rows cs of costs, bit i for atom i
 --   costAtom at x       the atom of the name of the cost x, by the lookup at, 64 where x is no cost
@@ -9,6 +10,7 @@
 use mathlib.Core.Path.{_≡_}
 use mathlib.Core.List.{List}
 use Prim.Native.Nat.{ℕ, _≤_}
+use lib.ListN.{length}
 use Rattle.words.specs.Bits.{word}
 use Rattle.text.specs.Tokens.{tokens}
 use Rattle.grammar.specs.Line.{Line}
@@ -39,3 +41,4 @@ pub record CostAtomIs (l na : List ℕ) (n r : ℕ) : Type 0 where
 pub record Reached (st : Said) (p : Progress) (t : Lent) : Type 0 where
   pub held : Held st (p .found) t
   pub costed-are : p .costed ≡ costedIn (st .costs)
+  pub editions-are : p .editions ≡ length (st .editions)

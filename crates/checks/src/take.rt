@@ -126,7 +126,11 @@ fn take_form(
     let costed = with_atom(p.costed, atom);
     Taken {
         refusal: 0,
-        reached: Progress { found, costed },
+        reached: Progress {
+            found,
+            costed,
+            editions: p.editions,
+        },
     }
 }
 

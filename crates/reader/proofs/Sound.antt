@@ -1,5 +1,5 @@
 -- What was read of an accepted file is a sound case, with tables filled over any tables of full size. Assumes nothing.
-use mathlib.Core.Path.{_≡_, sym, _∙_}
+use mathlib.Core.Path.{_≡_, refl, sym, _∙_}
 use mathlib.Core.Bool.{true}
 use mathlib.Core.List.{List}
 use Prim.Native.Nat.{ℕ, _+_, _*_, _≤_, _<_}
@@ -19,9 +19,10 @@ use Rattle.store.specs.Lent.{Lent}
 use Rattle.store.specs.Held.{Long}
 use Rattle.store.specs.Saying.{ClauseRow, ConstraintRow, Said}
 use Rattle.store.specs.Tables.{clauseWords, caseSaid, constraintWords, formulaParts, nodeCounts}
+use Rattle.store.proofs.Saying.{last-each}
 use Rattle.store.proofs.Formulas.{over-some}
 use Rattle.store.proofs.FilledRows.{noRow, noConstraint, clause-is, constraint-is, count-is, formula-is}
-use Rattle.reader.proofs.WellFormed.{Rows, ClauseFormed, ConstraintFormed, QueryFormed, query-spells}
+use Rattle.reader.proofs.WellFormed.{Rows, ClauseFormed, ConstraintFormed, QueryFormed, IsEdition, query-spells}
 use Rattle.reader.proofs.WellFormedLines.{Ended}
 use Rattle.reader.proofs.FilledTables.{few-causes-filled}
 
@@ -87,6 +88,7 @@ module _ (st : Said) (t : Lent) (long : Long t) (d : Ended st) where
   limits =
       limits-hold (caseSaid st) (over-some n _ (query 0 (d .query-some) .over-atoms)) few (d .formed .clauses .few)
       (d .formed .constraints .few) (d .query-some) (d .formed .queries .few)
+      (last-each IsEdition 1 (st .editions) refl (d .formed .editions .each))
 
   causes : fewCauses n cl (length (st .clauses)) ≡ true
   causes =

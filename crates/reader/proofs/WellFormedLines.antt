@@ -81,26 +81,27 @@ module _ (ns : List (List ℕ)) (h : length ns ≤ 64) where
     said-formed Line.skipped p b d m = r
     said-formed Line.noForm p b d m = r
     said-formed (Line.clause k w l) p b d m =
-        well-formed _ (r .names)
+        well-formed (r .names)
         (rows-push _ 256 _ _ (r .clauses) (omega (arith, m .clauses-few)) (row-formed k w l (p .0) b (p .1)))
-        (r .constraints) (r .observed) (r .queries)
+        (r .constraints) (r .observed) (r .queries) (r .editions)
     said-formed (Line.constraint k l) p b d m =
-        well-formed _ (r .names) (r .clauses)
+        well-formed (r .names) (r .clauses)
         (rows-push _ 32 _ _ (r .constraints) (omega (arith, m .constraints-few)) (constraint-formed k l b p))
-        (r .observed) (r .queries)
+        (r .observed) (r .queries) (r .editions)
     said-formed (Line.seen x) p b d m =
         let o = literals-below (x ∷ []) p in
-        well-formed _ (r .names) (r .clauses) (r .constraints)
+        well-formed (r .names) (r .clauses) (r .constraints)
         (record {
           plain-lt = or-atoms-lt _ _ _ h (r .observed .plain-lt) (o .plain-lt);
           negated-lt = or-atoms-lt _ _ _ h (r .observed .negated-lt) (o .negated-lt);
         })
-        (r .queries)
+        (r .queries) (r .editions)
     said-formed (Line.query f) p b d m =
-        well-formed _ (r .names) (r .clauses) (r .constraints) (r .observed)
+        well-formed (r .names) (r .clauses) (r .constraints) (r .observed)
         (rows-push _ 16 _ _ (r .queries) (omega (arith, m .queries-few)) (sentence-formed f p (omega arith) d))
+        (r .editions)
     said-formed (Line.cost w x y) p b d m =
-        well-formed _ (r .names) (r .clauses) (r .constraints) (r .observed) (r .queries)
+        well-formed (r .names) (r .clauses) (r .constraints) (r .observed) (r .queries) (r .editions)
     said-formed (Line.atom w) p b d m = r
 
 -- A line

@@ -39,7 +39,7 @@ pub record Zeroed (t u : Lent) : Type 0 where
 pub record Ready (f : List ℕ) (t : Lent) : Type 0 where
   pub short : length f ≤ 32768
   pub long : Long t
-  pub held : Held nothingSaid noCase t
+  pub held : Held nothingSaid (caseSaid nothingSaid) t
 
 abbrev pub refusedAt : ℕ → ℕ → Answer
 refusedAt n k = record { refusal = n; line = k; found = noCase }

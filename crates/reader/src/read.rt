@@ -26,6 +26,19 @@ const NO_CASE: Case = Case {
     plain: 0,
     negated: 0,
     nodes: [0; 16],
+    edition: 0,
+};
+
+// The record before the first line: zeros, and edition 1.
+const NOTHING_READ: Case = Case {
+    atoms: 0,
+    clauses: 0,
+    constraints: 0,
+    formulas: 0,
+    plain: 0,
+    negated: 0,
+    nodes: [0; 16],
+    edition: 1,
 };
 
 // Zeroes the five tables in their sizes.
@@ -82,8 +95,9 @@ fn take_lines(
         (now (prices .exit))) r ⌝ }
 {
     let mut p = Progress {
-        found: NO_CASE,
+        found: NOTHING_READ,
         costed: 0,
+        editions: 0,
     };
     let mut at = 0;
     let mut line: u32 = 1;

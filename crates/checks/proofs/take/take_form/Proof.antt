@@ -54,9 +54,9 @@ store-form-requires c κs =
         names-long = search needs;
         prices-long = long .prices-long;
       },
-      form-storable (entry t .pre .2) (t .before .brings .ensures) (t .text-refusal .ensures) (passed n .if1 .left) _
-          long (n .intern-line .ensures) (m .before .before .cost-atom .ensures) (m .before .is-costed .ensures)
-          (m .room-refusal .ensures) (d .if2 .left),
+      form-storable (entry t .pre .2) (t .before .brings .ensures) (t .text-refusal .ensures) (passed n .if1 .left)
+          (entry t .args .p) long (n .intern-line .ensures) (m .before .before .cost-atom .ensures)
+          (m .before .is-costed .ensures) (m .room-refusal .ensures) (d .if2 .left),
     )
 
 returns-3 : tie.Need-returns-3

@@ -27,6 +27,21 @@ take-line-requires c κs = search (needs, taken-in-limits)
 returns : tie.Need-returns Inv-loop μ-loop
 returns c = search (needs, line-refused)
 
+-- the place before, where the line's end was found
+abbrev ended : tie.After-p Inv-loop μ-loop → tie.After-line-end Inv-loop μ-loop
+ended c =
+    let d = c .before .before .before .before .before .before .before .before .before .before in
+    d .before .before .before .before .before .before .before .before .before .before
+
+add-at : tie.Need-add-at Inv-loop μ-loop
+add-at c = search (needs, ended c .line-end .ensures, ended c .before .before .loop .inv .places)
+
+add-line : tie.Need-add-line Inv-loop μ-loop
+add-line c = search (needs, ended c .before .before .loop .inv .places, ended c .before .loop-test)
+
+loop-less : tie.Need-loop-less Inv-loop μ-loop
+loop-less c = search (needs, ended c .line-end .ensures, ended c .before .before .loop .inv .places)
+
 loop-again : tie.Need-loop-again Inv-loop μ-loop
 loop-again c = search (needs, line-taken)
 
@@ -47,7 +62,7 @@ take-lines-spec =
     (λ c. file-lengths (returns c) .clauses-same) (λ c. file-lengths (returns c) .constraints-same)
     (λ c. file-lengths (returns c) .formula-same) (λ c. file-lengths (returns c) .names-same)
     (λ c. file-lengths (returns c) .prices-same) returns
-    (λ c. search needs) (λ c. search needs) (λ c. search needs) loop-again end-refusal-requires
+    add-at add-line loop-less loop-again end-refusal-requires
     (λ c. file-lengths (returns-2 c) .clauses-same) (λ c. file-lengths (returns-2 c) .constraints-same)
     (λ c. file-lengths (returns-2 c) .formula-same) (λ c. file-lengths (returns-2 c) .names-same)
     (λ c. file-lengths (returns-2 c) .prices-same) returns-2
