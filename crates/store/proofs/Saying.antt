@@ -12,7 +12,7 @@ use Rattle.names.specs.Names.{atomOf}
 use Rattle.store.specs.Prices.{hasCost}
 use Rattle.store.specs.Saying.{Said, lastOr, someOn, atomsBy, encoded, clauseRow, constraintRow, costRow}
 use Rattle.store.specs.Saying.{withClause, withConstraint, withObserved, withQuery, withCost, saidBy}
-use Rattle.store.specs.Saying.{isSecondCost}
+use Rattle.store.specs.Saying.{withEdition, isSecondCost}
 
 pub said-names : (st : Said) (x : Line) → saidBy st x .names ≡ st .names
 unfolding saidBy
@@ -24,6 +24,7 @@ said-names st (Line.seen x) = refl
 said-names st (Line.query f) = refl
 said-names st (Line.cost w p s) = refl
 said-names st (Line.atom w) = refl
+said-names st (Line.edition e) = refl
 
 -- by the kind of the line
 
@@ -54,6 +55,10 @@ module _ (st : Said) where
   unfolding saidBy
   atom-said w = refl
 
+  pub edition-said : (e : ℕ) → saidBy st (Line.edition e) ≡ withEdition st e
+  unfolding saidBy
+  edition-said e = refl
+
   pub clause-no-cost : (k : ℕ) (w : List ℕ) (l : List Literal) → isSecondCost st (Line.clause k w l) ≡ false
   unfolding isSecondCost
   clause-no-cost k w l = refl
@@ -78,6 +83,10 @@ module _ (st : Said) where
   pub atom-no-cost : (w : List ℕ) → isSecondCost st (Line.atom w) ≡ false
   unfolding isSecondCost
   atom-no-cost w = refl
+
+  pub edition-no-cost : (e : ℕ) → isSecondCost st (Line.edition e) ≡ false
+  unfolding isSecondCost
+  edition-no-cost e = refl
 
 -- the literals by a lookup of names
 

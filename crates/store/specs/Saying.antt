@@ -155,6 +155,7 @@ saidBy st (Line.seen x) = withObserved st (x ∷ [])
 saidBy st (Line.query f) = withQuery st (encoded (st .names) f)
 saidBy st (Line.cost w p s) = withCost st (costRow (st .names) w p s)
 saidBy st (Line.atom w) = st
+saidBy st (Line.edition e) = withEdition st e
 
 unfoldable pub isSecondCost : Said → Line → Bool
 isSecondCost st Line.skipped = false
@@ -165,3 +166,4 @@ isSecondCost st (Line.seen x) = false
 isSecondCost st (Line.query f) = false
 isSecondCost st (Line.cost w p s) = hasCost (st .costs) (atomOf (st .names) w)
 isSecondCost st (Line.atom w) = false
+isSecondCost st (Line.edition e) = false
