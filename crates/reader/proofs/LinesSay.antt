@@ -127,21 +127,21 @@ module _ (ns : List (List ℕ)) where
     line-saying (Line.constraint k l) h =
         saying (none .clauses-are)
         (rw (atoms-same _ _ false l h, atoms-same _ _ true l h, map-append, s .constraints-are))
-        (none .plain-are) (none .negated-are) (none .queries-are) (none .costs-are)
-        (none .editions-are)
+        (none .plain-are) (none .negated-are) (none .queries-are) (none .costs-are) (none .editions-are)
     line-saying (Line.seen y) h =
         saying (none .clauses-are) (none .constraints-are)
         (seen-has false (y ∷ []) _ h (s .plain-are)) (seen-has true (y ∷ []) _ h (s .negated-are)) (none .queries-are)
-        (none .costs-are)
-        (none .editions-are)
+        (none .costs-are) (none .editions-are)
     line-saying (Line.query f) h =
         saying (none .clauses-are) (none .constraints-are) (none .plain-are) (none .negated-are)
-        (rw (encoded-same _ _ f h, s .queries-are)) (none .costs-are)
-        (none .editions-are)
+        (rw (encoded-same _ _ f h, s .queries-are)) (none .costs-are) (none .editions-are)
     line-saying (Line.cost w y z) h =
         saying (none .clauses-are) (none .constraints-are) (none .plain-are) (none .negated-are)
         (none .queries-are) (rw (h .0, s .costs-are)) (none .editions-are)
     line-saying (Line.atom w) h = none
+    line-saying (Line.edition e) h =
+        saying (none .clauses-are) (none .constraints-are) (none .plain-are) (none .negated-are) (none .queries-are)
+        (none .costs-are) (rw (s .editions-are))
 
   -- one line that passes, with the names of the lines behind it still to come
   module _ (st : Said) (x : Content) (s : Saying st x) (l : List ℕ) (ls : List (List ℕ)) where

@@ -15,7 +15,7 @@ use Rattle.table.proofs.Filled.{padded-zeros}
 use Rattle.store.specs.Lent.{Lent}
 use Rattle.store.specs.Saying.{Said, nothingSaid}
 use Rattle.store.specs.Tables.{caseWith, caseSaid}
-use Rattle.store.specs.Held.{Long, InLimits, Kept}
+use Rattle.store.specs.Held.{Long, Kept}
 use Rattle.store.proofs.Held.{held-in-limits}
 use Rattle.store.proofs.Lent.{kept-refl-all, kept-trans-all}
 use Rattle.store.proofs.Saying.{last-none}
@@ -23,7 +23,7 @@ use Rattle.store.proofs.KeptTables.{SameLengths, kept-lengths, kept-long}
 use Rattle.checks.specs.declared.progress.Progress.{Progress}
 use Rattle.checks.specs.declared.take.Taken.{Taken}
 use Rattle.checks.specs.Checks.{lineRefusal, saidAfter}
-use Rattle.checks.specs.Progress.{Reached}
+use Rattle.checks.specs.Progress.{Reached, Bounded}
 use Rattle.checks.specs.Took.{Took, TakenAs}
 use Rattle.checks.proofs.Costed.{none-costed}
 use Rattle.reader.specs.declared.read.Answer.{Answer}
@@ -98,14 +98,21 @@ no-lines-taken {f} {t} h = record {
   places = record { short = h .short; near = omega arith; counted = omega arith };
   long = h .long;
   said = nothingSaid;
-  reached = record { held = rw nothing-read (h .held); costed-are = none-costed; editions-are = refl };
+  reached = record {
+    held = rw nothing-read (h .held);
+    costed-are = none-costed;
+    editions-are = refl;
+    editions-few = omega arith;
+  };
   kept = kept-refl-all t;
   rest-is = refl;
 }
 
-pub taken-in-limits : {f : List ℕ} {t₀ t : Lent} {p : Progress} {at line : ℕ} → LinesTaken f t₀ t p at line
-    → InLimits (p .found)
-taken-in-limits {f} {t₀} {t} {p} i = held-in-limits (i .said) (p .found) t (i .reached .held)
+pub taken-bounded : {f : List ℕ} {t₀ t : Lent} {p : Progress} {at line : ℕ} → LinesTaken f t₀ t p at line → Bounded p
+taken-bounded {f} {t₀} {t} {p} i = record {
+  found-few = held-in-limits (i .said) (p .found) t (i .reached .held);
+  editions-few = i .reached .editions-few;
+}
 
 -- the line w of f from place at to place e is taken
 module _ {f : List ℕ} {t₀ t u : Lent} {p : Progress} {at e line : ℕ} {r : Taken} (i : LinesTaken f t₀ t p at line)

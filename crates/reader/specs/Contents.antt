@@ -94,6 +94,7 @@ contentOf ns (Line.seen x) = content [] [] (x ∷ []) [] [] []
 contentOf ns (Line.query f) = content [] [] [] (encoded ns f ∷ []) [] []
 contentOf ns (Line.cost w p s) = content [] [] [] [] (costRow ns w p s ∷ []) []
 contentOf ns (Line.atom w) = noContent
+contentOf ns (Line.edition e) = content [] [] [] [] [] (e ∷ [])
 
 -- what lines say, one after the other
 unfoldable pub contents : List (List ℕ) → List (List ℕ) → Content

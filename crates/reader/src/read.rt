@@ -209,8 +209,8 @@ fn early_refusal(
 }
 
 // Reads a case file into five lent tables. Refuses with 1 a table shorter than its size, with 2 a file over 32,768
-// bytes, both of which touch nothing; with 3 to 10, 16 and 17 the first bad line, with 11 a file without query, with 12
-// one with more than ten causes, each of which leaves the tables zero in their sizes.
+// bytes, both of which touch nothing; with 3 to 10, 16, 17, 20 and 21 the first bad line, with 11 a file without query,
+// with 12 one with more than ten causes, each of which leaves the tables zero in their sizes.
 pub fn read(
     file: &[u8],
     clauses: &mut [u64],

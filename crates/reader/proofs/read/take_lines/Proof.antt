@@ -4,7 +4,7 @@ use Prim.Native.Nat.{_+_, _-_}
 use lib.ListN.{length}
 use borrow.Author.Needs.{needs}
 use Rattle.store.specs.Lent.{lent}
-use Rattle.reader.proofs.TakingLines.{file-lengths, LinesTaken, no-lines-taken, taken-in-limits, line-taken}
+use Rattle.reader.proofs.TakingLines.{file-lengths, LinesTaken, no-lines-taken, taken-bounded, line-taken}
 use Rattle.reader.proofs.TakingLines.{line-refused}
 use Rattle.reader.proofs.EndChecks.{causes-countable, end-refused, end-accepted}
 use Rattle.reader.proofs.read.take_lines.Statement.{statement}
@@ -22,7 +22,7 @@ loop-holds : tie.Need-loop-holds Inv-loop μ-loop
 loop-holds c = search (needs, no-lines-taken)
 
 take-line-requires : tie.Need-take-line-requires Inv-loop μ-loop
-take-line-requires c κs = search (needs, taken-in-limits)
+take-line-requires c κs = search (needs, taken-bounded)
 
 returns : tie.Need-returns Inv-loop μ-loop
 returns c = search (needs, line-refused)
