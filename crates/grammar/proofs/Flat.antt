@@ -5,6 +5,7 @@
 --   flatTokens ws      the tokens of a flat line from its words ws on
 --   FlatSpells ts x    the words x, if any, are spelled by ts
 --   LineSpells k ws x  the line x is no form, or spelled by the word of kind k and the words ws
+--   OneWord k          a line of kind k with a second word is no form
 -- Assumes nothing.
 use mathlib.Core.Path.{_≡_, refl, sym, ap, _∙_, subst}
 use mathlib.Core.Bool.{true, false, true≢false}
@@ -123,7 +124,7 @@ wordless-line : (k : ℕ) → flatLine k [] ≡ Line.noForm → (x : Words) → 
 wordless-line k n x (inl e) = rw e
 wordless-line k n x (inr e) = rw e n
 
--- a kind of line that has one word
+-- a kind of line that has one word at most
 abbrev OneWord : ℕ → Type 0
 OneWord k = (w v : List ℕ) (ws : List (List ℕ)) → flatLine k (w ∷ (v ∷ ws)) ≡ Line.noForm
 

@@ -38,9 +38,9 @@ asking d = record {
   editions = 0;
 }
 
--- a price, a supplement and n editions alone
-abbrev flat : ℕ → ℕ → ℕ → Brings
-flat p s n = record {
+-- a price p, a supplement s and n editions
+abbrev worded : ℕ → ℕ → ℕ → Brings
+worded p s n = record {
   clauses = 0;
   constraints = 0;
   queries = 0;
@@ -53,11 +53,10 @@ flat p s n = record {
 
 -- a price and a supplement alone
 abbrev pub pricing : ℕ → ℕ → Brings
-pricing p s = flat p s 0
+pricing p s = worded p s 0
 
--- an edition alone
 abbrev pub editing : Brings
-editing = flat 0 0 1
+editing = worded 0 0 1
 
 abbrev pub nothing : Brings
 nothing = pricing 0 0
