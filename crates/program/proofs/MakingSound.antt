@@ -1,7 +1,7 @@
 -- What makes a case sound, phrase by phrase; and that the first words of a table's clauses decide its causes.
 -- Assumes nothing.
-use mathlib.Core.Path.{_≡_, sym, ap, _∙_}
-use mathlib.Core.Bool.{true, false}
+use mathlib.Core.Path.{_≡_, sym, ap, ap₂, _∙_}
+use mathlib.Core.Bool.{Bool, true, false, not, _&&_}
 use mathlib.Core.List.{List}
 use Prim.Native.Nat.{ℕ, _+_, _*_, _/_, _%_, _^_, _≤_, _<_}
 use native.Mathlib.Omega.{arith}
@@ -14,8 +14,9 @@ use Rattle.program.specs.declared.case.Case.{Case}
 use Rattle.logic.specs.Nodes.{oneFormula}
 use Rattle.program.specs.Case.{clauseSize, constraintSize, formulaSize, partSize, tablesFull, nodesOf}
 use Rattle.program.specs.Program.{headsOf}
+use Rattle.program.specs.Cause.{firmlyHeaded, assumedOnly, causesIn}
 use Rattle.program.specs.Sound.{isEdition, limitsHold, within, bare, shaped, soundClause, soundClauses, soundConstraint}
-use Rattle.program.specs.Sound.{soundConstraints, fewCauses, soundFormula, soundFormulas}
+use Rattle.program.specs.Sound.{soundConstraints, fewSettings, soundFormula, soundFormulas}
 use Rattle.program.proofs.Soundness.{clauseTest, constraintTest, formula-fits}
 
 pub tables-full : (cl co fo : List ℕ) → clauseSize ≤ length cl → constraintSize ≤ length co → formulaSize ≤ length fo
@@ -68,6 +69,16 @@ module _ (cl dl : List ℕ) (m : ℕ) (e : (k : ℕ) → k < m → getD cl (3 * 
   unfolding headsOf
   heads-ext = word-ext 64 _ _ (λ a _. any-ext m _ _ (λ k h. ap (λ (x : ℕ). eqb a (x % 64)) (e k h)))
 
-  pub few-causes-ext : (n : ℕ) → fewCauses n cl m ≡ fewCauses n dl m
-  unfolding fewCauses
-  few-causes-ext n = rw heads-ext
+  firmly-ext : (a : ℕ) → firmlyHeaded cl m a ≡ firmlyHeaded dl m a
+  firmly-ext a =
+      any-ext m _ _ (λ k h. ap (λ (x : ℕ). eqb a (x % 64) && not (eqb (x / 64) 1)) (e k h))
+
+  assumed-ext : assumedOnly cl m ≡ assumedOnly dl m
+  unfolding assumedOnly
+  assumed-ext =
+      word-ext 64 _ _
+      (λ a _. ap₂ (λ (b d : Bool). b && not d) (any-ext m _ _ (λ k h. ap (λ (x : ℕ). eqb a (x % 64)) (e k h))) (firmly-ext a))
+
+  pub few-settings-ext : (i n : ℕ) → fewSettings i n cl m ≡ fewSettings i n dl m
+  unfolding fewSettings causesIn
+  few-settings-ext i n = rw (heads-ext, assumed-ext)

@@ -1,7 +1,7 @@
 -- The next setting: what a setting adds, by the digit of its lowest cause, and the walk over the causes that carries a
 -- setting to the next. Assumes nothing.
 use mathlib.Core.Path.{_≡_, refl, sym, ap, ap₂, _∙_}
-use mathlib.Core.Bool.{Bool, true, false, not, _&&_, _||_, and-true, and-false, or-false, or-comm}
+use mathlib.Core.Bool.{Bool, true, false, not, _&&_, _||_, and-true, and-false, or-false, or-comm, true≢false}
 use Prim.Native.Nat.{ℕ, _+_, _/_, _%_, _^_, _<_}
 use native.Mathlib.Omega.{arith}
 use lib.Bits.{bitOr}
@@ -14,7 +14,8 @@ use Rattle.words.proofs.Bits.{has-zero, has-ext}
 use Rattle.words.proofs.Words.{word-lt, has-word, is-word, has-without-one, without-one-lt}
 use Rattle.words.proofs.BitWalks.{has-with, with-lt}
 use Rattle.program.specs.declared.cause.Additions.{Additions}
-use Rattle.program.specs.Setting.{digits, choicesFor, digitOf, additionsOf}
+use Rattle.program.specs.Cause.{causesBy}
+use Rattle.program.specs.Setting.{choiceOf, digits, choicesFor, digitOf, additionsOf}
 use Rattle.program.specs.Digit.{withDigit}
 use Rattle.program.proofs.Atoms.{atoms-zero}
 use Rattle.program.proofs.Settings.{digitFrom, digit-lowest, digit-passed, with-facts, with-assumptions}
@@ -34,153 +35,192 @@ without-with t w i h l e =
 
 -- ---- the atoms with one digit, where a is the lowest cause
 -- the atoms with digit d in setting s of the causes w
-abbrev digitWord : ℕ → ℕ → ℕ → ℕ
-digitWord w s d = word 64 (hasDigit w s d)
+abbrev digitWord : ℕ → ℕ → ℕ → ℕ → ℕ
+digitWord tw w s d = word 64 (hasDigit tw w s d)
 
-module _ (w a : ℕ) (h : LowestOf w a) (d : ℕ) (z : eqb 0 d ≡ false) where
-  word-lowest : (s : ℕ) → digitWord w s d ≡ withBit (eqb (s % 3) d) (digitWord (withoutBit w a) (s / 3) d) a
+module _ (tw w a : ℕ) (h : LowestOf w a) (d : ℕ) (z : eqb 0 d ≡ false) where
+  word-lowest : (s : ℕ) → digitWord tw w s d ≡ withBit (eqb (s % choiceOf tw a) d) (digitWord tw (withoutBit w a) (s / choiceOf tw a) d) a
   word-lowest s =
-      sym (is-word 64 (withBit t y a) (hasDigit w s d) (with-lt t 64 y a (word-lt 64 p) (h .bit .small))
+      sym (is-word 64 (withBit t y a) (hasDigit tw w s d) (with-lt t 64 y a (word-lt 64 p) (h .bit .small))
       (λ b l. has-with t y a b ∙ ap (λ (u : Bool). u || t && eqb b a) (has-word 64 p b l)
       ∙ or-comm (p b) (t && eqb b a)
       ∙ ap (λ (u : Bool). u || p b) (sym (has-with t 0 a b ∙ ap (λ (u : Bool). u || t && eqb b a) (has-zero b)))
-      ∙ gathered-next w s d 0 s w a z (gathered-start w s d) h .bits b))
+      ∙ gathered-next tw w s d 0 s w a z (gathered-start tw w s d) h .bits b))
     where
       t : Bool
-      t = eqb (s % 3) d
+      t = eqb (s % choiceOf tw a) d
 
       p : ℕ → Bool
-      p = hasDigit (withoutBit w a) (s / 3) d
+      p = hasDigit tw (withoutBit w a) (s / choiceOf tw a) d
 
       y : ℕ
       y = word 64 p
 
-  word-here : (s : ℕ) → has (digitWord w s d) a ≡ eqb (s % 3) d
+  word-here : (s : ℕ) → has (digitWord tw w s d) a ≡ eqb (s % choiceOf tw a) d
   word-here s =
-      has-word 64 (hasDigit w s d) a (h .bit .small)
-      ∙ ap (λ (n : ℕ). eqb n d) (digit-lowest w a s a h
-      ∙ ap (λ (t : Bool). pick t (s % 3) (digitFrom (withoutBit w a) 0 64 (s / 3) a)) (eq-eqb a a refl))
+      has-word 64 (hasDigit tw w s d) a (h .bit .small)
+      ∙ ap (λ (n : ℕ). eqb n d) (digit-lowest tw w a s a h
+      ∙ ap (λ (t : Bool). pick t (s % choiceOf tw a) (digitFrom tw (withoutBit w a) 0 64 (s / choiceOf tw a) a)) (eq-eqb a a refl))
 
-  word-later : (t : ℕ) → has (digitWord (withoutBit w a) t d) a ≡ false
+  word-later : (t : ℕ) → has (digitWord tw (withoutBit w a) t d) a ≡ false
   word-later t =
-      has-word 64 (hasDigit (withoutBit w a) t d) a (h .bit .small)
-      ∙ ap (λ (n : ℕ). eqb n d) (digit-passed w a t h) ∙ z
+      has-word 64 (hasDigit tw (withoutBit w a) t d) a (h .bit .small)
+      ∙ ap (λ (n : ℕ). eqb n d) (digit-passed tw w a t h) ∙ z
 
-  word-dropped : (s : ℕ) → withoutBit (digitWord w s d) a ≡ digitWord (withoutBit w a) (s / 3) d
+  word-dropped : (s : ℕ) → withoutBit (digitWord tw w s d) a ≡ digitWord tw (withoutBit w a) (s / choiceOf tw a) d
   word-dropped s =
       ap (λ (x : ℕ). withoutBit x a) (word-lowest s)
-      ∙ without-with (eqb (s % 3) d) (digitWord (withoutBit w a) (s / 3) d) a
-      (word-lt 64 (hasDigit (withoutBit w a) (s / 3) d)) (h .bit .small) (word-later (s / 3))
+      ∙ without-with (eqb (s % choiceOf tw a) d) (digitWord tw (withoutBit w a) (s / choiceOf tw a) d) a
+      (word-lt 64 (hasDigit tw (withoutBit w a) (s / choiceOf tw a) d)) (h .bit .small) (word-later (s / choiceOf tw a))
 
-  word-kept : (s : ℕ) → eqb (s % 3) d ≡ false → digitWord w s d ≡ digitWord (withoutBit w a) (s / 3) d
-  word-kept s e = word-lowest s ∙ ap (λ (t : Bool). withBit t (digitWord (withoutBit w a) (s / 3) d) a) e
+  word-kept : (s : ℕ) → eqb (s % choiceOf tw a) d ≡ false → digitWord tw w s d ≡ digitWord tw (withoutBit w a) (s / choiceOf tw a) d
+  word-kept s e = word-lowest s ∙ ap (λ (t : Bool). withBit t (digitWord tw (withoutBit w a) (s / choiceOf tw a) d) a) e
 
 -- ---- what a setting adds, where a is the lowest cause
-additions-lowest : (w a s : ℕ) → LowestOf w a
-    → additionsOf w s ≡ withDigit (additionsOf (withoutBit w a) (s / 3)) a (s % 3)
+additions-lowest : (tw w a s : ℕ) → LowestOf w a
+    → additionsOf (causesBy tw w) s ≡ withDigit (additionsOf (causesBy tw (withoutBit w a)) (s / choiceOf tw a)) a (s % choiceOf tw a)
 unfolding additionsOf
-additions-lowest w a s h =
-    let x = additionsOf (withoutBit w a) (s / 3) in
-    let p = word-lowest w a h 1 refl s ∙ sym (with-facts x a (s % 3)) in
-    let q = word-lowest w a h 2 refl s ∙ sym (with-assumptions x a (s % 3)) in
+additions-lowest tw w a s h =
+    let x = additionsOf (causesBy tw (withoutBit w a)) (s / choiceOf tw a) in
+    let p = word-lowest tw w a h 1 refl s ∙ sym (with-facts x a (s % choiceOf tw a)) in
+    let q = word-lowest tw w a h 2 refl s ∙ sym (with-assumptions x a (s % choiceOf tw a)) in
     λ i. record { facts = p i; assumptions = q i }
 
-module _ (w a s : ℕ) (h : LowestOf w a) where
-  facts-lowest : has (additionsOf w s .facts) a ≡ eqb (s % 3) 1
+module _ (tw w a s : ℕ) (h : LowestOf w a) where
+  facts-lowest : has (additionsOf (causesBy tw w) s .facts) a ≡ eqb (s % choiceOf tw a) 1
   unfolding additionsOf
-  facts-lowest = word-here w a h 1 refl s
+  facts-lowest = word-here tw w a h 1 refl s
 
-  assumptions-lowest : has (additionsOf w s .assumptions) a ≡ eqb (s % 3) 2
+  assumptions-lowest : has (additionsOf (causesBy tw w) s .assumptions) a ≡ eqb (s % choiceOf tw a) 2
   unfolding additionsOf
-  assumptions-lowest = word-here w a h 2 refl s
+  assumptions-lowest = word-here tw w a h 2 refl s
 
   -- without the lowest cause, whatever its digit
-  facts-without : withoutBit (additionsOf w s .facts) a ≡ additionsOf (withoutBit w a) (s / 3) .facts
+  facts-without : withoutBit (additionsOf (causesBy tw w) s .facts) a ≡ additionsOf (causesBy tw (withoutBit w a)) (s / choiceOf tw a) .facts
   unfolding additionsOf
-  facts-without = word-dropped w a h 1 refl s
+  facts-without = word-dropped tw w a h 1 refl s
 
-  assumptions-without : withoutBit (additionsOf w s .assumptions) a ≡ additionsOf (withoutBit w a) (s / 3) .assumptions
+  assumptions-without : withoutBit (additionsOf (causesBy tw w) s .assumptions) a ≡ additionsOf (causesBy tw (withoutBit w a)) (s / choiceOf tw a) .assumptions
   unfolding additionsOf
-  assumptions-without = word-dropped w a h 2 refl s
+  assumptions-without = word-dropped tw w a h 2 refl s
 
   -- where its digit is another
-  facts-others : eqb (s % 3) 1 ≡ false → additionsOf w s .facts ≡ additionsOf (withoutBit w a) (s / 3) .facts
+  facts-others : eqb (s % choiceOf tw a) 1 ≡ false → additionsOf (causesBy tw w) s .facts ≡ additionsOf (causesBy tw (withoutBit w a)) (s / choiceOf tw a) .facts
   unfolding additionsOf
-  facts-others = word-kept w a h 1 refl s
+  facts-others = word-kept tw w a h 1 refl s
 
-  assumptions-others : eqb (s % 3) 2 ≡ false
-      → additionsOf w s .assumptions ≡ additionsOf (withoutBit w a) (s / 3) .assumptions
+  assumptions-others : eqb (s % choiceOf tw a) 2 ≡ false
+      → additionsOf (causesBy tw w) s .assumptions ≡ additionsOf (causesBy tw (withoutBit w a)) (s / choiceOf tw a) .assumptions
   unfolding additionsOf
-  assumptions-others = word-kept w a h 2 refl s
+  assumptions-others = word-kept tw w a h 2 refl s
 
 -- without causes all settings add the same
-additions-none : (s t : ℕ) → additionsOf 0 s ≡ additionsOf 0 t
+additions-none : (tw s t : ℕ) → additionsOf (causesBy tw 0) s ≡ additionsOf (causesBy tw 0) t
 unfolding additionsOf choicesFor digits digitOf
-additions-none s t = rw atoms-zero refl
+additions-none tw s t = rw atoms-zero refl
 
 -- the setting after s, with its lowest digit e and its other digits t
-additions-next : (w a s t e : ℕ) → LowestOf w a → (s + 1) / 3 ≡ t → (s + 1) % 3 ≡ e
-    → additionsOf w (s + 1) ≡ withDigit (additionsOf (withoutBit w a) t) a e
-additions-next w a s t e h p q =
-    additions-lowest w a (s + 1) h
-    ∙ ap₂ (λ (n d : ℕ). withDigit (additionsOf (withoutBit w a) n) a d) p q
+additions-next : (tw w a s t e : ℕ) → LowestOf w a → (s + 1) / choiceOf tw a ≡ t → (s + 1) % choiceOf tw a ≡ e
+    → additionsOf (causesBy tw w) (s + 1) ≡ withDigit (additionsOf (causesBy tw (withoutBit w a)) t) a e
+additions-next tw w a s t e h p q =
+    additions-lowest tw w a (s + 1) h
+    ∙ ap₂ (λ (n d : ℕ). withDigit (additionsOf (causesBy tw (withoutBit w a)) n) a d) p q
 
 -- ---- the walk to the next setting
 -- the causes passed have fallen to digit 0: x is a setting of the causes left, and setting s + 1 of w the one after it
-pub record Carried (w s : ℕ) (x : Additions) (left : ℕ) : Type 0 where
+pub record Carried (tw w s : ℕ) (x : Additions) (left : ℕ) : Type 0 where
   pub at : ℕ
-  pub is-at : x ≡ additionsOf left at
-  pub next-is : additionsOf w (s + 1) ≡ additionsOf left (at + 1)
+  pub is-at : x ≡ additionsOf (causesBy tw left) at
+  pub next-is : additionsOf (causesBy tw w) (s + 1) ≡ additionsOf (causesBy tw left) (at + 1)
 
-pub carried-start : (w s : ℕ) (x : Additions) → x ≡ additionsOf w s → Carried w s x w
-carried-start w s x e = record { at = s; is-at = e; next-is = refl }
+pub carried-start : (tw w s : ℕ) (x : Additions) → x ≡ additionsOf (causesBy tw w) s → Carried tw w s x w
+carried-start tw w s x e = record { at = s; is-at = e; next-is = refl }
 
-pub carried-end : (w s : ℕ) (x : Additions) (left : ℕ) → left ≡ 0 → Carried w s x left → x ≡ additionsOf w (s + 1)
-carried-end w s x left z c =
-    let g : Carried w s x 0 = rw z at c in
-    g .is-at ∙ additions-none (g .at) (g .at + 1) ∙ sym (g .next-is)
+pub carried-end : (tw w s : ℕ) (x : Additions) (left : ℕ) → left ≡ 0 → Carried tw w s x left → x ≡ additionsOf (causesBy tw w) (s + 1)
+carried-end tw w s x left z c =
+    let g : Carried tw w s x 0 = rw z at c in
+    g .is-at ∙ additions-none tw (g .at) (g .at + 1) ∙ sym (g .next-is)
 
-module _ (w s : ℕ) (x : Additions) (left a : ℕ) (c : Carried w s x left) (h : LowestOf left a) where
-  fact-digit : (t : Bool) → has (x .facts) a ≡ t → eqb (c .at % 3) 1 ≡ t
-  fact-digit t e = sym (ap (λ (y : Additions). has (y .facts) a) (c .is-at) ∙ facts-lowest left a (c .at) h) ∙ e
+-- the digits of the setting after s: the lowest falls to 0 and the others go on, or the lowest rises by one
+carry : (t : Bool) (s : ℕ) → s % pick t 2 3 + 1 ≡ pick t 2 3
+    → ((s + 1) / pick t 2 3 ≡ s / pick t 2 3 + 1) × ((s + 1) % pick t 2 3 ≡ 0)
+carry true s e = (omega arith, omega arith)
+carry false s e = (omega arith, omega arith)
 
-  assumption-digit : (t : Bool) → has (x .assumptions) a ≡ t → eqb (c .at % 3) 2 ≡ t
+rise : (t : Bool) (s : ℕ) → s % pick t 2 3 + 1 < pick t 2 3
+    → ((s + 1) / pick t 2 3 ≡ s / pick t 2 3) × ((s + 1) % pick t 2 3 ≡ s % pick t 2 3 + 1)
+rise true s e = (omega arith, omega arith)
+rise false s e = (omega arith, omega arith)
+
+module _ (tw w s : ℕ) (x : Additions) (left a : ℕ) (c : Carried tw w s x left) (h : LowestOf left a) where
+  abbrev base : ℕ
+  base = choiceOf tw a
+
+  fact-digit : (t : Bool) → has (x .facts) a ≡ t → eqb (c .at % base) 1 ≡ t
+  fact-digit t e = sym (ap (λ (y : Additions). has (y .facts) a) (c .is-at) ∙ facts-lowest tw left a (c .at) h) ∙ e
+
+  assumption-digit : (t : Bool) → has (x .assumptions) a ≡ t → eqb (c .at % base) 2 ≡ t
   assumption-digit t e =
-      sym (ap (λ (y : Additions). has (y .assumptions) a) (c .is-at) ∙ assumptions-lowest left a (c .at) h) ∙ e
+      sym (ap (λ (y : Additions). has (y .assumptions) a) (c .is-at) ∙ assumptions-lowest tw left a (c .at) h) ∙ e
 
-  -- digit 2 falls to 0, and the next cause's digit rises
-  pub carried-next : has (x .assumptions) a ≡ true
-      → Carried w s (record { facts = x .facts; assumptions = withoutBit (x .assumptions) a }) (withoutBit left a)
-  carried-next e =
-      let q = eqb-true (c .at % 3) 2 (assumption-digit true e) in
-      let o = facts-others left a (c .at) h (ap (λ (n : ℕ). eqb n 1) q) in
-      let p = ap (λ (y : Additions). y .facts) (c .is-at) ∙ o in
-      let r = ap (λ (y : Additions). withoutBit (y .assumptions) a) (c .is-at) ∙ assumptions-without left a (c .at) h in
+  -- the highest digit falls to 0, and the next cause's digit rises
+  carried-down : c .at % base + 1 ≡ base
+      → Carried tw w s (record { facts = withoutBit (x .facts) a; assumptions = withoutBit (x .assumptions) a }) (withoutBit left a)
+  carried-down e =
+      let k = carry (has tw a) (c .at) e in
+      let p = ap (λ (y : Additions). withoutBit (y .facts) a) (c .is-at) ∙ facts-without tw left a (c .at) h in
+      let r = ap (λ (y : Additions). withoutBit (y .assumptions) a) (c .is-at) ∙ assumptions-without tw left a (c .at) h in
       record {
-        at = c .at / 3;
+        at = c .at / base;
         is-at = λ i. record { facts = p i; assumptions = r i };
-        next-is = c .next-is ∙ additions-next left a (c .at) (c .at / 3 + 1) 0 h (omega (arith, q)) (omega (arith, q));
+        next-is = c .next-is ∙ additions-next tw left a (c .at) (c .at / base + 1) 0 h (k .0) (k .1);
       }
 
-  -- digit 1 rises to 2
-  pub carried-fact : has (x .facts) a ≡ true
-      → record { facts = withoutBit (x .facts) a; assumptions = bitOr (x .assumptions) (2 ^ a) } ≡ additionsOf w (s + 1)
-  carried-fact e =
-      let q = eqb-true (c .at % 3) 1 (fact-digit true e) in
-      let p = ap (λ (y : Additions). withoutBit (y .facts) a) (c .is-at) ∙ facts-without left a (c .at) h in
-      let o = assumptions-others left a (c .at) h (ap (λ (n : ℕ). eqb n 2) q) in
+  -- the digit isn't 0, and 1 is the highest
+  pub carried-next : (has (x .facts) a || has (x .assumptions) a) ≡ true → (has (x .facts) a && not (has tw a)) ≡ false
+      → Carried tw w s (record { facts = withoutBit (x .facts) a; assumptions = withoutBit (x .assumptions) a }) (withoutBit left a)
+  carried-next e f =
+      carried-down (go (has tw a) (has (x .facts) a) (has (x .assumptions) a) (λ (t : has (x .facts) a ≡ true). eqb-true (c .at % base) 1 (fact-digit true t))
+      (λ (t : has (x .assumptions) a ≡ true). eqb-true (c .at % base) 2 (assumption-digit true t)) e f)
+    where
+      go : (t u v : Bool) → (u ≡ true → c .at % pick t 2 3 ≡ 1) → (v ≡ true → c .at % pick t 2 3 ≡ 2)
+          → (u || v) ≡ true → (u && not t) ≡ false → c .at % pick t 2 3 + 1 ≡ pick t 2 3
+      go true true v p q e f = ap (λ (n : ℕ). n + 1) (p refl)
+      go false true v p q e f = absurd (true≢false f)
+      go true false true p q e f = absurd (omega (arith, q refl))
+      go false false true p q e f = ap (λ (n : ℕ). n + 1) (q refl)
+      go t false false p q e f = absurd (true≢false (sym e))
+
+  -- digit 1, of three choices, rises to 2
+  pub carried-fact : has tw a ≡ false → has (x .facts) a ≡ true
+      → record { facts = withoutBit (x .facts) a; assumptions = bitOr (x .assumptions) (2 ^ a) } ≡ additionsOf (causesBy tw w) (s + 1)
+  carried-fact b e =
+      let q = eqb-true (c .at % base) 1 (fact-digit true e) in
+      let m : base ≡ 3 = ap (λ (t : Bool). pick t 2 3) b in
+      let k = rise (has tw a) (c .at) (omega (arith, q, m)) in
+      let p = ap (λ (y : Additions). withoutBit (y .facts) a) (c .is-at) ∙ facts-without tw left a (c .at) h in
+      let o = assumptions-others tw left a (c .at) h (ap (λ (n : ℕ). eqb n 2) q) in
       let r = ap (λ (y : Additions). y .assumptions) (c .is-at) ∙ o in
       (λ i. record { facts = p i; assumptions = bitOr (r i) (2 ^ a) })
-      ∙ sym (c .next-is ∙ additions-next left a (c .at) (c .at / 3) 2 h (omega (arith, q)) (omega (arith, q)))
+      ∙ sym (c .next-is ∙ additions-next tw left a (c .at) (c .at / base) 2 h (k .0) (k .1 ∙ ap (λ (n : ℕ). n + 1) q))
 
   -- digit 0 rises to 1
   pub carried-nothing : has (x .facts) a ≡ false → has (x .assumptions) a ≡ false
-      → record { facts = bitOr (x .facts) (2 ^ a); assumptions = x .assumptions } ≡ additionsOf w (s + 1)
+      → record { facts = bitOr (x .facts) (2 ^ a); assumptions = x .assumptions } ≡ additionsOf (causesBy tw w) (s + 1)
   carried-nothing e f =
       let m = fact-digit false e in
       let n = assumption-digit false f in
-      let p = ap (λ (y : Additions). y .facts) (c .is-at) ∙ facts-others left a (c .at) h m in
-      let r = ap (λ (y : Additions). y .assumptions) (c .is-at) ∙ assumptions-others left a (c .at) h n in
-      let q : c .at % 3 ≡ 0 = omega (arith, eqb-false (c .at % 3) 1 m, eqb-false (c .at % 3) 2 n) in
+      let p = ap (λ (y : Additions). y .facts) (c .is-at) ∙ facts-others tw left a (c .at) h m in
+      let r = ap (λ (y : Additions). y .assumptions) (c .is-at) ∙ assumptions-others tw left a (c .at) h n in
+      let q : c .at % base ≡ 0 = low (has tw a) (eqb-false (c .at % base) 1 m) (eqb-false (c .at % base) 2 n) in
+      let k = rise (has tw a) (c .at) (room (has tw a) q) in
       (λ i. record { facts = bitOr (p i) (2 ^ a); assumptions = r i })
-      ∙ sym (c .next-is ∙ additions-next left a (c .at) (c .at / 3) 1 h (omega (arith, q)) (omega (arith, q)))
+      ∙ sym (c .next-is ∙ additions-next tw left a (c .at) (c .at / base) 1 h (k .0) (k .1 ∙ ap (λ (n : ℕ). n + 1) q))
+    where
+      low : (t : Bool) → (c .at % pick t 2 3 ≡ 1 → ⊥) → (c .at % pick t 2 3 ≡ 2 → ⊥) → c .at % pick t 2 3 ≡ 0
+      low true u v = omega (arith, u, v)
+      low false u v = omega (arith, u, v)
+
+      room : (t : Bool) → c .at % pick t 2 3 ≡ 0 → c .at % pick t 2 3 + 1 < pick t 2 3
+      room true q = omega (arith, q)
+      room false q = omega (arith, q)

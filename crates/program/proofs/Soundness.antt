@@ -4,7 +4,6 @@ use mathlib.Core.Bool.{Bool, true, false, not, _&&_, false≢true}
 use mathlib.Core.List.{List}
 use Prim.Native.Nat.{ℕ, zero, suc, _+_, _-_, _*_, _/_, _%_, _≤_, _<_}
 use native.Mathlib.Omega.{arith}
-use lib.Count.{ones}
 use lib.Dec.{ltb, leb}
 use lib.ListN.{length, getD, take, length-take, length-drop}
 use borrow.Author.Tests.{ltb-true, ltb-false, leb-true, le-leb, lt-leb, le-ltb, lt-ltb}
@@ -16,8 +15,9 @@ use Rattle.program.specs.declared.case.Case.{Case}
 use Rattle.program.specs.Case.{clauseSize, constraintSize, formulaSize, partSize, tablesFull, headAt, plainAt}
 use Rattle.program.specs.Case.{negatedAt, forbidden, forbiddenNot, constraintKind, nodesOf}
 use Rattle.program.specs.Cause.{causesOf}
+use Rattle.program.specs.Setting.{settingsOf}
 use Rattle.program.specs.Sound.{isEdition, limitsHold, within, bare, shaped, soundClause, soundClauses, soundConstraint}
-use Rattle.program.specs.Sound.{soundConstraints, fewCauses, soundFormula, soundFormulas, sound}
+use Rattle.program.specs.Sound.{soundConstraints, fewSettings, soundFormula, soundFormulas, sound}
 
 -- ---- at most the number below m by one is below m
 pub leb-below : (a t m : ℕ) → t + 1 ≡ m → leb a t ≡ ltb a m
@@ -266,12 +266,12 @@ nodes-lent ns fo q =
 module _ (c : Case) (cl co fo : List ℕ) (h : sound c cl co fo ≡ true) where
   phrases : Seven (tablesFull cl co fo) (limitsHold c) (soundClauses (c .atoms) cl (c .clauses))
       (soundConstraints (c .atoms) co (c .constraints)) (within (c .atoms) (c .plain) (c .negated))
-      (fewCauses (c .atoms) cl (c .clauses)) (soundFormulas (c .atoms) (c .nodes) fo (c .formulas))
+      (fewSettings (c .edition) (c .atoms) cl (c .clauses)) (soundFormulas (c .atoms) (c .nodes) fo (c .formulas))
   unfolding sound
   phrases =
       seven (tablesFull cl co fo) (limitsHold c) (soundClauses (c .atoms) cl (c .clauses))
       (soundConstraints (c .atoms) co (c .constraints)) (within (c .atoms) (c .plain) (c .negated))
-      (fewCauses (c .atoms) cl (c .clauses)) (soundFormulas (c .atoms) (c .nodes) fo (c .formulas)) h
+      (fewSettings (c .edition) (c .atoms) cl (c .clauses)) (soundFormulas (c .atoms) (c .nodes) fo (c .formulas)) h
 
   pub sound-full : tablesFull cl co fo ≡ true
   unfolding Seven
@@ -293,9 +293,9 @@ module _ (c : Case) (cl co fo : List ℕ) (h : sound c cl co fo ≡ true) where
   unfolding Seven
   sound-within = phrases .4
 
-  pub sound-causes : fewCauses (c .atoms) cl (c .clauses) ≡ true
+  pub sound-few : fewSettings (c .edition) (c .atoms) cl (c .clauses) ≡ true
   unfolding Seven
-  sound-causes = phrases .5
+  sound-few = phrases .5
 
   pub sound-formula-table : soundFormulas (c .atoms) (c .nodes) fo (c .formulas) ≡ true
   unfolding Seven
@@ -334,14 +334,14 @@ module _ (c : Case) (cl co fo : List ℕ) (h : sound c cl co fo ≡ true) where
       constraint-two (c .atoms) (forbidden co k) (forbiddenNot co k) (constraintKind co k)
       (every-at (c .constraints) (constraintTest (c .atoms) co) sound-constraint-table k l)
 
-  pub sound-few : ones (causesOf c cl) ≤ 10
-  unfolding fewCauses causesOf
-  sound-few = leb-true (ones (causesOf c cl)) 10 sound-causes
+  pub sound-settings : settingsOf (causesOf c cl) ≤ 59049
+  unfolding fewSettings causesOf
+  sound-settings = leb-true (settingsOf (causesOf c cl)) 59049 sound-few
 
 -- where the other phrases hold, the formulas decide
 pub sound-rest : (c : Case) (cl co fo : List ℕ) → tablesFull cl co fo ≡ true → limitsHold c ≡ true
     → soundClauses (c .atoms) cl (c .clauses) ≡ true → soundConstraints (c .atoms) co (c .constraints) ≡ true
-    → within (c .atoms) (c .plain) (c .negated) ≡ true → fewCauses (c .atoms) cl (c .clauses) ≡ true
+    → within (c .atoms) (c .plain) (c .negated) ≡ true → fewSettings (c .edition) (c .atoms) cl (c .clauses) ≡ true
     → soundFormulas (c .atoms) (c .nodes) fo (c .formulas) ≡ sound c cl co fo
 unfolding sound
 sound-rest c cl co fo full limits clauses constraints observed few =

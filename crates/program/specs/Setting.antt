@@ -1,7 +1,10 @@
--- Settings: numbers whose digits say what each cause gets.
--- From: document 01, "Causes, settings, explanations".
+-- Settings: numbers in mixed base whose digits say what each cause gets.
+-- From: document 01, "Causes, settings, explanations"; document 02, [10] ("A setting's number is read in mixed base,
+-- three or two for each cause in atom order, lowest first").
 --
---   choicesFor l         a choice count for each cause of l: nothing, a fact, an assumption
+--   choiceOf tw a        the choice count of the cause a: two among tw (nothing, a fact), otherwise three (or an assumption)
+--   choicesFor tw l      a choice count for each cause of l
+--   choicesOf w          those of the causes w, in atom order
 --   product cs           the number of settings with these choice counts
 --   digits cs s          the digits of s, lowest first, to the bases cs
 --   digitOf l ds a       the digit that belongs to the cause a, 0 where a is none
@@ -11,13 +14,20 @@ use mathlib.Core.List.{List, [], _∷_}
 use Prim.Native.Nat.{ℕ, _*_, _/_, _%_}
 use lib.Dec.{eqb}
 use Rattle.words.specs.Choice.{pick}
-use Rattle.words.specs.Bits.{word}
+use Rattle.words.specs.Bits.{has, word}
 use Rattle.program.specs.declared.cause.Additions.{Additions}
+use Rattle.program.specs.declared.cause.Causes.{Causes}
 use Rattle.program.specs.Cause.{atomsIn}
 
-unfoldable pub choicesFor : List ℕ → List ℕ
-choicesFor [] = []
-choicesFor (a ∷ l) = 3 ∷ choicesFor l
+abbrev pub choiceOf : ℕ → ℕ → ℕ
+choiceOf tw a = pick (has tw a) 2 3
+
+unfoldable pub choicesFor : ℕ → List ℕ → List ℕ
+choicesFor tw [] = []
+choicesFor tw (a ∷ l) = choiceOf tw a ∷ choicesFor tw l
+
+abbrev pub choicesOf : Causes → List ℕ
+choicesOf w = choicesFor (w .twofold) (atomsIn (w .all))
 
 unfoldable pub product : List ℕ → ℕ
 product [] = 1
@@ -32,17 +42,17 @@ digitOf [] ds a = 0
 digitOf (b ∷ bs) [] a = 0
 digitOf (b ∷ bs) (d ∷ ds) a = let r = digitOf bs ds a in pick (eqb a b) d r
 
-unfoldable pub settingsOf : ℕ → ℕ
-settingsOf w = product (choicesFor (atomsIn w))
+unfoldable pub settingsOf : Causes → ℕ
+settingsOf w = product (choicesOf w)
 
 -- the digits of setting s of the causes w
-abbrev pub digitsOf : ℕ → ℕ → List ℕ
-digitsOf w s = digits (choicesFor (atomsIn w)) s
+abbrev pub digitsOf : Causes → ℕ → List ℕ
+digitsOf w s = digits (choicesOf w) s
 
-unfoldable pub additionsOf : ℕ → ℕ → Additions
+unfoldable pub additionsOf : Causes → ℕ → Additions
 additionsOf w s =
     let ds = digitsOf w s in
     record {
-      facts = word 64 (λ a. eqb (digitOf (atomsIn w) ds a) 1);
-      assumptions = word 64 (λ a. eqb (digitOf (atomsIn w) ds a) 2);
+      facts = word 64 (λ a. eqb (digitOf (atomsIn (w .all)) ds a) 1);
+      assumptions = word 64 (λ a. eqb (digitOf (atomsIn (w .all)) ds a) 2);
     }

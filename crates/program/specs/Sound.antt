@@ -1,6 +1,6 @@
 -- Sound cases.
 -- From: document 01, "Case tables and sound cases", phrase by phrase; document 02, [5] (a constraint's third word),
--- [10] ("the case record holds the edition, 1 or 2, any other being unsound").
+-- [10] ("the case record holds the edition, 1 or 2, any other being unsound"; "a product of at most 59,049 settings").
 --
 --   isEdition e           there is an edition e: 1 or 2
 --   limitsHold c          1 to 64 atoms, at most 256 clauses and 32 constraints, 1 to 16 formulas, edition 1 or 2
@@ -9,13 +9,12 @@
 --   shaped k b            facts and assumptions have no literal (b), rules have one or more; there is no other kind
 --   soundClause           a clause's three words, over n atoms
 --   soundConstraint       a constraint's three words, over n atoms; its kind is 0 never or 1 avoid
---   fewCauses             at most 10 causes
+--   fewSettings           at most 59,049 settings
 --   soundFormula          the nodes of formula q, at most 128, are exactly one formula of depth at most 16 over n atoms
 --   sound c cl co fo      the case c with the tables cl, co, fo is sound
 use mathlib.Core.Bool.{Bool, false, not, _&&_}
 use mathlib.Core.List.{List}
 use Prim.Native.Nat.{ℕ, zero, suc, _*_, _/_, _%_, _^_}
-use lib.Count.{ones}
 use lib.Dec.{eqb, ltb, leb}
 use lib.ListN.{getD}
 use Rattle.words.specs.Below.{every}
@@ -23,8 +22,8 @@ use Rattle.logic.specs.Nodes.{oneFormula}
 use Rattle.program.specs.declared.case.Case.{Case}
 use Rattle.program.specs.Case.{partSize, tablesFull, plainAt, negatedAt, forbidden, forbiddenNot}
 use Rattle.program.specs.Case.{constraintKind, nodesOf}
-use Rattle.program.specs.Program.{headsOf}
-use Rattle.program.specs.Cause.{causesAmong}
+use Rattle.program.specs.Cause.{causesIn}
+use Rattle.program.specs.Setting.{settingsOf}
 
 abbrev pub isEdition : ℕ → Bool
 isEdition e = leb 1 e && leb e 2
@@ -65,8 +64,9 @@ unfoldable pub soundConstraints : ℕ → List ℕ → ℕ → Bool
 soundConstraints n co m =
     every m (λ k. soundConstraint n (forbidden co k) (forbiddenNot co k) (constraintKind co k))
 
-unfoldable pub fewCauses : ℕ → List ℕ → ℕ → Bool
-fewCauses n cl m = leb (ones (causesAmong n (headsOf cl m))) 10
+-- in edition e, of n atoms with the first m clauses of a table
+unfoldable pub fewSettings : ℕ → ℕ → List ℕ → ℕ → Bool
+fewSettings e n cl m = leb (settingsOf (causesIn e n cl m)) 59049
 
 -- ns has the node count of each formula
 unfoldable pub soundFormula : ℕ → List ℕ → List ℕ → ℕ → Bool
@@ -82,5 +82,5 @@ sound c cl co fo =
     && soundClauses (c .atoms) cl (c .clauses)
     && soundConstraints (c .atoms) co (c .constraints)
     && within (c .atoms) (c .plain) (c .negated)
-    && fewCauses (c .atoms) cl (c .clauses)
+    && fewSettings (c .edition) (c .atoms) cl (c .clauses)
     && soundFormulas (c .atoms) (c .nodes) fo (c .formulas)

@@ -28,7 +28,7 @@ impl Case {
 
     pub const EDITIONS: usize = 2;
 
-    pub const CAUSES: u32 = 10;
+    pub const SETTINGS: u64 = 59049;
 
     // Sizes of the lent tables: words of clauses, words of constraints, bytes of the formulas and of the names,
     // prices.

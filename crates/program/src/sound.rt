@@ -5,7 +5,7 @@ ghost use Prim.Native.Nat.{_+_, _*_, _^_, _≤_, _<_};
 ghost use lib.ListN.{length};
 ghost use Rattle.program.specs.Case.{formulaSize, tablesFull};
 ghost use Rattle.program.specs.Sound.{limitsHold, bare, shaped, within, soundClause};
-ghost use Rattle.program.specs.Sound.{soundClauses, soundConstraint, soundConstraints, fewCauses};
+ghost use Rattle.program.specs.Sound.{soundClauses, soundConstraint, soundConstraints, fewSettings};
 ghost use Rattle.program.specs.Sound.{soundFormula, soundFormulas, sound};
 use crate::case::Case;
 
@@ -139,14 +139,14 @@ pub fn constraints_sound(atoms: usize, constraints: &[u64], n: usize) -> bool
     true
 }
 
-// Whether at most ten of the atoms head none of the first n clauses.
-pub fn causes_few(atoms: usize, clauses: &[u64], n: usize) -> bool
+// Whether there are at most 59,049 settings in an edition, of a number of atoms with the first n clauses.
+pub fn settings_few(edition: usize, atoms: usize, clauses: &[u64], n: usize) -> bool
     requires { ⌜ (1 ≤ atoms) × (atoms ≤ 64) × (n ≤ 256) × (3 * n ≤ length (now clauses)) ⌝ }
-    ensures { λ r. ⌜ r ≡ fewCauses atoms (now (clauses .entry)) n ⌝ }
+    ensures { λ r. ⌜ r ≡ fewSettings edition atoms (now (clauses .entry)) n ⌝ }
 {
     let heads = crate::cause::heads(clauses, n);
-    let causes = crate::cause::causes(atoms, heads);
-    words::count(causes) <= Case::CAUSES
+    let causes = crate::cause::causes_in(edition, atoms, clauses, n, heads);
+    crate::cause::settings(causes) <= Case::SETTINGS
 }
 
 // Whether formula q is sound; nodes has the node count of each formula.
@@ -195,7 +195,7 @@ pub fn is_sound(c: Case, clauses: &[u64], constraints: &[u64], formula: &[u8]) -
     if !is_within(c.atoms, words::lowest(c.atoms as u32), c.plain, c.negated) {
         return false;
     }
-    if !causes_few(c.atoms, clauses, c.clauses) {
+    if !settings_few(c.edition, c.atoms, clauses, c.clauses) {
         return false;
     }
     let nodes = c.nodes;

@@ -1,55 +1,61 @@
--- `program::cause::settings` meets its contract: the loop computes a power of three, and `settings-power` says that
--- this is the number of settings. Assumes nothing.
+-- `program::cause::settings` meets its contract. The loop's invariant: the product so far times the settings of the
+-- causes left are all settings. The measure is the word of the causes left. Assumes nothing.
 use mathlib.Core.Path.{_≡_, refl, sym, ap, _∙_}
-use Prim.Native.Nat.{ℕ, _*_, _^_, _≤_, _-_}
-use native.Mathlib.Nat.{le-antisymm, pow-suc}
-use native.Mathlib.Numerals.{add-one}
+use Prim.Native.Nat.{ℕ, _*_, _≤_, _<_}
 use native.Mathlib.Omega.{arith}
 use borrow.Author.Needs.{needs}
-use Rattle.program.proofs.Settings.{power-le}
-use Rattle.program.proofs.Theorems.{settings-power}
+use Rattle.words.proofs.BitWalks.{without-less}
+use Rattle.program.proofs.Counting.{Multiplied, multiplied-start, multiplied-room, multiplied-next}
+use Rattle.program.proofs.Counting.{multiplied-over, multiplied-end}
 use Rattle.program.proofs.cause.settings.Statement.{statement}
 use Rattle.program.proofs.cause.settings.Tie as tie
 
 abbrev Inv-loop : tie.InvT-loop
-Inv-loop causes k product₀ j₀ product j = (j ≤ k) × (product ≡ 3 ^ j)
+Inv-loop causes product₀ left₀ product left = Multiplied (causes .twofold) (causes .all) product left
 
 abbrev μ-loop : tie.MeasureT-loop
-μ-loop causes k product₀ j₀ product j = k - j
+μ-loop causes product₀ left₀ product left = left
 
-count-requires : tie.Need-count-requires Inv-loop μ-loop
-count-requires c κs = search needs
+-- the place before: the loop
+abbrev looped : tie.After-choice Inv-loop μ-loop → tie.At-loop Inv-loop μ-loop
+looped c = c .before .before .before
 
 loop-holds : tie.Need-loop-holds Inv-loop μ-loop
-loop-holds c = (search needs, refl)
+loop-holds c = multiplied-start _ _
+
+lowest-bit-requires : tie.Need-lowest-bit-requires Inv-loop μ-loop
+lowest-bit-requires c κs = search needs
+
+choice-requires : tie.Need-choice-requires Inv-loop μ-loop
+choice-requires c κs = search needs
 
 mul-product : tie.Need-mul-product Inv-loop μ-loop
 mul-product c =
-    let l = c .before in
-    let h : l .loop .j ≤ 9 = omega (arith, l .before .count .ensures) in
-    omega (arith, l .loop .inv .1, power-le (l .loop .j) h)
-
-add-j : tie.Need-add-j Inv-loop μ-loop
-add-j c = search needs
-
-loop-less : tie.Need-loop-less Inv-loop μ-loop
-loop-less c = search needs
-
-loop-again : tie.Need-loop-again Inv-loop μ-loop
-loop-again c =
-    let l = c .before in (
-      search needs,
-      ap (λ (n : ℕ). n * 3) (l .loop .inv .1) ∙ sym (pow-suc 3 (l .loop .j))
-          ∙ ap (λ (n : ℕ). 3 ^ n) (sym (add-one (l .loop .j))),
-    )
+    let l = looped c .loop .inv in
+    let h = multiplied-room _ _ _ _ (l .few) (c .choice .ensures) in
+    omega (arith, h)
 
 returns : tie.Need-returns Inv-loop μ-loop
 returns c =
-    let l = c .before in
-    let s = l .before .before in
-    l .loop .inv .1
-    ∙ ap (λ (n : ℕ). 3 ^ n) (le-antisymm (l .loop .inv .0) (c .loop-test .left) ∙ l .before .count .ensures)
-    ∙ sym (settings-power (s .args .causes) (s .fits .causes .fits))
+    let t = c .before in
+    multiplied-over _ _ _ _ _ _ (looped t .loop .inv) (t .before .lowest-bit .ensures) (t .choice .ensures) (omega arith)
+
+without-lowest-requires : tie.Need-without-lowest-requires Inv-loop μ-loop
+without-lowest-requires c κs = search needs
+
+loop-less : tie.Need-loop-less Inv-loop μ-loop
+loop-less c =
+    let l = c .before .before .before .lowest-bit .ensures in
+    rw (c .without-lowest .ensures _ l) (without-less _ _ (l .bit))
+
+loop-again : tie.Need-loop-again Inv-loop μ-loop
+loop-again c =
+    let t = c .before .before in
+    let l = t .before .lowest-bit .ensures in
+    rw (c .without-lowest .ensures _ l) (multiplied-next _ _ _ _ _ _ (looped t .loop .inv) l (t .choice .ensures) (omega arith))
+
+returns-2 : tie.Need-returns-2 Inv-loop μ-loop
+returns-2 c = multiplied-end _ _ _ _ (c .before .loop .inv) (c .loop-test .left)
 
 pub settings-spec : {M : Type 1} → statement M
 settings-spec =
@@ -57,10 +63,12 @@ settings-spec =
     (tie.spec
     Inv-loop
     μ-loop
-    count-requires
     loop-holds
+    lowest-bit-requires
+    choice-requires
     mul-product
-    add-j
+    returns
+    without-lowest-requires
     loop-less
     loop-again
-    returns)
+    returns-2)

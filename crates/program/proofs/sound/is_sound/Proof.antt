@@ -7,7 +7,7 @@ use borrow.Author.Needs.{needs}
 use Rattle.words.proofs.Tests.{gives-false, failed, passed}
 use Rattle.program.specs.Sound.{limitsHold}
 use Rattle.program.proofs.Soundness.{limits-atoms, clauses-held, constraints-held, formulas-held, sound-limits}
-use Rattle.program.proofs.Soundness.{sound-clause-table, sound-constraint-table, sound-within, sound-causes}
+use Rattle.program.proofs.Soundness.{sound-clause-table, sound-constraint-table, sound-within, sound-few}
 use Rattle.program.proofs.Soundness.{sound-rest}
 use Rattle.program.proofs.sound.is_sound.Statement.{statement}
 use Rattle.program.proofs.sound.is_sound.Tie as tie
@@ -42,7 +42,7 @@ returns-6 c =
     (passed (l .before .clauses-sound .ensures) (l .if2 .left))
     (passed (k .before .constraints-sound .ensures) (k .if3 .left))
     (passed (w .before .is-within .ensures) (w .if4 .left))
-    (passed (o .before .causes-few .ensures) (o .if5 .left))
+    (passed (o .before .settings-few .ensures) (o .if5 .left))
 
 limits-hold-requires : tie.Need-limits-hold-requires
 limits-hold-requires c κs = search needs
@@ -81,13 +81,13 @@ is-within-requires c κs = search needs
 returns-4 : tie.Need-returns-4
 returns-4 c = gives-false _ _ (sound-within _ _ _ _) (failed (c .before .is-within .ensures) (c .if4 .taken))
 
-causes-few-requires : tie.Need-causes-few-requires
-causes-few-requires c κs =
+settings-few-requires : tie.Need-settings-few-requires
+settings-few-requires c κs =
     let s = limited (tabled c) in
     clauses-held _ _ _ _ (entry s .pre) (limits-are s)
 
 returns-5 : tie.Need-returns-5
-returns-5 c = gives-false _ _ (sound-causes _ _ _ _) (failed (c .before .causes-few .ensures) (c .if5 .taken))
+returns-5 c = gives-false _ _ (sound-few _ _ _ _) (failed (c .before .settings-few .ensures) (c .if5 .taken))
 
 formulas-sound-requires : tie.Need-formulas-sound-requires
 formulas-sound-requires c κs =
@@ -108,7 +108,7 @@ is-sound-spec =
     lowest-requires
     is-within-requires
     returns-4
-    causes-few-requires
+    settings-few-requires
     returns-5
     formulas-sound-requires
     returns-6)

@@ -1,8 +1,8 @@
--- `program::cause::causes` meets its contract, by the law `causes-masked`. Assumes nothing.
+-- `program::cause::unheaded` meets its contract, by the law `causes-masked`. Assumes nothing.
 use borrow.Author.Needs.{needs}
 use Rattle.program.proofs.Causes.{causes-masked}
-use Rattle.program.proofs.cause.causes.Statement.{statement}
-use Rattle.program.proofs.cause.causes.Tie as tie
+use Rattle.program.proofs.cause.unheaded.Statement.{statement}
+use Rattle.program.proofs.cause.unheaded.Tie as tie
 
 cast-lowest : tie.Need-cast-lowest
 cast-lowest c = search needs
@@ -16,5 +16,5 @@ returns c =
     causes-masked (s .args .atoms) (c .lowest .result) (s .args .heads) (s .pre .1)
     (c .lowest .ensures) (s .fits .heads .fits)
 
-pub causes-spec : {M : Type 1} → statement M
-causes-spec = tie.close (tie.spec cast-lowest lowest-requires returns)
+pub unheaded-spec : {M : Type 1} → statement M
+unheaded-spec = tie.close (tie.spec cast-lowest lowest-requires returns)
