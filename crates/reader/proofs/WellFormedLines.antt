@@ -10,7 +10,7 @@ use lib.ListN.{length}
 use borrow.Author.Tests.{eqb-true, leb-true}
 use Rattle.words.proofs.Tests.{by-test}
 use Rattle.words.proofs.Checks.{none-failed}
-use Rattle.program.specs.Sound.{bare, shaped, fewCauses}
+use Rattle.program.specs.Sound.{bare, shaped}
 use Rattle.text.specs.Lines.{lines, isComment}
 use Rattle.text.specs.Tokens.{tokens}
 use Rattle.text.specs.Words.{namesIn}
@@ -26,14 +26,13 @@ use Rattle.names.specs.Names.{atomOf, withNames}
 use Rattle.names.proofs.Adding.{each-found}
 use Rattle.store.specs.Saying.{Said, nothingSaid, plainAtoms, negatedAtoms, encoded, clauseRow, constraintRow}
 use Rattle.store.specs.Saying.{renamed, saidBy}
-use Rattle.store.specs.Tables.{clauseWords}
 use Rattle.store.proofs.Encoded.{Known, encoded-length, encoded-depth, encoded-over}
 use Rattle.store.proofs.Literals.{or-atoms-lt, atoms-lt, none-bare, body-not-bare}
 use Rattle.checks.specs.Checks.{saidWith, lineRefusal, saidAfter}
 use Rattle.checks.proofs.Passing.{RoomPasses, FormPasses, line-passes}
 use Rattle.checks.proofs.After.{after-comment, after-line}
 use Rattle.checks.proofs.Naming.{names-named}
-use Rattle.reader.specs.Reading.{Outcome, endChecks, readFile}
+use Rattle.reader.specs.Reading.{Outcome, settingsFew, endChecks, readFile}
 use Rattle.reader.specs.Claims.{saidThrough, allPass}
 use Rattle.reader.proofs.WellFormed.{rows-push, BitsBelow, ClauseFormed, ConstraintFormed, QueryFormed}
 use Rattle.reader.proofs.WellFormed.{IsEdition, WellFormed, well-formed, nothing-formed, renamed-formed}
@@ -142,7 +141,7 @@ line-formed st l r e =
 pub record Ended (st : Said) : Type 0 where
   pub formed : WellFormed st
   pub query-some : 1 ≤ length (st .queries)
-  pub causes-few : fewCauses (length (st .names)) (clauseWords (st .clauses)) (length (st .clauses)) ≡ true
+  pub settings-few : settingsFew st ≡ true
 
 through-formed : (ls : List (List ℕ)) (st : Said) → WellFormed st → allPass ls st ≡ true
     → WellFormed (saidThrough ls st)
@@ -160,5 +159,5 @@ accepted-formed f st e =
     record {
       formed = r;
       query-some = leb-true 1 _ (p .0);
-      causes-few = p .1 .0;
+      settings-few = p .1 .0;
     }

@@ -63,7 +63,7 @@ fn zero(
     table::zero_prices(prices, Case::PRICES);
 }
 
-// The number of the refusal after the last line: 11 no query, 12 more than ten causes, 0 for neither.
+// The number of the refusal after the last line: 11 no query, 12 more than 59,049 settings, 0 for neither.
 fn end_refusal(c: Case, clauses: &[u64]) -> u32
     requires { ⌜ Countable c (now clauses) ⌝ }
     ensures { λ r. ⌜ r ≡ endRefusalIn c (now (clauses .entry)) ⌝ }
@@ -71,7 +71,7 @@ fn end_refusal(c: Case, clauses: &[u64]) -> u32
     if c.formulas == 0 {
         return 11;
     }
-    if !program::sound::causes_few(c.atoms, clauses, c.clauses) {
+    if !program::sound::settings_few(c.edition, c.atoms, clauses, c.clauses) {
         return 12;
     }
     0
@@ -210,7 +210,7 @@ fn early_refusal(
 
 // Reads a case file into five lent tables. Refuses with 1 a table shorter than its size, with 2 a file over 32,768
 // bytes, both of which touch nothing; with 3 to 10, 16, 17, 20 and 21 the first bad line, with 11 a file without query,
-// with 12 one with more than ten causes, each of which leaves the tables zero in their sizes.
+// with 12 one with more than 59,049 settings, each of which leaves the tables zero in their sizes.
 pub fn read(
     file: &[u8],
     clauses: &mut [u64],

@@ -6,7 +6,7 @@ use borrow.Author.Needs.{needs}
 use Rattle.store.specs.Lent.{lent}
 use Rattle.reader.proofs.TakingLines.{file-lengths, LinesTaken, no-lines-taken, taken-bounded, line-taken}
 use Rattle.reader.proofs.TakingLines.{line-refused}
-use Rattle.reader.proofs.EndChecks.{causes-countable, end-refused, end-accepted}
+use Rattle.reader.proofs.EndChecks.{settings-countable, end-refused, end-accepted}
 use Rattle.reader.proofs.read.take_lines.Statement.{statement}
 use Rattle.reader.proofs.read.take_lines.Tie as tie
 
@@ -46,7 +46,7 @@ loop-again : tie.Need-loop-again Inv-loop μ-loop
 loop-again c = search (needs, line-taken)
 
 end-refusal-requires : tie.Need-end-refusal-requires Inv-loop μ-loop
-end-refusal-requires c κs = search (needs, causes-countable)
+end-refusal-requires c κs = search (needs, settings-countable)
 
 returns-2 : tie.Need-returns-2 Inv-loop μ-loop
 returns-2 c = search (needs, end-refused)
