@@ -1,13 +1,14 @@
--- Laws of the atoms with a cost: what they are after a line, and whether a line is a second cost. Assumes nothing.
+-- Laws of the atoms with a cost: what they are after a line, and whether a line is a second cost; and how many editions
+-- there are after a line. Assumes nothing.
 use mathlib.Core.Path.{_≡_, refl, sym, ap, _∙_, subst}
 use mathlib.Core.Bool.{_&&_}
 use mathlib.Core.List.{List, [], _∷_, _++_}
-use Prim.Native.Nat.{ℕ, _≤_, _<_}
+use Prim.Native.Nat.{ℕ, _+_, _≤_, _<_}
 use native.Mathlib.Omega.{arith}
 use denote.Enum.Declared.{tagOf}
 use types.Run.{OneOf, miss}
 use lib.Dec.{ltb}
-use lib.ListN.{length}
+use lib.ListN.{length, length-append}
 use lib.Seq.{slice}
 use borrow.Author.Tests.{lt-ltb}
 use Rattle.words.specs.Bits.{has, word}
@@ -16,8 +17,10 @@ use Rattle.text.specs.Tokens.{tokens}
 use Rattle.text.proofs.Each.{Each}
 use Rattle.grammar.specs.declared.line.Form.{Form}
 use Rattle.grammar.specs.declared.line.Form.the-variants.{Skipped, NoForm, Clause, Constraint, Seen, Query, Cost, Atom}
+use Rattle.grammar.specs.declared.line.Form.the-variants.{Edition}
 use Rattle.grammar.proofs.line.Form.{the-type}
 use Rattle.grammar.specs.Line.{Line, lineNames}
+use Rattle.grammar.specs.Bringing.{brings}
 use Rattle.grammar.specs.LineOf.{lineOf}
 use Rattle.grammar.specs.Parsing.{FormIs}
 use Rattle.program.specs.declared.case.Case.{Case}
@@ -61,6 +64,21 @@ costed-after st (Line.seen x) = refl
 costed-after st (Line.query f) = refl
 costed-after st (Line.cost w p s) = costed-push (st .costs) _
 costed-after st (Line.atom w) = refl
+costed-after st (Line.edition e) = refl
+
+-- the editions after a line
+pub editions-after : (st : Said) (y : Line)
+    → length (saidBy st y .editions) ≡ length (st .editions) + brings y .editions
+unfolding saidBy
+editions-after st Line.skipped = omega arith
+editions-after st Line.noForm = omega arith
+editions-after st (Line.clause k w l) = omega arith
+editions-after st (Line.constraint k l) = omega arith
+editions-after st (Line.seen x) = omega arith
+editions-after st (Line.query f) = omega arith
+editions-after st (Line.cost w p s) = omega arith
+editions-after st (Line.atom w) = omega arith
+editions-after st (Line.edition e) = length-append (st .editions) (e ∷ [])
 
 -- whether a line whose names are known is a second cost
 second-is : (st : Said) (y : Line) → length (st .names) ≤ 64 → Each (Known (st .names)) (lineNames y)
@@ -76,6 +94,7 @@ second-is st (Line.cost w p s) few h =
     let k : atomOf (st .names) w < 64 = omega (arith, h .0) in
     rw (lt-ltb (atomOf (st .names) w) 64 k) (has-word 64 (hasCost (st .costs)) (atomOf (st .names) w) k)
 second-is st (Line.atom w) few h = refl
+second-is st (Line.edition e) few h = refl
 
 -- lookups that agree on the names of a line find the same atom
 cost-atom-same : (f g : List ℕ → ℕ) (y : Line) → Each (Agree f g) (lineNames y) → costAtom f y ≡ costAtom g y
@@ -87,6 +106,7 @@ cost-atom-same f g (Line.seen x) h = refl
 cost-atom-same f g (Line.query q) h = refl
 cost-atom-same f g (Line.cost w p s) h = h .0
 cost-atom-same f g (Line.atom w) h = refl
+cost-atom-same f g (Line.edition e) h = refl
 
 -- where the record c and the tables t hold st with the names of the line y, whose atom is a
 module _ (st : Said) (c : Case) (t : Lent) (h : Held st c t) (long : Long t) (y : Line)
@@ -122,7 +142,7 @@ module _ {l : List ℕ} {x : Form} (f : Formed l x) where
 
 -- the tags of the forms other than Cost
 abbrev others : List ℕ
-others = 0 ∷ (1 ∷ (2 ∷ (3 ∷ (4 ∷ (5 ∷ (7 ∷ []))))))
+others = 0 ∷ (1 ∷ (2 ∷ (3 ∷ (4 ∷ (5 ∷ (7 ∷ (8 ∷ [])))))))
 
 other-atom : (at : List ℕ → ℕ) (l : List ℕ) (x : Form) (y : Line) → OneOf others (tagOf the-type x) → FormIs l x y
     → costAtom at y ≡ 64
@@ -134,6 +154,7 @@ other-atom at l (Seen i) y o f = rw (f .line-is)
 other-atom at l (Query i d) y o f = rw (f .line-is)
 other-atom at l (Cost a e p d) y o f = absurd (miss others 6 tt o)
 other-atom at l (Atom a e) y o f = rw (f .1)
+other-atom at l (Edition n) y o f = rw (f .2)
 
 pub atom-none : {l na : List ℕ} {x : Form} {n : ℕ} → Formed l x → OneOf others (tagOf the-type x) → CostAtomIs l na n 64
 atom-none {l} {na} {x} {n} f o =

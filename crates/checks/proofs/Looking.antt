@@ -13,6 +13,7 @@ use Rattle.text.specs.Lines.{isComment}
 use Rattle.text.specs.Tokens.{tokens}
 use Rattle.grammar.specs.declared.line.Form.{Form}
 use Rattle.grammar.specs.declared.line.Form.the-variants.{Skipped, NoForm, Clause, Constraint, Seen, Query, Cost, Atom}
+use Rattle.grammar.specs.declared.line.Form.the-variants.{Edition}
 use Rattle.grammar.specs.Line.{Line, isLine}
 use Rattle.grammar.specs.LineOf.{lineOf, isNoForm}
 use Rattle.grammar.specs.Parsing.{FormIs, FormFound}
@@ -24,7 +25,7 @@ use Rattle.checks.specs.Looked.{LookedAs}
 
 -- the tags of the forms other than NoForm
 abbrev others : List ℕ
-others = 0 ∷ (2 ∷ (3 ∷ (4 ∷ (5 ∷ (6 ∷ (7 ∷ []))))))
+others = 0 ∷ (2 ∷ (3 ∷ (4 ∷ (5 ∷ (6 ∷ (7 ∷ (8 ∷ [])))))))
 
 other-form : (l : List ℕ) (x : Form) (y : Line) → OneOf others (tagOf the-type x) → FormIs l x y → isNoForm y ≡ false
 other-form l Skipped y o f = rw f
@@ -35,6 +36,7 @@ other-form l (Seen at) y o f = rw (f .line-is)
 other-form l (Query at d) y o f = rw (f .line-is)
 other-form l (Cost a e p d) y o f = rw (f .1 .line-is)
 other-form l (Atom a e) y o f = rw (f .1)
+other-form l (Edition n) y o f = rw (f .2)
 
 -- s tells whether the line is a comment
 module _ {l : List ℕ} {s : Bool} (c : s ≡ isComment l) where

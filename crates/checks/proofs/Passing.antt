@@ -1,7 +1,7 @@
 -- What a line that passes its checks is known to be, and that such a line is not refused. Assumes nothing.
-use mathlib.Core.Path.{_≡_, refl, sym, _∙_}
+use mathlib.Core.Path.{_≡_, refl, sym, ap, _∙_}
 use mathlib.Core.Bool.{Bool, true, false, _&&_}
-use mathlib.Core.List.{List, [], _∷_}
+use mathlib.Core.List.{List, [], _∷_, _++_}
 use Prim.Native.Nat.{ℕ, _+_, _≤_, _<_}
 use lib.Dec.{leb}
 use lib.ListN.{length}
@@ -21,7 +21,8 @@ use Rattle.names.specs.Names.{someLong, withNames}
 use Rattle.store.specs.Prices.{priceOf}
 use Rattle.store.specs.Saying.{Said, isSecondCost}
 use Rattle.checks.proofs.Refusing.{names-refused}
-use Rattle.checks.specs.Checks.{lookRefusal, namedWith, textChecks, roomChecks, formRefusal, lineRefusal}
+use Rattle.checks.specs.Checks.{lookRefusal, namedWith, textChecks, roomChecks, editionChecks, formRefusal}
+use Rattle.checks.specs.Checks.{lineRefusal}
 
 -- the checks 6, 7 and 20
 pub record TextPasses (ws : List (List ℕ)) (b : Brings) : Type 0 where
@@ -29,7 +30,7 @@ pub record TextPasses (ws : List (List ℕ)) (b : Brings) : Type 0 where
   pub not-deep : b .depth ≤ 16
   pub literals-few : b .literals ≤ 11
 
--- the checks from 8 on
+-- the checks from 8 to 10
 pub record RoomPasses (names clauses constraints queries : ℕ) (second : Bool) (b : Brings) : Type 0 where
   pub names-few : names ≤ 64
   pub clauses-few : clauses + b .clauses ≤ 256
@@ -46,6 +47,7 @@ pub record FormPasses (st : Said) (ts : List Token) : Type 0 where
   pub text : TextPasses (namesIn ts) (brings (lineOf ts))
   pub room : RoomPasses (length (withNames (st .names) (namesIn ts))) (length (st .clauses)) (length (st .constraints))
       (length (st .queries)) (isSecondCost (namedWith st ts) (lineOf ts)) (brings (lineOf ts))
+  pub editions-few : length (st .editions) + brings (lineOf ts) .editions ≤ 1
 
 -- and 3
 abbrev pub LinePasses : Said → List ℕ → Type 0
@@ -72,6 +74,10 @@ pub room-passes : {n cl co q : ℕ} {s : Bool} {b : Brings} → firstFailed (roo
     → RoomPasses n cl co q s b
 room-passes {n} {cl} {co} {q} {s} {b} e = room-has n cl co q s b (none-failed (roomChecks n cl co q s b) refl e)
 
+-- 21
+pub edition-passes : (n : ℕ) (b : Brings) → firstFailed (editionChecks n b) ≡ 0 → n + b .editions ≤ 1
+edition-passes n b e = leb-true _ 1 (none-failed (editionChecks n b) refl e .0)
+
 text-has : (ws : List (List ℕ)) (b : Brings) → Passes (textChecks ws b) → TextPasses ws b
 text-has ws b (six, (seven, (twenty, _))) =
     record { names-short = not-true _ six; not-deep = leb-true _ 16 seven; literals-few = leb-true _ 11 twenty }
@@ -88,7 +94,7 @@ look-passes l a e =
     let p = none-failed (check 3 (leb (length l) 200) ∷ others) refl d in
     (leb-true _ 200 (p .0), p .1 .1 .0)
 
--- the refusal of a form by 6, 7 and 20, and from 8 on
+-- the refusal of a form by 6, 7 and 20, from 8 to 10, and by 21
 abbrev pub textNumber : List Token → ℕ
 textNumber ts = firstFailed (textChecks (namesIn ts) (brings (lineOf ts)))
 
@@ -100,20 +106,34 @@ roomOf st ts =
 abbrev pub roomNumber : Said → List Token → ℕ
 roomNumber st ts = firstFailed (roomOf st ts)
 
+abbrev pub editionNumber : Said → List Token → ℕ
+editionNumber st ts = firstFailed (editionChecks (length (st .editions)) (brings (lineOf ts)))
+
 pub many-refused : (st : Said) (ts : List Token) → 64 < length (withNames (st .names) (namesIn ts))
     → 8 ≡ roomNumber st ts
 many-refused st ts h =
     names-refused (length (withNames (st .names) (namesIn ts))) (length (st .clauses)) (length (st .constraints))
     (length (st .queries)) (isSecondCost (namedWith st ts) (lineOf ts)) (brings (lineOf ts)) h
 
-pub form-refusal-is : (st : Said) (ts : List Token) → formRefusal st ts ≡ firstOf (textNumber ts) (roomNumber st ts)
+pub form-refusal-is : (st : Said) (ts : List Token)
+    → formRefusal st ts ≡ firstOf (textNumber ts) (firstOf (roomNumber st ts) (editionNumber st ts))
 unfolding formRefusal
-form-refusal-is st ts = first-failed-append (textChecks (namesIn ts) (brings (lineOf ts))) (roomOf st ts) refl
+form-refusal-is st ts =
+    let b = brings (lineOf ts) in
+    let late = editionChecks (length (st .editions)) b in
+    first-failed-append (textChecks (namesIn ts) b) (roomOf st ts ++ late) refl
+    ∙ ap (firstOf (textNumber ts)) (first-failed-append (roomOf st ts) late refl)
 
 form-passes : (st : Said) (ts : List Token) → isLine (lineOf ts) ≡ true → formRefusal st ts ≡ 0 → FormPasses st ts
 form-passes st ts h e =
-    let p = first-of-none (textNumber ts) (roomNumber st ts) (sym (form-refusal-is st ts) ∙ e) in
-    record { is-line = h; text = text-passes (namesIn ts) (brings (lineOf ts)) (p .0); room = room-passes (p .1) }
+    let p = first-of-none (textNumber ts) _ (sym (form-refusal-is st ts) ∙ e) in
+    let q = first-of-none (roomNumber st ts) (editionNumber st ts) (p .1) in
+    record {
+      is-line = h;
+      text = text-passes (namesIn ts) (brings (lineOf ts)) (p .0);
+      room = room-passes (q .0);
+      editions-few = edition-passes (length (st .editions)) (brings (lineOf ts)) (q .1);
+    }
 
 pub line-passes : (st : Said) (l : List ℕ) → lineRefusal st l ≡ 0 → LinePasses st l
 unfolding lineRefusal
@@ -136,6 +156,9 @@ room-none n cl co q s b r = rw (
   r .not-second,
   le-leb (q + b .queries) 16 (r .queries-few),
 )
+
+pub edition-none : (n : ℕ) (b : Brings) → n + b .editions ≤ 1 → firstFailed (editionChecks n b) ≡ 0
+edition-none n b h = rw (le-leb (n + b .editions) 1 h)
 
 pub look-none : (l : List ℕ) → isComment l ≡ false → length l ≤ 200 → allOf isAllowed l ≡ true
     → isLine (lineOf (tokens l)) ≡ true → lookRefusal l ≡ 0

@@ -1,4 +1,4 @@
--- The number of a line's refusal by the checks 6, 7 and 20 and by those from 8 on, one law for each way out of
+-- The number of a line's refusal by the checks 6, 7 and 20 and by those from 8 to 10, one law for each way out of
 -- `text_refusal`, `price_fits` and `room_refusal`.
 --
 --   costChecks q s b    the checks 16, 17 and 10
@@ -60,7 +60,7 @@ pub roomy : {n cl co : ℕ} {b : Brings} → n ≤ 64 → cl ≤ 256 → b .clau
     → b .constraints ≤ 32 - co → Roomy n cl co b
 roomy h m i o j = record { names-fit = h; clauses-fit = omega arith; constraints-fit = omega arith }
 
--- from 8 on, where s tells whether the line is a second cost
+-- from 8 to 10, where s tells whether the line is a second cost
 module _ (n cl co q : ℕ) (s : Bool) (b : Brings) where
   pub names-refused : 64 < n → 8 ≡ firstFailed (roomChecks n cl co q s b)
   names-refused h = rw (lt-leb n 64 h)

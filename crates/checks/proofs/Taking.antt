@@ -1,14 +1,14 @@
 -- The checks of a line from 6 on, and what taking it leaves: one law for each way out of `take_form` and `take_line`.
 -- Assumes nothing.
-use mathlib.Core.Path.{_≡_, refl, sym, ap, subst, _∙_}
+use mathlib.Core.Path.{_≡_, refl, sym, ap, ap₂, subst, _∙_}
 use mathlib.Core.Bool.{Bool, _&&_}
 use mathlib.Core.List.{List}
 use mathlib.Core.Logic.{⊎-elim}
-use Prim.Native.Nat.{ℕ, zero, suc, _≤_}
+use Prim.Native.Nat.{ℕ, zero, suc, _+_, _-_, _≤_, _<_}
 use native.Mathlib.Omega.{arith}
 use lib.Dec.{leb, ltb}
 use lib.ListN.{length}
-use borrow.Author.Tests.{lt-leb}
+use borrow.Author.Tests.{lt-leb, le-leb}
 use Rattle.words.specs.Choice.{firstOf, firstFailed}
 use Rattle.words.specs.Bits.{has}
 use Rattle.words.proofs.Tests.{lt-or-le}
@@ -34,26 +34,27 @@ use Rattle.store.specs.Saying.{Said, isSecondCost}
 use Rattle.store.specs.Held.{Long, Held, Kept}
 use Rattle.store.specs.Stored.{Storable, StoredAs}
 use Rattle.store.proofs.Lent.{lent-same, kept-refl-all, kept-trans-all}
-use Rattle.store.proofs.KeptTables.{kept-long}
+use Rattle.store.proofs.KeptTables.{SameLengths, kept-lengths, kept-long}
 use Rattle.store.proofs.Held.{withAtomCount, names-held, named-held}
 use Rattle.checks.specs.declared.look.Looked.{Looked}
 use Rattle.checks.specs.declared.look.Looked.the-variants as looked
 use Rattle.checks.specs.declared.progress.Progress.{Progress}
 use Rattle.checks.specs.declared.take.Taken.{Taken}
-use Rattle.checks.specs.Checks.{namedWith, textChecks, roomChecks, formRefusal, lineRefusal, saidAfter}
+use Rattle.checks.specs.Checks.{namedWith, textChecks, roomChecks, editionChecks, formRefusal, lineRefusal}
+use Rattle.checks.specs.Checks.{saidAfter}
 use Rattle.checks.specs.Looked.{Formed, Told, LookedAs}
 use Rattle.checks.specs.Progress.{CostAtomIs, Reached}
-use Rattle.checks.specs.Took.{Took, FormTaken, LineTaken}
+use Rattle.checks.specs.Took.{Took, TakenAs, FormTaken, LineTaken}
 use Rattle.checks.proofs.Refusing.{names-refused}
-use Rattle.checks.proofs.Costed.{second-same, costed-same}
-use Rattle.checks.proofs.Passing.{RoomPasses, textNumber, roomNumber, form-refusal-is, room-passes}
-use Rattle.checks.proofs.Passing.{text-passes, many-refused}
+use Rattle.checks.proofs.Costed.{second-same, costed-same, editions-after}
+use Rattle.checks.proofs.Passing.{RoomPasses, textNumber, roomNumber, editionNumber, form-refusal-is}
+use Rattle.checks.proofs.Passing.{room-passes, text-passes, many-refused}
 
 abbrev pub taken : ℕ → Progress → Taken
 taken n p = record { refusal = n; reached = p }
 
-abbrev pub progress : Case → ℕ → Progress
-progress c w = record { found = c; costed = w }
+abbrev pub progress : Case → ℕ → ℕ → Progress
+progress c w n = record { found = c; costed = w; editions = n }
 
 first-of-some : (n m : ℕ) → (n ≡ 0 → ⊥) → firstOf n m ≡ n
 first-of-some zero m h = absurd (h refl)
@@ -62,6 +63,11 @@ first-of-some (suc n) m h = refl
 -- a line refused by n
 refused-took : {n k : ℕ} {after : Said} {p : Progress} {u : Lent} → n ≡ k → (k ≡ 0 → ⊥) → Took n after (taken k p) u
 refused-took e h = record { refusal-is = sym e; reached = λ z. absurd (h (sym e ∙ z)) }
+
+-- what is taken keeps the lengths of the tables
+pub taken-lengths : {n : Said → ℕ} {after : Said → Said} {p : Progress} {t : Lent} {r : Taken} {u : Lent}
+    → TakenAs n after p t r u → SameLengths t u
+taken-lengths {t = t} {u = u} h = kept-lengths t u (h .kept)
 
 -- By the form of the line
 
@@ -139,16 +145,36 @@ module _ {l : List ℕ} {x : Form} (f : Formed l x) {b : Brings} (g : Brought x 
               ∙ many-refused st (tokens l) (interned st h .full q))
               (λ q. rw (brought, few-same st h, second-told q, h .case-is)) (lt-or-le 64 n)
 
-          form-number : formRefusal st (tokens l) ≡ number
-          form-number = form-refusal-is st (tokens l) ∙ rw (← text-number, z, room-same)
+          edition-same : firstFailed (editionChecks (p .editions) b) ≡ editionNumber st (tokens l)
+          edition-same = rw (brought, reached .editions-are)
+
+          form-number : formRefusal st (tokens l) ≡ firstOf number (firstFailed (editionChecks (p .editions) b))
+          form-number = form-refusal-is st (tokens l) ∙ rw (← text-number, z, room-same, edition-same)
 
         module _ {j : ℕ} (d : j ≡ number) where
           pub room-refused : (j ≡ 0 → ⊥) → FormTaken l p (lent cl co fo na pr) (taken j p) (lent cl co fo u pr)
-          room-refused y = record { kept = names-kept; took = λ st g. refused-took (form-number st g ∙ sym d) y }
+          room-refused y = record {
+            kept = names-kept;
+            took = λ st g. refused-took (form-number st g ∙ rw (← d) (first-of-some j _ y)) y;
+          }
 
           module _ (y : j ≡ 0) where
             fits : RoomPasses n (c .clauses) (c .constraints) (c .formulas) s b
             fits = room-passes (sym d ∙ y)
+
+            -- the line passes from 8 to 10, and 21 decides
+            last-number : (st : Said) → Reached st p (lent cl co fo na pr)
+                → formRefusal st (tokens l) ≡ firstFailed (editionChecks (p .editions) b)
+            last-number st g = form-number st g ∙ rw (← d, y)
+
+            pub edition-refused : p .editions ≤ 1 → 1 - p .editions < b .editions
+                → FormTaken l p (lent cl co fo na pr) (taken 21 p) (lent cl co fo u pr)
+            edition-refused few more = record {
+              kept = names-kept;
+              took = λ st g.
+                  refused-took (last-number st g ∙ rw (lt-leb (p .editions + b .editions) 1 (omega arith)))
+                  (λ q. omega arith);
+            }
 
             pub form-storable : Storable l x (withAtomCount c n) (lineOf (tokens l))
             form-storable = record {
@@ -164,10 +190,11 @@ module _ {l : List ℕ} {x : Form} (f : Formed l x) {b : Brings} (g : Brought x 
               });
             }
 
-            pub form-taken : {r : Case} {v : Lent} {w : ℕ}
+            pub form-taken : {r : Case} {v : Lent} {w : ℕ} → p .editions ≤ 1 → b .editions ≤ 1 - p .editions
                 → StoredAs (lineOf (tokens l)) (withAtomCount c n) (lent cl co fo u pr) r v
-                → w ≡ withAtom (p .costed) a → FormTaken l p (lent cl co fo na pr) (taken 0 (progress r w)) v
-            form-taken {r} {v} {w} stored q = record {
+                → w ≡ withAtom (p .costed) a
+                → FormTaken l p (lent cl co fo na pr) (taken 0 (progress r w (p .editions + b .editions))) v
+            form-taken {r} {v} {w} one more stored q = record {
               kept = kept-trans-all _ _ names-kept v (stored .kept);
               took = λ st g.
                   let few = fits .names-few in
@@ -175,12 +202,17 @@ module _ {l : List ℕ} {x : Form} (f : Formed l x) {b : Brings} (g : Brought x 
                   let all = known st (g .held) in
                   let once = sym (second-told st g few) ∙ fits .not-second in
                   record {
-                    refusal-is = sym (form-number st g ∙ sym d ∙ y);
+                    refusal-is =
+                        sym (last-number st g ∙ rw (le-leb (p .editions + b .editions) 1 (omega arith)));
                     reached = λ _. record {
                       held = stored .held (named st (g .held)) held all once;
                       costed-are =
                           q ∙ costed-same _ (withAtomCount c n) _ held names-long-kept (lineOf (tokens l)) all
                           (atom .atom-is few) (g .costed-are);
+                      editions-are =
+                          ap₂ _+_ (g .editions-are) (ap (λ (x : Brings). x .editions) brought)
+                          ∙ sym (editions-after (named st (g .held)) (lineOf (tokens l)));
+                      editions-few = omega arith;
                     };
                   };
             }

@@ -1,15 +1,16 @@
 -- The checks of a line, each over the whole line and what was read before it; the first that fails decides.
 -- From: document 01, "What each operation refuses", 3 to 10; document 02, [1], [2], [7] (16 and 17, "both checked after
 -- 9 and before 10"), [8] ("16 now means P or the price worked out over 2,000,000, or S over 100"), [9] (20,
--- "checked after 7 and before 8").
+-- "checked after 7 and before 8"), [10] ("21 when a second edition line comes, checked after 10").
 --
 --   lookChecks l       the checks 3 to 5 of the line l, which need nothing of what was read
 --   lookRefusal l      the number of the first of them that fails, 0 where all pass
 --   saidWith st ts     st with the names of the tokens ts, in order of first appearance, and with what their line says
 --   priceFits p s      the price p, the price worked out with the supplement s, and s are not too high
 --   textChecks ws b    the checks 6, 7 and 20 of a line with the names ws that brings b
---   roomChecks ..      the checks from 8 on, by how many names there are with the line, by what there is before it, and
---                      by whether it is a second cost
+--   roomChecks ..      the checks from 8 to 10, by how many names there are with the line, by what there is before it,
+--                      and by whether it is a second cost
+--   editionChecks n b  the check 21, by the number n of edition lines before it
 --   formChecks st ts   the checks from 6 on of the tokens ts behind st; formRefusal st ts as lookRefusal l
 --   lineRefusal st l   the number of the first check that the line l fails behind st, 0 where it passes all
 --   saidAfter st l     what was read with the line l, which passes its checks; a comment says nothing
@@ -65,6 +66,10 @@ roomChecks names clauses constraints queries second b =
     ∷ check 10 (leb (queries + b .queries) 16)
     ∷ []
 
+-- 21 a second edition line
+abbrev pub editionChecks : ℕ → Brings → List Check
+editionChecks editions b = check 21 (leb (editions + b .editions) 1) ∷ []
+
 abbrev pub formChecks : Said → List Token → List Check
 formChecks st ts =
     let b = brings (lineOf ts) in
@@ -72,6 +77,7 @@ formChecks st ts =
     textChecks (namesIn ts) b
     ++ roomChecks (length (named .names)) (length (st .clauses)) (length (st .constraints)) (length (st .queries))
     (isSecondCost named (lineOf ts)) b
+    ++ editionChecks (length (st .editions)) b
 
 unfoldable pub formRefusal : Said → List Token → ℕ
 formRefusal st ts = firstFailed (formChecks st ts)

@@ -11,10 +11,11 @@ ghost use Rattle.checks.specs.Progress.{CostAtomIs};
 use grammar::line::Form;
 use program::case::Case;
 
-// The record, and the atoms with a cost line, bit i for atom i.
+// The record, the atoms with a cost line, bit i for atom i, and how many edition lines were read.
 pub struct Progress {
     pub found: Case,
     pub costed: u64,
+    pub editions: usize,
 }
 
 // The atom of the name of a cost by a table of count names, or 64 for a line that is no cost.

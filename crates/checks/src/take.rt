@@ -7,6 +7,7 @@ ghost use Rattle.store.specs.Lent.{lent};
 ghost use Rattle.store.specs.Held.{Long, InLimits};
 ghost use Rattle.checks.specs.Checks.{priceFits, textChecks, roomChecks};
 ghost use Rattle.checks.specs.Looked.{Formed};
+ghost use Rattle.checks.specs.Progress.{Bounded};
 ghost use Rattle.checks.specs.Took.{FormTaken, LineTaken};
 use crate::look::Looked;
 use crate::look::look;
@@ -56,8 +57,8 @@ fn price_fits(price: usize, supplement: usize) -> bool
     price_of(price, supplement) <= 2000000
 }
 
-// The number of the first of the checks from 8 on that a line fails, with a number of names, or 0; second tells whether
-// it is a second cost.
+// The number of the first of the checks from 8 to 10 that a line fails, with a number of names, or 0; second tells
+// whether it is a second cost.
 fn room_refusal(b: Brings, c: Case, atoms: usize, second: bool) -> u32
     requires { ⌜ InLimits c ⌝ }
     ensures { λ r. ⌜ r ≡ firstFailed (roomChecks atoms (c .clauses) (c .constraints) (c .formulas) second b) ⌝ }
@@ -95,7 +96,7 @@ fn take_form(
     prices: &mut [u32],
 ) -> Taken
     requires { ⌜ Long (lent (now clauses) (now constraints) (now formula) (now names) (now prices))
-        × InLimits (p .found) × Formed (now l) x ⌝ }
+        × Bounded p × Formed (now l) x ⌝ }
     ensures { λ r. ⌜ FormTaken (now (l .entry)) p
         (lent (now (clauses .entry)) (now (constraints .entry)) (now (formula .entry)) (now (names .entry))
         (now (prices .entry))) r
@@ -120,13 +121,23 @@ fn take_form(
             reached: p,
         };
     }
+    if 1 - p.editions < b.editions {
+        return Taken {
+            refusal: 21,
+            reached: p,
+        };
+    }
     let mut named = c;
     named.atoms = atoms;
     let found = store_form(l, x, named, names, clauses, constraints, formula, prices);
     let costed = with_atom(p.costed, atom);
     Taken {
         refusal: 0,
-        reached: Progress { found, costed },
+        reached: Progress {
+            found,
+            costed,
+            editions: p.editions + b.editions,
+        },
     }
 }
 
@@ -141,7 +152,7 @@ pub fn take_line(
     prices: &mut [u32],
 ) -> Taken
     requires { ⌜ Long (lent (now clauses) (now constraints) (now formula) (now names) (now prices))
-        × InLimits (p .found) ⌝ }
+        × Bounded p ⌝ }
     ensures { λ r. ⌜ LineTaken (now (l .entry)) p
         (lent (now (clauses .entry)) (now (constraints .entry)) (now (formula .entry)) (now (names .entry))
         (now (prices .entry))) r

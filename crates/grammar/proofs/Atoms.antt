@@ -4,8 +4,8 @@ use mathlib.Core.Path.{_≡_, refl}
 use mathlib.Core.Bool.{Bool, true, false}
 use mathlib.Core.List.{List, [], _∷_}
 use mathlib.Core.Logic.{inl, inr}
-use mathlib.Core.Option.{Option}
 use Prim.Native.Nat.{ℕ}
+use native.Mathlib.Omega.{arith}
 use lib.ListN.{drop}
 use lib.Seq.{slice}
 use denote.Enum.Declared.{tagOf}
@@ -18,13 +18,12 @@ use Rattle.text.specs.declared.tokens.Next.{Next}
 use Rattle.text.specs.declared.tokens.Next.the-variants.{Word}
 use Rattle.text.proofs.tokens.Next.{the-type}
 use Rattle.text.proofs.TokenLaws.{word-filled, word-within}
-use Rattle.formulas.specs.Items.{prepend}
 use Rattle.grammar.specs.Line.{Line, lineTokens, isLine}
 use Rattle.grammar.specs.LineOf.{flatWords, atomLine, withWords}
 use Rattle.grammar.specs.Parsing.{endsLine, FormAfter}
 use Rattle.grammar.specs.declared.line.Form.the-variants.{NoForm, Atom}
-use Rattle.grammar.proofs.Flat.{Words, Followed, flatTokens, LineSpells, flat-word, flat-other}
-use Rattle.grammar.proofs.Flat.{ended-words, unended-words, wordless-line}
+use Rattle.grammar.proofs.Flat.{flatTokens, LineSpells, flat-word, ended-words, wordless-form, wrong-form}
+use Rattle.grammar.proofs.Flat.{unended-form}
 
 -- What is read is spelled
 
@@ -46,36 +45,18 @@ pub atom-words : (w : List ℕ) → beginsWithLetter w ≡ true
 unfolding flatWords
 atom-words w h = rw h
 
--- What is no atom line
-
-unnamed-line : (w : List ℕ) → beginsWithLetter w ≡ false → (x : Words) → withWords 8 (prepend w x) ≡ Line.noForm
-unnamed-line w h Option.none = refl
-unnamed-line w h (Option.some []) = rw h
-unnamed-line w h (Option.some (v ∷ ws)) = refl
-
-unended : (w : List ℕ) (x : Words) → Followed x → withWords 8 (prepend w x) ≡ Line.noForm
-unended w Option.none h = refl
-unended w (Option.some []) h = absurd h
-unended w (Option.some (v ∷ ws)) h = refl
-
 -- The ways out of `atom_form`
 
 module _ {l : List ℕ} {at : ℕ} {r : Next} (t : Found l at r) where
   pub atom-wordless : OneOf (0 ∷ (1 ∷ (2 ∷ []))) (tagOf the-type r) → FormAfter l at 8 NoForm
-  atom-wordless h = record { form-is = wordless-line 8 refl _ (flat-other t h) }
+  atom-wordless h = wordless-form 8 (omega arith) refl t h
 
   module _ {a e : ℕ} (w : r ≡ Word a e) where
     pub atom-unnamed : beginsWithLetter (slice a e l) ≡ false → FormAfter l at 8 NoForm
-    atom-unnamed h = record {
-      form-is = rw (flat-word t w) (unnamed-line (slice a e l) h (flatWords (tokens (drop e l))));
-    }
+    atom-unnamed h = wrong-form 8 (omega arith) (λ _ _ _. refl) t w (rw h)
 
     pub atom-unended : endsLine l e ≡ false → FormAfter l at 8 NoForm
-    unfolding endsLine
-    atom-unended h = record {
-      form-is = rw (flat-word t w)
-          (unended (slice a e l) (flatWords (tokens (drop e l))) (unended-words (tokens (drop e l)) h));
-    }
+    atom-unended h = unended-form 8 (omega arith) (λ _ _ _. refl) t w h
 
     pub atom-found : beginsWithLetter (slice a e l) ≡ true → endsLine l e ≡ true → FormAfter l at 8 (Atom a e)
     unfolding endsLine

@@ -6,6 +6,7 @@ use mathlib.Core.List.{List, [], _∷_}
 use mathlib.Core.Logic.{inl, inr}
 use mathlib.Core.Option.{Option}
 use Prim.Native.Nat.{ℕ}
+use native.Mathlib.Omega.{arith}
 use lib.ListN.{drop}
 use lib.Seq.{slice}
 use denote.Enum.Declared.{tagOf}
@@ -29,7 +30,7 @@ use Rattle.grammar.specs.declared.numeral.Numeral as read
 use Rattle.grammar.specs.declared.numeral.Numeral.the-variants.{NoNumeral, Numeral}
 use Rattle.grammar.specs.declared.line.Form.the-variants.{NoForm, Cost}
 use Rattle.grammar.proofs.Flat.{Words, Wordless, Followed, flatTokens, LineSpells, flat-word, flat-other}
-use Rattle.grammar.proofs.Flat.{ended-words, unended-words, wordless-line}
+use Rattle.grammar.proofs.Flat.{ended-words, unended-words, wordless-form}
 
 -- What is read is spelled
 
@@ -123,7 +124,7 @@ module _ {l : List ℕ} {at : ℕ} {r : Next} (t : Found l at r) where
 
 module _ {l : List ℕ} {at : ℕ} {r : Next} (t : Found l at r) where
   pub cost-wordless : OneOf (0 ∷ (1 ∷ (2 ∷ []))) (tagOf the-type r) → FormAfter l at 7 NoForm
-  cost-wordless h = record { form-is = wordless-line 7 refl _ (flat-other t h) }
+  cost-wordless h = wordless-form 7 (omega arith) refl t h
 
   module _ {a e : ℕ} (w : r ≡ Word a e) where
     pub cost-unnamed : beginsWithLetter (slice a e l) ≡ false → FormAfter l at 7 NoForm

@@ -5,6 +5,7 @@
 --   flatTokens ws      the tokens of a flat line from its words ws on
 --   FlatSpells ts x    the words x, if any, are spelled by ts
 --   LineSpells k ws x  the line x is no form, or spelled by the word of kind k and the words ws
+--   OneWord k          a line of kind k with a second word is no form
 -- Assumes nothing.
 use mathlib.Core.Path.{_≡_, refl, sym, ap, _∙_, subst}
 use mathlib.Core.Bool.{true, false, true≢false}
@@ -28,7 +29,7 @@ use Rattle.formulas.proofs.Reading.{items-end, items-closing}
 use Rattle.formulas.proofs.Spelling.{spelledItems, Spells, items-spell}
 use Rattle.grammar.specs.Line.{Line, lineWords, lineTokens, isLine}
 use Rattle.grammar.specs.LineOf.{flatWords, flatLine, withWords}
-use Rattle.grammar.specs.Parsing.{endsItems, FormAfter}
+use Rattle.grammar.specs.Parsing.{endsItems, endsLine, FormAfter}
 use Rattle.grammar.specs.declared.line.Form.the-variants.{NoForm}
 use Rattle.grammar.proofs.Forms.{ends-is}
 
@@ -119,17 +120,52 @@ unended-words (Token.closing ∷ (t ∷ ts)) h = tt
 unended-words (Token.word w ∷ ts) h = word-follows w (flatWords ts)
 
 -- a kind of line that needs a word
-pub wordless-line : (k : ℕ) → flatLine k [] ≡ Line.noForm → (x : Words) → Wordless x → withWords k x ≡ Line.noForm
+wordless-line : (k : ℕ) → flatLine k [] ≡ Line.noForm → (x : Words) → Wordless x → withWords k x ≡ Line.noForm
 wordless-line k n x (inl e) = rw e
 wordless-line k n x (inr e) = rw e n
 
+-- a kind of line that has one word at most
+abbrev OneWord : ℕ → Type 0
+OneWord k = (w v : List ℕ) (ws : List (List ℕ)) → flatLine k (w ∷ (v ∷ ws)) ≡ Line.noForm
+
+wrong-line : (k : ℕ) → OneWord k → (w : List ℕ) → flatLine k (w ∷ []) ≡ Line.noForm → (x : Words)
+    → withWords k (prepend w x) ≡ Line.noForm
+wrong-line k one w n Option.none = refl
+wrong-line k one w n (Option.some []) = n
+wrong-line k one w n (Option.some (v ∷ ws)) = one w v ws
+
+unended-line : (k : ℕ) → OneWord k → (w : List ℕ) (x : Words) → Followed x → withWords k (prepend w x) ≡ Line.noForm
+unended-line k one w Option.none h = refl
+unended-line k one w (Option.some []) h = absurd h
+unended-line k one w (Option.some (v ∷ ws)) h = one w v ws
+
+-- no form of a flat kind, by the words behind the line's word
+
+flat-none : {l : List ℕ} {at k : ℕ} → 7 ≤ k → withWords k (flatWords (tokens (drop at l))) ≡ Line.noForm
+    → FormAfter l at k NoForm
+flat-none {k = k} i h = record { form-is = rw (le-ltb k 7 i) h }
+
+module _ (k : ℕ) (i : 7 ≤ k) where
+  pub wordless-form : flatLine k [] ≡ Line.noForm → {l : List ℕ} {at : ℕ} {r : Next} → Found l at r
+      → OneOf (0 ∷ (1 ∷ (2 ∷ []))) (tagOf the-type r) → FormAfter l at k NoForm
+  wordless-form n t h = flat-none i (wordless-line k n _ (flat-other t h))
+
+  module _ (one : OneWord k) {l : List ℕ} {at : ℕ} {r : Next} (t : Found l at r) {a e : ℕ} (w : r ≡ Word a e) where
+    pub wrong-form : flatLine k (slice a e l ∷ []) ≡ Line.noForm → FormAfter l at k NoForm
+    wrong-form n =
+        flat-none i (rw (flat-word t w) (wrong-line k one (slice a e l) n (flatWords (tokens (drop e l)))))
+
+    pub unended-form : endsLine l e ≡ false → FormAfter l at k NoForm
+    unfolding endsLine
+    unended-form h =
+        let f = unended-words (tokens (drop e l)) h in
+        flat-none i (rw (flat-word t w) (unended-line k one (slice a e l) (flatWords (tokens (drop e l))) f))
+
 -- no kind
 
-kindless-line : (k : ℕ) → (k ≡ 7 → ⊥) → (k ≡ 8 → ⊥) → (x : Words) → withWords k x ≡ Line.noForm
-kindless-line k n m Option.none = refl
-kindless-line k n m (Option.some ws) = rw (ne-eqb k 7 n, ne-eqb k 8 m)
+kindless-line : (k : ℕ) → (k ≡ 7 → ⊥) → (k ≡ 8 → ⊥) → (k ≡ 9 → ⊥) → (x : Words) → withWords k x ≡ Line.noForm
+kindless-line k n m o Option.none = refl
+kindless-line k n m o (Option.some ws) = rw (ne-eqb k 7 n, ne-eqb k 8 m, ne-eqb k 9 o)
 
-pub flat-kindless : {l : List ℕ} {at k : ℕ} → 7 ≤ k → (k ≡ 7 → ⊥) → (k ≡ 8 → ⊥) → FormAfter l at k NoForm
-flat-kindless {l} {at} {k} h n m = record {
-  form-is = rw (le-ltb k 7 h) (kindless-line k n m (flatWords (tokens (drop at l))));
-}
+pub flat-kindless : {l : List ℕ} {at k : ℕ} → 7 ≤ k → (k ≡ 7 → ⊥) → (k ≡ 8 → ⊥) → (k ≡ 9 → ⊥) → FormAfter l at k NoForm
+flat-kindless {l} {at} {k} h n m o = flat-none h (kindless-line k n m o (flatWords (tokens (drop at l))))

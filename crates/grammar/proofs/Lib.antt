@@ -4,6 +4,7 @@
 -- Flat: the words of a flat line.
 -- Costs: the forms of costs, by these words.
 -- Atoms: the forms of atom lines, by these words.
+-- Editions: the forms of edition lines, by these words.
 -- LineReading: what is spelled is read.
 -- Spelling: what is read is spelled.
 -- LineLaws: the names of a line, what it brings, and how many literals and nodes it has.
@@ -16,6 +17,7 @@ pub mod Forms
 pub mod Flat
 pub mod Costs
 pub mod Atoms
+pub mod Editions
 pub mod LineReading
 pub mod Spelling
 pub mod LineLaws

@@ -1,10 +1,11 @@
 -- What a line holds: its names are those among its tokens, what it brings is told by its form, a body has a literal,
--- and a query has at most half as many nodes as the line has tokens.
+-- a query has at most half as many nodes as the line has tokens, and an edition is one.
 --
 --   bringsOf x      what a line of the form x brings
 --   Bodied ls       there is a literal
 --   ClauseShaped k  the literals of a clause of kind k are as many as it takes
---   Shaped n x      the bodies of the line x have a literal, a constraint its kind, a query at most n / 2 nodes
+--   Shaped n x      the bodies of the line x have a literal, a constraint its kind, a query at most n / 2 nodes, an
+--                   edition line its edition
 -- Assumes nothing.
 use mathlib.Core.Path.{_≡_, refl, sym, ap, _∙_, subst}
 use mathlib.Core.Bool.{true, false}
@@ -32,15 +33,16 @@ use Rattle.formulas.specs.Parsing.{sizeOf}
 use Rattle.formulas.specs.Items.{Item}
 use Rattle.formulas.proofs.Sizes.{formula-size}
 use Rattle.grammar.specs.Line.{Literal, Line, lineWords, ofLiteral, bodyTokens, lineTokens, areNamed, takes}
-use Rattle.grammar.specs.Line.{isCost, isLine, bodyNames, lineNames}
-use Rattle.grammar.specs.Bringing.{bodied, asking, pricing, nothing}
+use Rattle.grammar.specs.Line.{isCost, isEdition, isLine, bodyNames, lineNames}
+use Rattle.grammar.specs.Bringing.{bodied, asking, pricing, editing, nothing}
 use Rattle.grammar.specs.LineOf.{lineOf}
 use Rattle.grammar.specs.Parsing.{Brought}
 use Rattle.grammar.specs.declared.line.Form.{Form}
 use Rattle.grammar.specs.declared.line.Form.the-variants.{Skipped, NoForm, Clause, Constraint, Seen, Query, Cost}
-use Rattle.grammar.specs.declared.line.Form.the-variants.{Atom}
+use Rattle.grammar.specs.declared.line.Form.the-variants.{Atom, Edition}
 use Rattle.grammar.specs.declared.brings.Brings.{Brings}
 use Rattle.grammar.proofs.line.Form.{the-type}
+use Rattle.grammar.proofs.Editions.{edition-number}
 use Rattle.grammar.proofs.LineReading.{sentence-read, ClauseParts, clause-parts, ConstraintParts}
 use Rattle.grammar.proofs.LineReading.{constraint-parts}
 use Rattle.grammar.proofs.Spelling.{Right, line-right, line-spells}
@@ -99,6 +101,9 @@ names-are (Line.query f) h = form-names (getD lineWords 6 []) (tokensOf f) (sent
 names-are (Line.cost w p s) h =
     form-names (getD lineWords 7 []) (Token.word w ∷ (Token.word p ∷ (Token.word s ∷ []))) (cost-names w p s h)
 names-are (Line.atom w) h = form-names (getD lineWords 8 []) (Token.word w ∷ []) (names-name _ w h)
+names-are (Line.edition e) h =
+    let w = (48 + e) ∷ [] in
+    form-names (getD lineWords 9 []) (Token.word w ∷ []) (names-other _ w (number-unlettered w (edition-number e h)))
 
 pub line-names : (ts : List Token) → isLine (lineOf ts) ≡ true → namesIn ts ≡ lineNames (lineOf ts)
 line-names ts h = sym (ap namesIn (line-spells ts h)) ∙ names-are (lineOf ts) h
@@ -125,6 +130,7 @@ line-lettered (Line.seen x) h = rw (literal-names x) at (sentence-lettered (ofLi
 line-lettered (Line.query f) h = sentence-lettered f h
 line-lettered (Line.cost w p s) h = (and-true-both _ _ (and-true-both _ _ h .0) .0, tt)
 line-lettered (Line.atom w) h = (h, tt)
+line-lettered (Line.edition e) h = tt
 
 -- and where they do, literals are of names
 pub literal-sentence : (x : Literal) → Each Lettered (bodyNames (x ∷ [])) → isSentence (ofLiteral x) ≡ true
@@ -162,6 +168,10 @@ pub name-is-line : (w : List ℕ) → isLine (Line.atom w) ≡ beginsWithLetter 
 unfolding isLine
 name-is-line w = refl
 
+pub edition-is-line : (e : ℕ) → isLine (Line.edition e) ≡ isEdition e
+unfolding isLine
+edition-is-line e = refl
+
 -- What a line brings, by its form
 
 abbrev bringsOf : Form → Brings
@@ -173,6 +183,7 @@ bringsOf (Seen at) = nothing
 bringsOf (Query at d) = asking d
 bringsOf (Cost a e p s) = pricing p s
 bringsOf (Atom a e) = nothing
+bringsOf (Edition n) = editing
 
 brought : (x : Form) → Brought x (bringsOf x)
 brought Skipped l y h = rw h
@@ -183,6 +194,7 @@ brought (Seen at) l y h = rw (h .line-is)
 brought (Query at d) l y h = rw (h .line-is, h .depth-is)
 brought (Cost a e p s) l y h = rw (h .1 .line-is, h .1 .price-is, h .1 .supplement-is)
 brought (Atom a e) l y h = rw (h .1)
+brought (Edition n) l y h = rw (h .2)
 
 -- the tags of the forms that bring nothing
 abbrev idle : List ℕ
@@ -197,6 +209,7 @@ brought-nothing (Seen at) h = brought (Seen at)
 brought-nothing (Query at d) h = absurd (miss idle 5 tt h)
 brought-nothing (Cost a e p s) h = absurd (miss idle 6 tt h)
 brought-nothing (Atom a e) h = brought (Atom a e)
+brought-nothing (Edition n) h = absurd (miss idle 8 tt h)
 
 pub brought-as : {x : Form} (y : Form) → x ≡ y → Brought x (bringsOf y)
 brought-as y e = subst (λ z. Brought z (bringsOf y)) (sym e) (brought y)
@@ -223,6 +236,7 @@ Shaped n (Line.seen x) = Unit {0}
 Shaped n (Line.query f) = 2 * sizeOf f ≤ n
 Shaped n (Line.cost w p s) = Unit {0}
 Shaped n (Line.atom w) = Unit {0}
+Shaped n (Line.edition e) = isEdition e ≡ true
 
 no-literal : (ls : List Literal) → length ls ≡ 0 → ls ≡ []
 no-literal [] h = refl
@@ -254,6 +268,7 @@ shaped (Line.query f) h =
     omega (arith, formula-size (tokensOf f ++ (Token.closing ∷ [])) f (Item.closing ∷ []) (sentence-read f h))
 shaped (Line.cost w p s) h = tt
 shaped (Line.atom w) h = tt
+shaped (Line.edition e) h = h
 
 right-shaped : (ts : List Token) (x : Line) → Right ts x → Shaped (length ts) x
 right-shaped ts x (inl e) = rw e tt

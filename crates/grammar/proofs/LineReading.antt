@@ -24,6 +24,7 @@ use Rattle.grammar.proofs.KindLaws.{word-kind, fit-body, body-kind}
 use Rattle.grammar.proofs.Forms.{behind-items, clause-is, constraint-kind}
 use Rattle.grammar.proofs.Costs.{cost-words}
 use Rattle.grammar.proofs.Atoms.{atom-words}
+use Rattle.grammar.proofs.Editions.{edition-words}
 
 closing-read : itemsOf (Token.closing ∷ []) ≡ Option.some (Item.closing ∷ [])
 closing-read = rw (items-closing, items-end)
@@ -133,6 +134,10 @@ atom-read : (w : List ℕ) → isLine (Line.atom w) ≡ true → lineOf (lineTok
 unfolding isLine lineTokens
 atom-read w h = word-read 8 (Token.word w ∷ []) (omega arith) ∙ atom-words w h
 
+edition-read : (e : ℕ) → isLine (Line.edition e) ≡ true → lineOf (lineTokens (Line.edition e)) ≡ Line.edition e
+unfolding isLine lineTokens
+edition-read e h = word-read 9 (Token.word ((48 + e) ∷ []) ∷ []) (omega arith) ∙ edition-words e h
+
 pub line-read : (x : Line) → isLine x ≡ true → lineOf (lineTokens x) ≡ x
 unfolding isLine lineTokens lineOf
 line-read Line.skipped h = refl
@@ -143,3 +148,4 @@ line-read (Line.seen x) h = seen-read x h
 line-read (Line.query f) h = query-read f h
 line-read (Line.cost w p s) h = cost-read w p s h
 line-read (Line.atom w) h = atom-read w h
+line-read (Line.edition e) h = edition-read e h

@@ -57,6 +57,11 @@ pub query-tokens : (f : Sentence) → lineTokens (Line.query f) ≡ formTokens (
 unfolding lineTokens
 query-tokens f = refl
 
+pub edition-tokens : (e : ℕ)
+    → lineTokens (Line.edition e) ≡ formTokens (bytes "edition") (Token.word ((48 + e) ∷ []) ∷ [])
+unfolding lineTokens
+edition-tokens e = refl
+
 -- a line's text begins with a bracket, if with anything
 pub line-no-comment : (x : Line) → isComment (spelled (lineTokens x)) ≡ false
 unfolding lineTokens
@@ -68,3 +73,4 @@ line-no-comment (Line.seen x) = spelled-no-comment _
 line-no-comment (Line.query f) = spelled-no-comment _
 line-no-comment (Line.cost w p s) = spelled-no-comment _
 line-no-comment (Line.atom w) = spelled-no-comment _
+line-no-comment (Line.edition e) = spelled-no-comment _

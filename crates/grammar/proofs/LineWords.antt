@@ -17,9 +17,10 @@ use Rattle.formulas.proofs.NameSentence.{name-names, negation-names}
 use Rattle.formulas.proofs.SentenceWords.{sentence-bytes}
 use Rattle.grammar.specs.Line.{Line, Literal, lineWords, ofLiteral, bodyTokens, bodyNames, lineTokens, lineNames}
 use Rattle.grammar.specs.Line.{areNamed, isCost, isLine}
+use Rattle.grammar.proofs.Editions.{edition-number}
 use Rattle.grammar.proofs.LineReading.{clause-parts, constraint-parts}
 
-line-word : (k : ℕ) → k < 9 → IsWord (getD lineWords k [])
+line-word : (k : ℕ) → k < 10 → IsWord (getD lineWords k [])
 line-word k h = each-at IsWord lineWords k [] (lettered-words lineWords refl) h
 
 -- literals
@@ -63,3 +64,4 @@ line-bytes (Line.seen (Literal.literal b w)) s h = (
 line-bytes (Line.query f) s h = (line-word 6 (omega arith), sentence-bytes f (Token.closing ∷ []) s h tt)
 line-bytes (Line.cost w p t) s h = (line-word 7 (omega arith), cost-bytes w p t s (h .0))
 line-bytes (Line.atom w) s h = (line-word 8 (omega arith), (h .0, tt))
+line-bytes (Line.edition e) s h = (line-word 9 (omega arith), (number-word ((48 + e) ∷ []) (edition-number e s), tt))

@@ -24,12 +24,13 @@ use Rattle.formulas.proofs.Spelling.{spelledItems, AreSentences, Spells, items-
 use Rattle.grammar.specs.Line.{Literal, Line, lineWords, bodyTokens, lineTokens, areNamed, takes}
 use Rattle.grammar.specs.Line.{isLine}
 use Rattle.grammar.specs.LineOf.{withSentence, literalsOf, withBody, seenOf, clauseOf, queryOf, bodyLine, ofKind}
-use Rattle.grammar.specs.LineOf.{withItems, flatWords, costLine, atomLine, withWords, behindWord, kindOf, lineOf}
-use Rattle.grammar.specs.LineOf.{isNoForm}
+use Rattle.grammar.specs.LineOf.{withItems, flatWords, costLine, atomLine, editionLine, withWords, behindWord}
+use Rattle.grammar.specs.LineOf.{kindOf, lineOf, isNoForm}
 use Rattle.grammar.proofs.KindLaws.{kind-word}
 use Rattle.grammar.proofs.Flat.{Words, FlatSpells, flat-spells}
 use Rattle.grammar.proofs.Costs.{cost-spells}
 use Rattle.grammar.proofs.Atoms.{atom-spells}
+use Rattle.grammar.proofs.Editions.{edition-spells}
 
 abbrev BodySpells : List Item → Option (List Literal) → Type 0
 BodySpells m Option.none = Unit {0}
@@ -142,7 +143,9 @@ module _ (w : List ℕ) (ts : List Token) where
       picked-right (eqb k 7) (costLine ws) _
       (λ q. let z = eqb-true k 7 q in rw (rw z at (e (omega arith)), h) (cost-spells ws))
       (λ _. picked-right (eqb k 8) (atomLine ws) _
-      (λ q. let z = eqb-true k 8 q in rw (rw z at (e (omega arith)), h) (atom-spells ws)) (λ _. inl refl))
+      (λ q. let z = eqb-true k 8 q in rw (rw z at (e (omega arith)), h) (atom-spells ws))
+      (λ _. picked-right (eqb k 9) (editionLine ws) _
+      (λ q. let z = eqb-true k 9 q in rw (rw z at (e (omega arith)), h) (edition-spells ws)) (λ _. inl refl)))
 
   behind-right : (k : ℕ) → (k < length lineWords → w ≡ getD lineWords k []) → Right opened (behindWord k ts)
   behind-right k e =
@@ -172,6 +175,7 @@ form-true (Line.seen x) h = refl
 form-true (Line.query f) h = refl
 form-true (Line.cost w p s) h = refl
 form-true (Line.atom w) h = refl
+form-true (Line.edition e) h = refl
 
 module _ (ts : List Token) (x : Line) where
   right-spells : Right ts x → isLine x ≡ true → lineTokens x ≡ ts

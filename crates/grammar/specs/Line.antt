@@ -1,14 +1,16 @@
 -- The forms of a line, and how they are spelled.
 -- From: document 01, "The file" ("Every other line is one form of nested brackets: `(true N)`, `(false N)`,
 -- `(if N L..)`, `(never L..)`, `(seen L)`, `(query F)`, with at least one L"; "L is N or `(not N)`"); document 02, [5]
--- (`(avoid L..)`), [7] (`(cost N P S)`), [8] (`(atom N)`, "a new form that only names an atom").
+-- (`(avoid L..)`), [7] (`(cost N P S)`), [8] (`(atom N)`, "a new form that only names an atom"), [10] (`(edition 2)`,
+-- `(edition 1)`).
 --
 --   Literal         a name or its negation: L
---   Line            what a line is: skipped, one of the nine forms, or no form
+--   Line            what a line is: skipped, one of the ten forms, or no form
 --   lineTokens x    the tokens of the line x; a skipped one has none
+--   isEdition e     e is the number of an edition
 --   isLine x        x is a skipped line or one of the forms, with names where names stand and literals where they must
 --   lineNames x     the names of the line x in order
-use mathlib.Core.Bool.{Bool, true, false, _&&_}
+use mathlib.Core.Bool.{Bool, true, false, _&&_, _||_}
 use mathlib.Core.List.{List, [], _∷_, _++_}
 use Prim.Native.Nat.{ℕ, _+_}
 use lib.Dec.{eqb, ltb}
@@ -26,7 +28,7 @@ pub data Literal : Type 0 where
 
 -- a clause by its kind (0 fact, 1 assumption, 2 rule), its head and its literals; a constraint by its kind (0 never,
 -- 1 avoid) and its literals; a cost by the words of its name, its price and its supplement; an atom line by the word of
--- its name
+-- its name; an edition line by its number
 pub data Line : Type 0 where
   skipped : Line
   noForm : Line
@@ -36,14 +38,15 @@ pub data Line : Type 0 where
   query : Sentence → Line
   cost : List ℕ → List ℕ → List ℕ → Line
   atom : List ℕ → Line
+  edition : ℕ → Line
 
--- the words of the kinds of clauses, of the kinds of constraints, of readings, of queries, of costs and of atom
--- lines
+-- the words of the kinds of clauses, of the kinds of constraints, of readings, of queries, of costs, of atom lines
+-- and of edition lines
 abbrev pub lineWords : List (List ℕ)
 lineWords =
     bytes "true" ∷ bytes "false" ∷ bytes "if"
     ∷ bytes "never" ∷ bytes "avoid"
-    ∷ bytes "seen" ∷ bytes "query" ∷ bytes "cost" ∷ bytes "atom" ∷ []
+    ∷ bytes "seen" ∷ bytes "query" ∷ bytes "cost" ∷ bytes "atom" ∷ bytes "edition" ∷ []
 
 -- the formula that a literal is
 abbrev pub ofLiteral : Literal → Sentence
@@ -64,6 +67,7 @@ lineTokens (Line.query f) = formTokens (getD lineWords 6 []) (tokensOf f)
 lineTokens (Line.cost w p s) =
     formTokens (getD lineWords 7 []) (Token.word w ∷ (Token.word p ∷ (Token.word s ∷ [])))
 lineTokens (Line.atom w) = formTokens (getD lineWords 8 []) (Token.word w ∷ [])
+lineTokens (Line.edition e) = formTokens (getD lineWords 9 []) (Token.word ((48 + e) ∷ []) ∷ [])
 
 -- each literal is one of a name
 unfoldable pub areNamed : List Literal → Bool
@@ -78,6 +82,9 @@ takes k n = pick (ltb k 2) (eqb n 0) (pick (eqb k 5) (eqb n 1) (ltb 0 n))
 abbrev pub isCost : List ℕ → List ℕ → List ℕ → Bool
 isCost w p s = beginsWithLetter w && isNumber p && isNumber s
 
+abbrev pub isEdition : ℕ → Bool
+isEdition e = eqb e 1 || eqb e 2
+
 unfoldable pub isLine : Line → Bool
 isLine Line.skipped = true
 isLine Line.noForm = false
@@ -87,6 +94,7 @@ isLine (Line.seen x) = isSentence (ofLiteral x)
 isLine (Line.query f) = isSentence f
 isLine (Line.cost w p s) = isCost w p s
 isLine (Line.atom w) = beginsWithLetter w
+isLine (Line.edition e) = isEdition e
 
 abbrev pub bodyNames : List Literal → List (List ℕ)
 bodyNames [] = []
@@ -101,3 +109,4 @@ lineNames (Line.seen x) = bodyNames (x ∷ [])
 lineNames (Line.query f) = sentenceNames f
 lineNames (Line.cost w p s) = w ∷ []
 lineNames (Line.atom w) = w ∷ []
+lineNames (Line.edition e) = []

@@ -3,7 +3,7 @@
 --   literalsOf l    the literals that the items l are, up to the line's closing bracket, or that they are none
 --   flatWords ts    the words that the tokens ts are, up to the line's closing bracket, or that they are none
 --   kindOf w        the kind of the line with the word w: 0 true, 1 false, 2 if, 3 never, 4 avoid, 5 seen, 6 query,
---                   7 cost, 8 atom; otherwise 9
+--                   7 cost, 8 atom, 9 edition; otherwise 10
 --   behindWord k ts the line of kind k with the tokens ts behind its word
 --   lineOf ts       the line with the tokens ts
 --   isNoForm x      the line x is no form
@@ -18,7 +18,7 @@ use Rattle.text.specs.Tokens.{Token}
 use Rattle.text.specs.Words.{beginsWithLetter, placeOf}
 use Rattle.formulas.specs.Sentence.{Sentence}
 use Rattle.formulas.specs.Items.{prepend, Item, withFirst, itemsOf}
-use Rattle.grammar.specs.Line.{Literal, Line, lineWords, takes, isCost}
+use Rattle.grammar.specs.Line.{Literal, Line, lineWords, takes, isCost, isEdition}
 
 -- a formula that is a literal, in front of literals
 abbrev pub withSentence : Sentence → Option (List Literal) → Option (List Literal)
@@ -100,9 +100,22 @@ atomLine [] = Line.noForm
 atomLine (w ∷ []) = pick (beginsWithLetter w) (Line.atom w) Line.noForm
 atomLine (w ∷ (v ∷ ws)) = Line.noForm
 
+-- the edition line of this word: one digit
+abbrev pub digitLine : List ℕ → Line
+digitLine [] = Line.noForm
+digitLine (d ∷ []) = pick (isEdition (d - 48)) (Line.edition (d - 48)) Line.noForm
+digitLine (d ∷ (c ∷ w)) = Line.noForm
+
+-- the edition line of these words: one
+abbrev pub editionLine : List (List ℕ) → Line
+editionLine [] = Line.noForm
+editionLine (w ∷ []) = digitLine w
+editionLine (w ∷ (v ∷ ws)) = Line.noForm
+
 -- the flat line of kind k with these words
 abbrev pub flatLine : ℕ → List (List ℕ) → Line
-flatLine k ws = pick (eqb k 7) (costLine ws) (pick (eqb k 8) (atomLine ws) Line.noForm)
+flatLine k ws =
+    pick (eqb k 7) (costLine ws) (pick (eqb k 8) (atomLine ws) (pick (eqb k 9) (editionLine ws) Line.noForm))
 
 abbrev pub withWords : ℕ → Option (List (List ℕ)) → Line
 withWords k Option.none = Line.noForm
@@ -132,3 +145,4 @@ isNoForm (Line.seen x) = false
 isNoForm (Line.query f) = false
 isNoForm (Line.cost w p s) = false
 isNoForm (Line.atom w) = false
+isNoForm (Line.edition e) = false

@@ -27,7 +27,7 @@ use Rattle.grammar.specs.declared.numeral.Numeral.{Numeral}
 use Rattle.grammar.specs.declared.numeral.Numeral.the-variants as numeral
 use Rattle.grammar.specs.declared.line.Form.{Form}
 use Rattle.grammar.specs.declared.line.Form.the-variants.{Skipped, NoForm, Clause, Constraint, Seen, Query, Cost}
-use Rattle.grammar.specs.declared.line.Form.the-variants.{Atom}
+use Rattle.grammar.specs.declared.line.Form.the-variants.{Atom, Edition}
 use Rattle.grammar.specs.declared.brings.Brings.{Brings}
 use Rattle.grammar.specs.Line.{Line, Literal, takes}
 use Rattle.grammar.specs.Bringing.{brings}
@@ -148,6 +148,7 @@ FormIs l (Seen at) x = SeenMakes l at x
 FormIs l (Query at d) x = QueryMakes l at d x
 FormIs l (Cost a e p s) x = Part l a e × CostMakes (slice a e l) p s x
 FormIs l (Atom a e) x = Part l a e × (x ≡ Line.atom (slice a e l))
+FormIs l (Edition n) x = (1 ≤ n) × (n ≤ 2) × (x ≡ Line.edition n)
 
 -- the line of a kind whose tokens behind its word begin at place at
 pub record FormAfter (l : List ℕ) (at kind : ℕ) (r : Form) : Type 0 where

@@ -1,7 +1,7 @@
 // What a line brings.
 
 // How many clauses, constraints and queries a line brings, the depth of its formula, 0 without one, the number of its
-// body's literals, 0 without a body, and its price and supplement, 0 without them.
+// body's literals, 0 without a body, its price and supplement, 0 without them, and how many edition lines it is.
 pub struct Brings {
     pub clauses: usize,
     pub constraints: usize,
@@ -10,4 +10,5 @@ pub struct Brings {
     pub literals: usize,
     pub price: usize,
     pub supplement: usize,
+    pub editions: usize,
 }

@@ -19,8 +19,8 @@ use text::tokens::token;
 
 // The form of a line with the places of its parts: a clause's kind, the ends of its head, behind which its literals
 // begin, and their number; a constraint's kind, the place where its literals begin, and their number; the place where
-// a reading's literal or a formula begins, a formula's depth; the ends of a cost's name, its price and supplement; and
-// the ends of an atom line's name.
+// a reading's literal or a formula begins, a formula's depth; the ends of a cost's name, its price and supplement; the
+// ends of an atom line's name; and the number of an edition.
 pub enum Form {
     Skipped,
     NoForm,
@@ -30,18 +30,19 @@ pub enum Form {
     Query(usize, usize),
     Cost(usize, usize, usize, usize),
     Atom(usize, usize),
+    Edition(usize),
 }
 
 // The words of lines, in the order of their kinds, each behind its length.
-const LINE_WORDS: [u8; 47] =
-    *b"\x04true\x05false\x02if\x05never\x05avoid\x04seen\x05query\x04cost\x04atom";
+const LINE_WORDS: [u8; 55] =
+    *b"\x04true\x05false\x02if\x05never\x05avoid\x04seen\x05query\x04cost\x04atom\x07edition";
 
-// The kind of the line whose word is the part of l from a to e, or 9.
+// The kind of the line whose word is the part of l from a to e, or 10.
 fn kind_of(l: &[u8], a: usize, e: usize) -> usize
     requires { ⌜ (a ≤ e) × (e ≤ length (now l)) ⌝ }
     ensures { λ r. ⌜ r ≡ kindOf (slice a e (now (l .entry))) ⌝ }
 {
-    place_of(l, a, e, &LINE_WORDS, 9)
+    place_of(l, a, e, &LINE_WORDS, 10)
 }
 
 // Whether a closing bracket is all that is left of a line from a place on.
@@ -125,6 +126,29 @@ fn atom_form(l: &[u8], at: usize) -> Form
     Form::Atom(a, e)
 }
 
+// An edition line from behind its word on: the digit 1 or 2.
+fn edition_form(l: &[u8], at: usize) -> Form
+    ensures { λ r. ⌜ FormAfter (now (l .entry)) at 9 r ⌝ }
+{
+    let Next::Word(a, next) = token(l, at) else {
+        return Form::NoForm;
+    };
+    if 1 < next - a {
+        return Form::NoForm;
+    }
+    if !ends_line(l, next) {
+        return Form::NoForm;
+    }
+    let digit = l[a];
+    if digit == b'1' {
+        return Form::Edition(1);
+    }
+    if digit == b'2' {
+        return Form::Edition(2);
+    }
+    Form::NoForm
+}
+
 // A flat line of a kind from behind its word on.
 fn flat_form(l: &[u8], at: usize, kind: usize) -> Form
     requires { ⌜ 7 ≤ kind ⌝ }
@@ -135,6 +159,9 @@ fn flat_form(l: &[u8], at: usize, kind: usize) -> Form
     }
     if kind == 8 {
         return atom_form(l, at);
+    }
+    if kind == 9 {
+        return edition_form(l, at);
     }
     Form::NoForm
 }
@@ -192,6 +219,7 @@ pub fn brings(x: Form) -> Brings
             literals: literals,
             price: 0,
             supplement: 0,
+            editions: 0,
         },
         Form::Constraint(_, _, literals) => Brings {
             clauses: 0,
@@ -201,6 +229,7 @@ pub fn brings(x: Form) -> Brings
             literals: literals,
             price: 0,
             supplement: 0,
+            editions: 0,
         },
         Form::Query(_, depth) => Brings {
             clauses: 0,
@@ -210,6 +239,7 @@ pub fn brings(x: Form) -> Brings
             literals: 0,
             price: 0,
             supplement: 0,
+            editions: 0,
         },
         Form::Cost(_, _, price, supplement) => Brings {
             clauses: 0,
@@ -219,6 +249,17 @@ pub fn brings(x: Form) -> Brings
             literals: 0,
             price: price,
             supplement: supplement,
+            editions: 0,
+        },
+        Form::Edition(_) => Brings {
+            clauses: 0,
+            constraints: 0,
+            queries: 0,
+            depth: 0,
+            literals: 0,
+            price: 0,
+            supplement: 0,
+            editions: 1,
         },
         _ => Brings {
             clauses: 0,
@@ -228,6 +269,7 @@ pub fn brings(x: Form) -> Brings
             literals: 0,
             price: 0,
             supplement: 0,
+            editions: 0,
         },
     }
 }

@@ -8,15 +8,15 @@ use lib.Dec.{leb}
 use lib.ListN.{length}
 use borrow.Author.Tests.{leb-true, le-leb, not-true, not-false}
 use Rattle.program.specs.declared.case.Case.{Case}
-use Rattle.program.specs.Sound.{fewCauses}
+use Rattle.program.specs.Sound.{fewSettings}
 use Rattle.text.proofs.LineLaws.{lines-none}
 use Rattle.store.specs.Lent.{Lent}
-use Rattle.store.specs.Tables.{clauseWords}
+use Rattle.store.specs.Saying.{editionOf}
 use Rattle.store.proofs.Held.{held-in-limits}
 use Rattle.checks.specs.declared.progress.Progress.{Progress}
-use Rattle.reader.specs.Reading.{Outcome, orElse, endRefusal, ending, readLines, readFile}
+use Rattle.reader.specs.Reading.{Outcome, orElse, settingsFew, endRefusal, ending, readLines, readFile}
 use Rattle.reader.specs.Steps.{endRefusalIn, Countable, refusedAt, FileTaken}
-use Rattle.reader.proofs.FilledTables.{few-causes-filled}
+use Rattle.reader.proofs.FilledTables.{few-settings-filled}
 use Rattle.reader.proofs.TakingLines.{or-else-refused, refused-taken, LinesTaken}
 
 -- the checks 11 and 12 of a record
@@ -30,7 +30,7 @@ module _ (c : Case) (cl : List ℕ) where
     countable-held p =
         (p .atoms-some h, p .limits .atoms-few, p .limits .clauses-few, omega (arith, p .limits .clauses-few))
 
-    module _ {b : Bool} (f : b ≡ fewCauses (c .atoms) cl (c .clauses)) where
+    module _ {b : Bool} (f : b ≡ fewSettings (c .edition) (c .atoms) cl (c .clauses)) where
       pub end-twelve : not b ≡ true → 12 ≡ endRefusalIn c cl
       end-twelve e = rw (le-leb 1 (c .formulas) (omega arith), ← f, not-true b e)
 
@@ -46,20 +46,19 @@ module _ {f : List ℕ} {t₀ t : Lent} {p : Progress} {at line : ℕ} (i : Line
   query-is : leb 1 (c .formulas) ≡ leb 1 (length (i .said .queries))
   query-is = rw (i .reached .held .case-is)
 
-  few-is : fewCauses (c .atoms) (t .clauses) (c .clauses)
-      ≡ fewCauses (length (i .said .names)) (clauseWords (i .said .clauses)) (length (i .said .clauses))
+  few-is : fewSettings (c .edition) (c .atoms) (t .clauses) (c .clauses) ≡ settingsFew (i .said)
   few-is =
       let e = ap (λ (x : Lent). x .clauses) (i .reached .held .tables-are) in
       rw (i .reached .held .case-is, e)
-      (few-causes-filled (i .said .clauses) (t .clauses) (i .long .clauses-long)
-      (i .reached .held .limits .clauses-few) (length (i .said .names)))
+      (few-settings-filled (i .said .clauses) (t .clauses) (i .long .clauses-long)
+      (i .reached .held .limits .clauses-few) (editionOf (i .said .editions)) (length (i .said .names)))
 
   end-is : endRefusalIn c (t .clauses) ≡ endRefusal (i .said)
   end-is = rw (query-is, few-is)
 
-  -- what counting the causes requires
-  pub causes-countable : Countable c (t .clauses)
-  causes-countable = record {
+  -- what counting the settings requires
+  pub settings-countable : Countable c (t .clauses)
+  settings-countable = record {
     limits = held-in-limits (i .said) c t (i .reached .held);
     atoms-some = λ h.
         let q : 1 ≤ length (i .said .queries) = leb-true 1 _ (sym query-is ∙ le-leb 1 (c .formulas) (omega arith)) in

@@ -24,7 +24,7 @@ use Rattle.text.proofs.Each.{Each, each-at, each-gives}
 use Rattle.names.proofs.Rows.{filled-row}
 use Rattle.store.specs.Lent.{Lent, filledWith}
 use Rattle.store.specs.Prices.{CostRow, priceIn}
-use Rattle.store.specs.Saying.{ClauseRow, Said, nothingSaid, plainAtoms, negatedAtoms}
+use Rattle.store.specs.Saying.{ClauseRow, Said, nothingSaid, editionOf, plainAtoms, negatedAtoms}
 use Rattle.store.specs.Tables.{wordsOf, caseSaid}
 use Rattle.store.specs.Held.{Long}
 use Rattle.store.proofs.Lent.{lent-same}
@@ -116,6 +116,7 @@ module _ (f : List ℕ) (st : Said) (e : readFile f ≡ Outcome.case st) where
       prices-are = λ a h.
           rw tables (price-at (st .costs) (t .prices) (long .prices-long) a h)
           ∙ ap (λ (cs : List CostRow). priceIn cs a) (content-read .costs-are);
+      edition-is = rw found (ap editionOf (content-read .editions-are));
     }
 
 -- The answer of reading

@@ -12,8 +12,8 @@ use Rattle.words.proofs.Lists.{list-of-is, list-of-grown}
 use Rattle.logic.specs.Formula.{body}
 use Rattle.program.specs.Case.{clauseSize, constraintSize}
 use Rattle.program.specs.Program.{Clause, clause, byKind, clauseAt, clausesOf}
-use Rattle.program.specs.Sound.{fewCauses}
-use Rattle.program.proofs.MakingSound.{few-causes-ext}
+use Rattle.program.specs.Sound.{fewSettings}
+use Rattle.program.proofs.MakingSound.{few-settings-ext}
 use Rattle.table.specs.Filled.{filled}
 use Rattle.table.proofs.Filled.{filled-at}
 use Rattle.text.proofs.Each.{Each, each-at}
@@ -43,11 +43,12 @@ module _ (cs : List ClauseRow) (old : List ℕ) (long : clauseSize ≤ length ol
   abbrev cl : List ℕ
   cl = filled clauseSize (clauseWords cs) old
 
-  -- the causes of the table are those of the words that it is filled with
-  pub few-causes-filled : (n : ℕ) → fewCauses n cl (length cs) ≡ fewCauses n (clauseWords cs) (length cs)
-  few-causes-filled n =
-      few-causes-ext cl (clauseWords cs) (length cs)
-      (λ k l. filled-at clauseSize (clauseWords cs) old (3 * k) (omega arith) long) n
+  -- the settings of the table are those of the words that it is filled with
+  pub few-settings-filled : (e n : ℕ)
+      → fewSettings e n cl (length cs) ≡ fewSettings e n (clauseWords cs) (length cs)
+  few-settings-filled e n =
+      few-settings-ext cl (clauseWords cs) (length cs)
+      (λ k l. filled-at clauseSize (clauseWords cs) old (3 * k) (omega arith) long) e n
 
   pub clauses-filled : Each (λ (r : ClauseRow). r .head < 64) cs → clausesOf cl (length cs) ≡ map rowClause cs
   unfolding clausesOf clauseAt

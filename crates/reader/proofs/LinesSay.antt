@@ -71,25 +71,34 @@ module _ (ns : List (List ℕ)) where
     pub negated-are : Has true (st .negated) (x .observed)
     pub queries-are : st .queries ≡ x .queries
     pub costs-are : st .costs ≡ x .costs
+    pub editions-are : st .editions ≡ x .editions
 
   -- by its parts
-  saying : (st : Said) (x : Content) → map rowClause (st .clauses) ≡ x .clauses
+  saying : {st : Said} {x : Content} → map rowClause (st .clauses) ≡ x .clauses
       → map rowConstraint (st .constraints) ≡ x .constraints → Has false (st .plain) (x .observed)
-      → Has true (st .negated) (x .observed) → st .queries ≡ x .queries → st .costs ≡ x .costs → Saying st x
-  saying st x c d p q f k =
-      record { clauses-are = c; constraints-are = d; plain-are = p; negated-are = q; queries-are = f; costs-are = k }
+      → Has true (st .negated) (x .observed) → st .queries ≡ x .queries → st .costs ≡ x .costs
+      → st .editions ≡ x .editions → Saying st x
+  saying c d p q f k e = record {
+    clauses-are = c;
+    constraints-are = d;
+    plain-are = p;
+    negated-are = q;
+    queries-are = f;
+    costs-are = k;
+    editions-are = e;
+  }
 
   pub nothing-saying : Saying nothingSaid noContent
   nothing-saying =
-      saying nothingSaid noContent refl refl (λ a h. rw (has-zero, on-none (atomOf ns) false a))
-      (λ a h. rw (has-zero, on-none (atomOf ns) true a)) refl refl
+      saying refl refl (λ a h. rw (has-zero, on-none (atomOf ns) false a))
+      (λ a h. rw (has-zero, on-none (atomOf ns) true a)) refl refl refl
 
   none-saying : (st : Said) (x : Content) → Saying st x → (ms : List (List ℕ))
       → Saying (renamed ms st) (andThen x noContent)
   none-saying st x s ms =
-      saying _ _ (s .clauses-are ∙ sym (append-nil _)) (s .constraints-are ∙ sym (append-nil _))
+      saying (s .clauses-are ∙ sym (append-nil _)) (s .constraints-are ∙ sym (append-nil _))
       (λ a h. rw append-nil (s .plain-are a h)) (λ a h. rw append-nil (s .negated-are a h))
-      (s .queries-are ∙ sym (append-nil _)) (s .costs-are ∙ sym (append-nil _))
+      (s .queries-are ∙ sym (append-nil _)) (s .costs-are ∙ sym (append-nil _)) (s .editions-are ∙ sym (append-nil _))
 
   -- a line behind st, whose names have the same numbers among ms
   module _ (st : Said) (x : Content) (s : Saying st x) (ms : List (List ℕ)) where
@@ -111,24 +120,28 @@ module _ (ns : List (List ℕ)) where
     line-saying Line.skipped h = none
     line-saying Line.noForm h = none
     line-saying (Line.clause k w l) h =
-        saying _ _
+        saying
         (rw (h .0, atoms-same _ _ false l (h .1), atoms-same _ _ true l (h .1), map-append, s .clauses-are))
         (none .constraints-are) (none .plain-are) (none .negated-are) (none .queries-are) (none .costs-are)
+        (none .editions-are)
     line-saying (Line.constraint k l) h =
-        saying _ _ (none .clauses-are)
+        saying (none .clauses-are)
         (rw (atoms-same _ _ false l h, atoms-same _ _ true l h, map-append, s .constraints-are))
-        (none .plain-are) (none .negated-are) (none .queries-are) (none .costs-are)
+        (none .plain-are) (none .negated-are) (none .queries-are) (none .costs-are) (none .editions-are)
     line-saying (Line.seen y) h =
-        saying _ _ (none .clauses-are) (none .constraints-are)
+        saying (none .clauses-are) (none .constraints-are)
         (seen-has false (y ∷ []) _ h (s .plain-are)) (seen-has true (y ∷ []) _ h (s .negated-are)) (none .queries-are)
-        (none .costs-are)
+        (none .costs-are) (none .editions-are)
     line-saying (Line.query f) h =
-        saying _ _ (none .clauses-are) (none .constraints-are) (none .plain-are) (none .negated-are)
-        (rw (encoded-same _ _ f h, s .queries-are)) (none .costs-are)
+        saying (none .clauses-are) (none .constraints-are) (none .plain-are) (none .negated-are)
+        (rw (encoded-same _ _ f h, s .queries-are)) (none .costs-are) (none .editions-are)
     line-saying (Line.cost w y z) h =
-        saying _ _ (none .clauses-are) (none .constraints-are) (none .plain-are) (none .negated-are)
-        (none .queries-are) (rw (h .0, s .costs-are))
+        saying (none .clauses-are) (none .constraints-are) (none .plain-are) (none .negated-are)
+        (none .queries-are) (rw (h .0, s .costs-are)) (none .editions-are)
     line-saying (Line.atom w) h = none
+    line-saying (Line.edition e) h =
+        saying (none .clauses-are) (none .constraints-are) (none .plain-are) (none .negated-are) (none .queries-are)
+        (none .costs-are) (rw (s .editions-are))
 
   -- one line that passes, with the names of the lines behind it still to come
   module _ (st : Said) (x : Content) (s : Saying st x) (l : List ℕ) (ls : List (List ℕ)) where

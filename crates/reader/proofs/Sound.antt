@@ -1,5 +1,5 @@
 -- What was read of an accepted file is a sound case, with tables filled over any tables of full size. Assumes nothing.
-use mathlib.Core.Path.{_≡_, sym, _∙_}
+use mathlib.Core.Path.{_≡_, refl, sym, _∙_}
 use mathlib.Core.Bool.{true}
 use mathlib.Core.List.{List}
 use Prim.Native.Nat.{ℕ, _+_, _*_, _≤_, _<_}
@@ -7,7 +7,7 @@ use lib.ListN.{length, getD}
 use Rattle.logic.specs.Formula.{Formula}
 use Rattle.logic.proofs.Spelled.{one-formula-complete}
 use Rattle.program.specs.Case.{clauseSize, constraintSize, formulaSize, tablesFull}
-use Rattle.program.specs.Sound.{limitsHold, soundClause, soundClauses, soundConstraint, soundConstraints, fewCauses}
+use Rattle.program.specs.Sound.{limitsHold, soundClause, soundClauses, soundConstraint, soundConstraints, fewSettings}
 use Rattle.program.specs.Sound.{soundFormulas, sound}
 use Rattle.program.proofs.Soundness.{sound-rest}
 use Rattle.program.proofs.MakingSound.{tables-full, limits-hold, within-below, clause-passes, clauses-pass}
@@ -17,13 +17,14 @@ use Rattle.table.proofs.Filled.{filled-length}
 use Rattle.text.proofs.Each.{each-at}
 use Rattle.store.specs.Lent.{Lent}
 use Rattle.store.specs.Held.{Long}
-use Rattle.store.specs.Saying.{ClauseRow, ConstraintRow, Said}
+use Rattle.store.specs.Saying.{ClauseRow, ConstraintRow, Said, editionOf}
 use Rattle.store.specs.Tables.{clauseWords, caseSaid, constraintWords, formulaParts, nodeCounts}
+use Rattle.store.proofs.Saying.{last-each}
 use Rattle.store.proofs.Formulas.{over-some}
 use Rattle.store.proofs.FilledRows.{noRow, noConstraint, clause-is, constraint-is, count-is, formula-is}
-use Rattle.reader.proofs.WellFormed.{Rows, ClauseFormed, ConstraintFormed, QueryFormed, query-spells}
+use Rattle.reader.proofs.WellFormed.{Rows, ClauseFormed, ConstraintFormed, QueryFormed, IsEdition, query-spells}
 use Rattle.reader.proofs.WellFormedLines.{Ended}
-use Rattle.reader.proofs.FilledTables.{few-causes-filled}
+use Rattle.reader.proofs.FilledTables.{few-settings-filled}
 
 module _ (n : ℕ) where
   -- Clauses and constraints
@@ -87,10 +88,13 @@ module _ (st : Said) (t : Lent) (long : Long t) (d : Ended st) where
   limits =
       limits-hold (caseSaid st) (over-some n _ (query 0 (d .query-some) .over-atoms)) few (d .formed .clauses .few)
       (d .formed .constraints .few) (d .query-some) (d .formed .queries .few)
+      (last-each IsEdition 1 (st .editions) refl (d .formed .editions .each))
 
-  causes : fewCauses n cl (length (st .clauses)) ≡ true
-  causes =
-      few-causes-filled (st .clauses) (t .clauses) (long .clauses-long) (d .formed .clauses .few) n ∙ d .causes-few
+  settings : fewSettings (editionOf (st .editions)) n cl (length (st .clauses)) ≡ true
+  settings =
+      few-settings-filled (st .clauses) (t .clauses) (long .clauses-long) (d .formed .clauses .few)
+      (editionOf (st .editions)) n
+      ∙ d .settings-few
 
   formulas-sound : soundFormulas n (padded 16 (nodeCounts (st .queries))) fo (length (st .queries)) ≡ true
   formulas-sound =
@@ -107,5 +111,5 @@ module _ (st : Said) (t : Lent) (long : Long t) (d : Ended st) where
       sym (sound-rest (caseSaid st) cl co fo full limits
       (clauses-sound n (st .clauses) (t .clauses) few (long .clauses-long) (d .formed .clauses))
       (constraints-sound n (st .constraints) (t .constraints) (long .constraints-long) (d .formed .constraints))
-      (within-below n _ _ (d .formed .observed .plain-lt) (d .formed .observed .negated-lt)) causes)
+      (within-below n _ _ (d .formed .observed .plain-lt) (d .formed .observed .negated-lt)) settings)
       ∙ formulas-sound

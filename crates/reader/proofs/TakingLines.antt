@@ -1,26 +1,29 @@
 -- Laws of taking lines one after the other: the file's outcome is that of the lines left, behind what was read.
 -- Assumes nothing.
-use mathlib.Core.Path.{_≡_, refl, sym, ap, _∙_}
+use mathlib.Core.Path.{_≡_, refl, sym, ap, ap₂, _∙_}
 use mathlib.Core.List.{List, _∷_}
 use Prim.Native.Nat.{ℕ, zero, suc, _+_, _-_, _≤_}
 use native.Mathlib.Numerals.{add-one}
 use native.Mathlib.Omega.{arith}
-use lib.ListN.{length, take, drop}
+use lib.ListN.{length, replicate, take, drop}
 use lib.Seq.{slice}
 use Rattle.text.specs.Lines.{lines}
 use Rattle.text.specs.Scanning.{LineEnds}
 use Rattle.text.proofs.Slices.{slice-take}
+use Rattle.program.specs.declared.case.Case.{Case}
+use Rattle.table.proofs.Filled.{padded-zeros}
 use Rattle.store.specs.Lent.{Lent}
 use Rattle.store.specs.Saying.{Said, nothingSaid}
-use Rattle.store.specs.Tables.{noCase}
-use Rattle.store.specs.Held.{Long, InLimits, Kept}
+use Rattle.store.specs.Tables.{caseWith, caseSaid}
+use Rattle.store.specs.Held.{Long, Kept}
 use Rattle.store.proofs.Held.{held-in-limits}
 use Rattle.store.proofs.Lent.{kept-refl-all, kept-trans-all}
+use Rattle.store.proofs.Saying.{last-none}
 use Rattle.store.proofs.KeptTables.{SameLengths, kept-lengths, kept-long}
 use Rattle.checks.specs.declared.progress.Progress.{Progress}
 use Rattle.checks.specs.declared.take.Taken.{Taken}
 use Rattle.checks.specs.Checks.{lineRefusal, saidAfter}
-use Rattle.checks.specs.Progress.{Reached}
+use Rattle.checks.specs.Progress.{Reached, Bounded}
 use Rattle.checks.specs.Took.{Took, TakenAs}
 use Rattle.checks.proofs.Costed.{none-costed}
 use Rattle.reader.specs.declared.read.Answer.{Answer}
@@ -80,8 +83,14 @@ pub record LinesTaken (f : List ℕ) (t₀ t : Lent) (p : Progress) (at line : �
   pub rest-is : readFile f ≡ readLines (lines (drop at f)) said line
 
 -- before the first line
+abbrev pub nothingRead : Case
+nothingRead = caseWith 0 0 0 0 0 0 (replicate 16 0) 1
+
+nothing-read : nothingRead ≡ caseSaid nothingSaid
+nothing-read = ap₂ (caseWith 0 0 0 0 0 0) (padded-zeros 16) (sym (last-none 1))
+
 abbrev pub noProgress : Progress
-noProgress = record { found = noCase; costed = 0 }
+noProgress = record { found = nothingRead; costed = 0; editions = 0 }
 
 pub no-lines-taken : {f : List ℕ} {t : Lent} → Ready f t → LinesTaken f t t noProgress 0 1
 unfolding readFile
@@ -89,14 +98,21 @@ no-lines-taken {f} {t} h = record {
   places = record { short = h .short; near = omega arith; counted = omega arith };
   long = h .long;
   said = nothingSaid;
-  reached = record { held = h .held; costed-are = none-costed };
+  reached = record {
+    held = rw nothing-read (h .held);
+    costed-are = none-costed;
+    editions-are = refl;
+    editions-few = omega arith;
+  };
   kept = kept-refl-all t;
   rest-is = refl;
 }
 
-pub taken-in-limits : {f : List ℕ} {t₀ t : Lent} {p : Progress} {at line : ℕ} → LinesTaken f t₀ t p at line
-    → InLimits (p .found)
-taken-in-limits {f} {t₀} {t} {p} i = held-in-limits (i .said) (p .found) t (i .reached .held)
+pub taken-bounded : {f : List ℕ} {t₀ t : Lent} {p : Progress} {at line : ℕ} → LinesTaken f t₀ t p at line → Bounded p
+taken-bounded {f} {t₀} {t} {p} i = record {
+  found-few = held-in-limits (i .said) (p .found) t (i .reached .held);
+  editions-few = i .reached .editions-few;
+}
 
 -- the line w of f from place at to place e is taken
 module _ {f : List ℕ} {t₀ t u : Lent} {p : Progress} {at e line : ℕ} {r : Taken} (i : LinesTaken f t₀ t p at line)

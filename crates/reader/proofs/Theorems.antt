@@ -16,7 +16,7 @@ use Rattle.store.proofs.Encoded.{encoded-length}
 use Rattle.store.proofs.Prices.{supplement-near}
 use Rattle.checks.specs.Naming.{IsName}
 use Rattle.reader.specs.Claims.{AcceptedSound, TablesSay, AcceptedNames, FirstBad, ReadExact}
-use Rattle.reader.specs.Claims.{FirstBadLine, NoBadLine, ElevenRead, NodesFit, SupplementNearest}
+use Rattle.reader.specs.Claims.{FirstBadLine, NoBadLine, OneEdition, ElevenRead, NodesFit, SupplementNearest}
 use Rattle.reader.proofs.EarlyRefusals.{fit-long}
 use Rattle.reader.proofs.WellFormedLines.{accepted-formed}
 use Rattle.reader.proofs.Sound.{ended-sound}
@@ -52,6 +52,9 @@ first-bad-line f n k e =
 pub no-bad-line : NoBadLine
 no-bad-line f n e =
     read-cases f _ e (λ h d. h) (λ m k b d. let z : suc k ≡ 0 = cc in absurd (omega arith))
+
+pub one-edition : OneEdition
+one-edition f st e = accepted-formed f st e .formed .editions .few
 
 pub eleven-read : ElevenRead
 eleven-read f st k e h = each-at Few (lines f) k [] (accepted-lines f st e) h

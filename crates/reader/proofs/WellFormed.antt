@@ -4,6 +4,7 @@
 --   BitsBelow n p q      every bit of the two words names one of n atoms
 --   NamesFormed ns       at most 64 names, which are names and differ
 --   ClauseFormed n c     a clause over n atoms; ConstraintFormed and QueryFormed are alike
+--   IsEdition e          there is an edition e
 --   WellFormed st        what was read is well formed
 use mathlib.Core.Path.{_≡_, refl}
 use mathlib.Core.Bool.{true, false}
@@ -17,7 +18,7 @@ use Rattle.logic.specs.Formula.{Formula, depth, over}
 use Rattle.logic.specs.Nodes.{nodes}
 use Rattle.logic.specs.Claims.{Spells}
 use Rattle.program.specs.Case.{partSize}
-use Rattle.program.specs.Sound.{bare, shaped}
+use Rattle.program.specs.Sound.{isEdition, bare, shaped}
 use Rattle.names.specs.Names.{withNames}
 use Rattle.names.proofs.Distinct.{Distinct}
 use Rattle.text.proofs.Each.{Each, each-append, each-gives}
@@ -68,6 +69,9 @@ pub record QueryFormed (n : ℕ) (f : Formula) : Type 0 where
   pub not-deep : depth f ≤ 16
   pub nodes-few : length (nodes f) ≤ partSize
 
+abbrev pub IsEdition : ℕ → Type 0
+IsEdition e = isEdition e ≡ true
+
 -- and so its nodes are exactly one formula
 pub query-spells : {n : ℕ} {f : Formula} → QueryFormed n f → Spells n (nodes f) f
 query-spells r = record { nodes-are = refl; over-atoms = r .over-atoms; not-deep = r .not-deep }
@@ -80,18 +84,20 @@ pub record WellFormed (st : Said) : Type 0 where
   pub constraints : Rows (ConstraintFormed (length (st .names))) 32 (st .constraints)
   pub observed : BitsBelow (length (st .names)) (st .plain) (st .negated)
   pub queries : Rows (QueryFormed (length (st .names))) 16 (st .queries)
+  pub editions : Rows IsEdition 1 (st .editions)
 
 -- by its parts
-pub well-formed : (st : Said) → NamesFormed (st .names) → Rows (ClauseFormed (length (st .names))) 256 (st .clauses)
+pub well-formed : {st : Said} → NamesFormed (st .names) → Rows (ClauseFormed (length (st .names))) 256 (st .clauses)
     → Rows (ConstraintFormed (length (st .names))) 32 (st .constraints)
     → BitsBelow (length (st .names)) (st .plain) (st .negated)
-    → Rows (QueryFormed (length (st .names))) 16 (st .queries) → WellFormed st
-well-formed st ns cs ds o fs = record { names = ns; clauses = cs; constraints = ds; observed = o; queries = fs }
+    → Rows (QueryFormed (length (st .names))) 16 (st .queries) → Rows IsEdition 1 (st .editions) → WellFormed st
+well-formed ns cs ds o fs es =
+    record { names = ns; clauses = cs; constraints = ds; observed = o; queries = fs; editions = es }
 
 pub nothing-formed : WellFormed nothingSaid
 nothing-formed =
-    well-formed nothingSaid (record { rows = rows-none IsName 64; distinct = distinct-none }) (rows-none _ 256)
-    (rows-none _ 32) (record { plain-lt = omega arith; negated-lt = omega arith }) (rows-none _ 16)
+    well-formed (record { rows = rows-none IsName 64; distinct = distinct-none }) (rows-none _ 256)
+    (rows-none _ 32) (record { plain-lt = omega arith; negated-lt = omega arith }) (rows-none _ 16) (rows-none _ 1)
 
 -- More names
 
@@ -123,7 +129,8 @@ pub renamed-formed : (st : Said) (ws : List (List ℕ)) → WellFormed st → Ea
     → length (withNames (st .names) ws) ≤ 64 → WellFormed (renamed (withNames (st .names) ws) st)
 renamed-formed st ws r k few =
     let h = with-names-length (st .names) ws in
-    well-formed (renamed (withNames (st .names) ws) st) (names-formed (st .names) ws (r .names) k few)
+    well-formed (names-formed (st .names) ws (r .names) k few)
     (rows-give _ 256 (st .clauses) _ (clause-mono _ _ h) (r .clauses))
     (rows-give _ 32 (st .constraints) _ (constraint-mono _ _ h) (r .constraints))
     (below-mono _ _ h _ _ (r .observed)) (rows-give _ 16 (st .queries) _ (query-mono _ _ h) (r .queries))
+    (r .editions)

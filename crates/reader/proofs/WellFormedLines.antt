@@ -3,13 +3,14 @@
 use mathlib.Core.Path.{_≡_, refl, ap, subst}
 use mathlib.Core.Bool.{Bool, true, false, not}
 use mathlib.Core.List.{List, [], _∷_}
-use Prim.Native.Nat.{ℕ, zero, suc, _*_, _≤_, _<_}
+use Prim.Native.Nat.{ℕ, zero, suc, _+_, _*_, _≤_, _<_}
 use native.Mathlib.Omega.{arith}
+use lib.Dec.{eqb}
 use lib.ListN.{length}
-use borrow.Author.Tests.{leb-true}
+use borrow.Author.Tests.{eqb-true, leb-true}
 use Rattle.words.proofs.Tests.{by-test}
 use Rattle.words.proofs.Checks.{none-failed}
-use Rattle.program.specs.Sound.{bare, shaped, fewCauses}
+use Rattle.program.specs.Sound.{bare, shaped}
 use Rattle.text.specs.Lines.{lines, isComment}
 use Rattle.text.specs.Tokens.{tokens}
 use Rattle.text.specs.Words.{namesIn}
@@ -17,7 +18,7 @@ use Rattle.text.proofs.Each.{Each}
 use Rattle.formulas.specs.Sentence.{Sentence, sentenceNames, depthOf}
 use Rattle.formulas.specs.Parsing.{sizeOf}
 use Rattle.text.proofs.TokenCounts.{tokens-le-bytes}
-use Rattle.grammar.specs.Line.{Line, Literal, bodyNames, lineNames, isLine}
+use Rattle.grammar.specs.Line.{Line, Literal, bodyNames, lineNames, isEdition, isLine}
 use Rattle.grammar.specs.Bringing.{brings}
 use Rattle.grammar.specs.LineOf.{lineOf}
 use Rattle.grammar.proofs.LineLaws.{line-names, Bodied, ClauseShaped, Shaped, line-shaped}
@@ -25,18 +26,22 @@ use Rattle.names.specs.Names.{atomOf, withNames}
 use Rattle.names.proofs.Adding.{each-found}
 use Rattle.store.specs.Saying.{Said, nothingSaid, plainAtoms, negatedAtoms, encoded, clauseRow, constraintRow}
 use Rattle.store.specs.Saying.{renamed, saidBy}
-use Rattle.store.specs.Tables.{clauseWords}
 use Rattle.store.proofs.Encoded.{Known, encoded-length, encoded-depth, encoded-over}
 use Rattle.store.proofs.Literals.{or-atoms-lt, atoms-lt, none-bare, body-not-bare}
 use Rattle.checks.specs.Checks.{saidWith, lineRefusal, saidAfter}
 use Rattle.checks.proofs.Passing.{RoomPasses, FormPasses, line-passes}
 use Rattle.checks.proofs.After.{after-comment, after-line}
 use Rattle.checks.proofs.Naming.{names-named}
-use Rattle.reader.specs.Reading.{Outcome, endChecks, readFile}
+use Rattle.reader.specs.Reading.{Outcome, settingsFew, endChecks, readFile}
 use Rattle.reader.specs.Claims.{saidThrough, allPass}
 use Rattle.reader.proofs.WellFormed.{rows-push, BitsBelow, ClauseFormed, ConstraintFormed, QueryFormed}
-use Rattle.reader.proofs.WellFormed.{WellFormed, well-formed, nothing-formed, renamed-formed}
+use Rattle.reader.proofs.WellFormed.{IsEdition, WellFormed, well-formed, nothing-formed, renamed-formed}
 use Rattle.reader.proofs.FirstBad.{first-passes, accepted-through}
+
+-- the edition of a line
+edition-formed : (e : ℕ) → isEdition e ≡ true → IsEdition e
+edition-formed e h =
+    by-test (eqb e 1) (λ k. rw (eqb-true e 1 k)) (λ k. let t = rw k at h in rw (eqb-true e 2 t))
 
 -- What a line's parts make, where their names are all among ns
 
@@ -76,32 +81,36 @@ module _ (ns : List (List ℕ)) (h : length ns ≤ 64) where
   module _ (st : Said) (r : WellFormed (renamed ns st)) (n : ℕ) (s : n ≤ 200) where
     said-formed : (y : Line) {q : Bool} → Each (Known ns) (lineNames y) → Shaped n y → brings y .depth ≤ 16
         → RoomPasses (length ns) (length (st .clauses)) (length (st .constraints)) (length (st .queries)) q (brings y)
-        → WellFormed (saidBy (renamed ns st) y)
+        → length (st .editions) + brings y .editions ≤ 1 → WellFormed (saidBy (renamed ns st) y)
     unfolding saidBy
-    said-formed Line.skipped p b d m = r
-    said-formed Line.noForm p b d m = r
-    said-formed (Line.clause k w l) p b d m =
-        well-formed _ (r .names)
+    said-formed Line.skipped p b d m o = r
+    said-formed Line.noForm p b d m o = r
+    said-formed (Line.clause k w l) p b d m o =
+        well-formed (r .names)
         (rows-push _ 256 _ _ (r .clauses) (omega (arith, m .clauses-few)) (row-formed k w l (p .0) b (p .1)))
-        (r .constraints) (r .observed) (r .queries)
-    said-formed (Line.constraint k l) p b d m =
-        well-formed _ (r .names) (r .clauses)
+        (r .constraints) (r .observed) (r .queries) (r .editions)
+    said-formed (Line.constraint k l) p b d m o =
+        well-formed (r .names) (r .clauses)
         (rows-push _ 32 _ _ (r .constraints) (omega (arith, m .constraints-few)) (constraint-formed k l b p))
-        (r .observed) (r .queries)
-    said-formed (Line.seen x) p b d m =
-        let o = literals-below (x ∷ []) p in
-        well-formed _ (r .names) (r .clauses) (r .constraints)
+        (r .observed) (r .queries) (r .editions)
+    said-formed (Line.seen x) p b d m o =
+        let x = literals-below (x ∷ []) p in
+        well-formed (r .names) (r .clauses) (r .constraints)
         (record {
-          plain-lt = or-atoms-lt _ _ _ h (r .observed .plain-lt) (o .plain-lt);
-          negated-lt = or-atoms-lt _ _ _ h (r .observed .negated-lt) (o .negated-lt);
+          plain-lt = or-atoms-lt _ _ _ h (r .observed .plain-lt) (x .plain-lt);
+          negated-lt = or-atoms-lt _ _ _ h (r .observed .negated-lt) (x .negated-lt);
         })
-        (r .queries)
-    said-formed (Line.query f) p b d m =
-        well-formed _ (r .names) (r .clauses) (r .constraints) (r .observed)
+        (r .queries) (r .editions)
+    said-formed (Line.query f) p b d m o =
+        well-formed (r .names) (r .clauses) (r .constraints) (r .observed)
         (rows-push _ 16 _ _ (r .queries) (omega (arith, m .queries-few)) (sentence-formed f p (omega arith) d))
-    said-formed (Line.cost w x y) p b d m =
-        well-formed _ (r .names) (r .clauses) (r .constraints) (r .observed) (r .queries)
-    said-formed (Line.atom w) p b d m = r
+        (r .editions)
+    said-formed (Line.cost w x y) p b d m o =
+        well-formed (r .names) (r .clauses) (r .constraints) (r .observed) (r .queries) (r .editions)
+    said-formed (Line.atom w) p b d m o = r
+    said-formed (Line.edition e) p b d m o =
+        well-formed (r .names) (r .clauses) (r .constraints) (r .observed) (r .queries)
+        (rows-push _ 1 _ _ (r .editions) (omega arith) (edition-formed e b))
 
 -- A line
 
@@ -120,6 +129,7 @@ form-formed st l r h p =
     let named = renamed-formed st ws r (names-named l (p .is-line) (p .text .names-short)) (p .room .names-few) in
     said-formed ns (p .room .names-few) st named (length (tokens l)) (omega (arith, tokens-le-bytes l))
     (lineOf (tokens l)) (line-known st l (p .is-line)) (line-shaped (tokens l)) (p .text .not-deep) (p .room)
+    (p .editions-few)
 
 line-formed : (st : Said) (l : List ℕ) → WellFormed st → lineRefusal st l ≡ 0 → WellFormed (saidAfter st l)
 line-formed st l r e =
@@ -131,7 +141,7 @@ line-formed st l r e =
 pub record Ended (st : Said) : Type 0 where
   pub formed : WellFormed st
   pub query-some : 1 ≤ length (st .queries)
-  pub causes-few : fewCauses (length (st .names)) (clauseWords (st .clauses)) (length (st .clauses)) ≡ true
+  pub settings-few : settingsFew st ≡ true
 
 through-formed : (ls : List (List ℕ)) (st : Said) → WellFormed st → allPass ls st ≡ true
     → WellFormed (saidThrough ls st)
@@ -149,5 +159,5 @@ accepted-formed f st e =
     record {
       formed = r;
       query-some = leb-true 1 _ (p .0);
-      causes-few = p .1 .0;
+      settings-few = p .1 .0;
     }

@@ -1,9 +1,11 @@
 -- What is claimed of reading beyond the contract of *read*. Proved in proofs/Theorems.antt.
 -- From: document 01, "What each operation refuses" (Reading), "Case tables and sound cases"; document 02, [7] ("the
--- supplement rounded to the nearest cent, half a cent upwards"), [9] ("Make 11 the limit").
+-- supplement rounded to the nearest cent, half a cent upwards"), [9] ("Make 11 the limit"), [10] ("21 when a second
+-- edition line comes").
 --
 --   AcceptedSound, TablesSay, AcceptedNames     an accepted file's record and tables
 --   ReadExact, FirstBadLine, NoBadLine          which line decides
+--   OneEdition                                  how many edition lines an accepted file has
 --   ElevenRead                                  how many literals a body of an accepted file has
 --   NodesFit                                    why there is no refusal for too many nodes
 --   SupplementNearest                           how a supplement is rounded
@@ -88,6 +90,10 @@ FirstBadLine = (f : List ℕ) (n k : ℕ) → readFile f ≡ Outcome.refused n (
 -- a refusal with line 0 comes after all lines passed
 abbrev pub NoBadLine : Type 0
 NoBadLine = (f : List ℕ) (n : ℕ) → readFile f ≡ Outcome.refused n 0 → allPass (lines f) nothingSaid ≡ true
+
+-- an accepted file says at most one edition
+abbrev pub OneEdition : Type 0
+OneEdition = (f : List ℕ) (st : Said) → readFile f ≡ Outcome.case st → length (st .editions) ≤ 1
 
 -- no line of an accepted file, comments aside, has more than 11 literals in its body, as written
 abbrev pub ElevenRead : Type 0

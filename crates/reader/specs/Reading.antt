@@ -1,19 +1,22 @@
 -- Reading a whole file: the first bad line decides, then 11 and 12.
--- From: document 01, "What each operation refuses" (Reading).
+-- From: document 01, "What each operation refuses" (Reading); document 02, [10] ("The limit in 12 and 13 becomes a
+-- product of at most 59,049 settings").
 --
 --   Outcome            what a file says, or the number of a refusal and its line
 --   saidIn o           what an outcome says; refusalOf and lineOfRefusal its number and line
+--   settingsFew st     there are at most 59,049 settings by what was read, in the edition that it says
 --   endChecks st       the checks after the last line; endRefusal st the number of the first that fails, or 0
 --   ending st          what they leave
 --   readFile f         the outcome of the file f
+use mathlib.Core.Bool.{Bool}
 use mathlib.Core.List.{List, [], _∷_}
 use Prim.Native.Nat.{ℕ, zero, suc}
 use lib.Dec.{leb}
 use lib.ListN.{length}
 use Rattle.words.specs.Choice.{Check, check, firstFailed}
-use Rattle.program.specs.Sound.{fewCauses}
+use Rattle.program.specs.Sound.{fewSettings}
 use Rattle.text.specs.Lines.{lines}
-use Rattle.store.specs.Saying.{Said, nothingSaid}
+use Rattle.store.specs.Saying.{Said, nothingSaid, editionOf}
 use Rattle.store.specs.Tables.{clauseWords}
 use Rattle.checks.specs.Checks.{lineRefusal, saidAfter}
 
@@ -40,12 +43,13 @@ abbrev pub orElse : ℕ → ℕ → Outcome → Outcome
 orElse zero k o = o
 orElse (suc n) k o = Outcome.refused (suc n) k
 
--- after the last line: 11 no query, 12 more than 10 causes
+abbrev pub settingsFew : Said → Bool
+settingsFew st =
+    fewSettings (editionOf (st .editions)) (length (st .names)) (clauseWords (st .clauses)) (length (st .clauses))
+
+-- after the last line: 11 no query, 12 more than 59,049 settings
 abbrev pub endChecks : Said → List Check
-endChecks st =
-    check 11 (leb 1 (length (st .queries)))
-    ∷ check 12 (fewCauses (length (st .names)) (clauseWords (st .clauses)) (length (st .clauses)))
-    ∷ []
+endChecks st = check 11 (leb 1 (length (st .queries))) ∷ check 12 (settingsFew st) ∷ []
 
 abbrev pub endRefusal : Said → ℕ
 endRefusal st = firstFailed (endChecks st)

@@ -1,7 +1,7 @@
 -- What the code's steps of reading answer and leave.
 --
 --   endRefusalIn c cl       the checks 11 and 12 of a record and its clause table
---   Countable c cl          what counting the causes of a record takes
+--   Countable c cl          what counting the settings of a record takes
 --   Zeroed t u              the tables u are t with zeros in their sizes
 --   Ready f t               the file f is not too long, and the tables t have their full sizes and hold nothing
 --   refusedAt n k           the answer for the refusal n at line k; answerOf o the answer for an outcome
@@ -15,7 +15,7 @@ use lib.ListN.{length}
 use Rattle.words.specs.Choice.{unlessRefused, check, firstFailed}
 use Rattle.program.specs.declared.case.Case.{Case}
 use Rattle.program.specs.Case.{clauseSize}
-use Rattle.program.specs.Sound.{fewCauses}
+use Rattle.program.specs.Sound.{fewSettings}
 use Rattle.store.specs.Lent.{Lent, filledWith}
 use Rattle.store.specs.Saying.{nothingSaid}
 use Rattle.store.specs.Tables.{wordsOf, caseSaid, noCase}
@@ -25,7 +25,8 @@ use Rattle.reader.specs.Reading.{Outcome, saidIn, refusalOf, lineOfRefus
 
 abbrev pub endRefusalIn : Case → List ℕ → ℕ
 endRefusalIn c cl =
-    firstFailed (check 11 (leb 1 (c .formulas)) ∷ check 12 (fewCauses (c .atoms) cl (c .clauses)) ∷ [])
+    firstFailed
+    (check 11 (leb 1 (c .formulas)) ∷ check 12 (fewSettings (c .edition) (c .atoms) cl (c .clauses)) ∷ [])
 
 -- a record with a query has an atom
 pub record Countable (c : Case) (cl : List ℕ) : Type 0 where
@@ -39,7 +40,7 @@ pub record Zeroed (t u : Lent) : Type 0 where
 pub record Ready (f : List ℕ) (t : Lent) : Type 0 where
   pub short : length f ≤ 32768
   pub long : Long t
-  pub held : Held nothingSaid noCase t
+  pub held : Held nothingSaid (caseSaid nothingSaid) t
 
 abbrev pub refusedAt : ℕ → ℕ → Answer
 refusedAt n k = record { refusal = n; line = k; found = noCase }

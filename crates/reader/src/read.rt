@@ -26,6 +26,19 @@ const NO_CASE: Case = Case {
     plain: 0,
     negated: 0,
     nodes: [0; 16],
+    edition: 0,
+};
+
+// The record before the first line: zeros, and edition 1.
+const NOTHING_READ: Case = Case {
+    atoms: 0,
+    clauses: 0,
+    constraints: 0,
+    formulas: 0,
+    plain: 0,
+    negated: 0,
+    nodes: [0; 16],
+    edition: 1,
 };
 
 // Zeroes the five tables in their sizes.
@@ -50,7 +63,7 @@ fn zero(
     table::zero_prices(prices, Case::PRICES);
 }
 
-// The number of the refusal after the last line: 11 no query, 12 more than ten causes, 0 for neither.
+// The number of the refusal after the last line: 11 no query, 12 more than 59,049 settings, 0 for neither.
 fn end_refusal(c: Case, clauses: &[u64]) -> u32
     requires { ⌜ Countable c (now clauses) ⌝ }
     ensures { λ r. ⌜ r ≡ endRefusalIn c (now (clauses .entry)) ⌝ }
@@ -58,7 +71,7 @@ fn end_refusal(c: Case, clauses: &[u64]) -> u32
     if c.formulas == 0 {
         return 11;
     }
-    if !program::sound::causes_few(c.atoms, clauses, c.clauses) {
+    if !program::sound::settings_few(c.edition, c.atoms, clauses, c.clauses) {
         return 12;
     }
     0
@@ -82,8 +95,9 @@ fn take_lines(
         (now (prices .exit))) r ⌝ }
 {
     let mut p = Progress {
-        found: NO_CASE,
+        found: NOTHING_READ,
         costed: 0,
+        editions: 0,
     };
     let mut at = 0;
     let mut line: u32 = 1;
@@ -195,8 +209,8 @@ fn early_refusal(
 }
 
 // Reads a case file into five lent tables. Refuses with 1 a table shorter than its size, with 2 a file over 32,768
-// bytes, both of which touch nothing; with 3 to 10, 16 and 17 the first bad line, with 11 a file without query, with 12
-// one with more than ten causes, each of which leaves the tables zero in their sizes.
+// bytes, both of which touch nothing; with 3 to 10, 16, 17, 20 and 21 the first bad line, with 11 a file without query,
+// with 12 one with more than 59,049 settings, each of which leaves the tables zero in their sizes.
 pub fn read(
     file: &[u8],
     clauses: &mut [u64],

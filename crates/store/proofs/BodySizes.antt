@@ -130,3 +130,4 @@ module _ (m : ℕ) (st : Said) (h : Within m st) where
   said-within (Line.query f) few = h
   said-within (Line.cost w p s) few = h
   said-within (Line.atom w) few = h
+  said-within (Line.edition e) few = h

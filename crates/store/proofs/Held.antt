@@ -1,5 +1,5 @@
--- Tables that hold what was read hold it with one clause, constraint, reading, query or cost more, and with a
--- line's names.
+-- Tables that hold what was read hold it with one clause, constraint, reading, query, cost or edition more, and with
+-- a line's names.
 -- Assumes nothing.
 use mathlib.Core.Path.{_≡_, refl, ap, subst, _∙_}
 use mathlib.Core.List.{List, [], _∷_, map-append}
@@ -31,11 +31,13 @@ use Rattle.store.specs.Lent.{Lent, lent}
 use Rattle.store.specs.Prices.{CostRow, priceOf, hasCost, pricesOf}
 use Rattle.store.specs.Saying.{Said, said, ClauseRow, ConstraintRow, encodedBy, encoded, clauseRow, constraintRow}
 use Rattle.store.specs.Saying.{costRow, renamed, withClause, withConstraint, withObserved, withQuery, withCost}
+use Rattle.store.specs.Saying.{withEdition}
 use Rattle.store.specs.Tables.{caseWith, clauseWords, constraintWords, formulaParts, nodeCounts}
 use Rattle.store.specs.Held.{Long, Limits, InLimits, Held}
 use Rattle.store.specs.Masks.{masksBy}
-use Rattle.store.specs.Stored.{ClauseStored, ConstraintStored, ObservedStored, withPrice}
+use Rattle.store.specs.Stored.{ClauseStored, ConstraintStored, ObservedStored, withPrice, ofEdition}
 use Rattle.store.proofs.Lent.{lent-same}
+use Rattle.store.proofs.Saying.{last-push}
 use Rattle.store.proofs.Formulas.{over-some}
 use Rattle.store.proofs.Encoded.{Known, encoded-over, encoded-length}
 use Rattle.store.proofs.Lookups.{Agree, masks-same, encoded-same}
@@ -45,14 +47,15 @@ use Rattle.store.proofs.Rows.{clauseRowWords, constraintRowWords, claus
 
 -- c with a number of atoms
 abbrev pub withAtomCount : Case → ℕ → Case
-withAtomCount c n = caseWith n (c .clauses) (c .constraints) (c .formulas) (c .plain) (c .negated) (c .nodes)
+withAtomCount c n =
+    caseWith n (c .clauses) (c .constraints) (c .formulas) (c .plain) (c .negated) (c .nodes) (c .edition)
 
 -- The limits
 
 module _ (st : Said) (h : Limits st) where
   limits-as : {ns : List (List ℕ)} {cs : List ClauseRow} {ds : List ConstraintRow} {p q : ℕ}
-      {ks : List CostRow} → length cs ≤ 256
-      → length ds ≤ 32 → length (st .names) ≤ length ns → Limits (said ns cs ds p q (st .queries) ks)
+      {ks : List CostRow} {es : List ℕ} → length cs ≤ 256
+      → length ds ≤ 32 → length (st .names) ≤ length ns → Limits (said ns cs ds p q (st .queries) ks es)
   limits-as i j k = record {
     clauses-few = i;
     constraints-few = j;
@@ -110,6 +113,18 @@ module _ (st : Said) (c : Case) (t : Lent) (h : Held st c t) where
         all-named = m .all-named;
         few-names = m .few;
         tables-are = lent-same clauses-held constraints-held formula-held (m .table-is) prices-held;
+      }
+
+  -- with an edition
+  pub edition-held : (e : ℕ) → Held (withEdition st e) (ofEdition c e) t
+  edition-held e =
+      let l = h .limits in
+      record {
+        limits = limits-as st l (l .clauses-few) (l .constraints-few) (omega arith);
+        case-is = rw (h .case-is, last-push 1 (st .editions) e);
+        all-named = h .all-named;
+        few-names = h .few-names;
+        tables-are = h .tables-are;
       }
 
   module _ (long : Long t) where

@@ -6,13 +6,12 @@ use mathlib.Core.Path.{_≡_, refl, sym, ap, _∙_}
 use mathlib.Core.List.{[]}
 use native.Mathlib.Omega.{arith}
 use lib.ListN.{length}
-use Rattle.table.proofs.Filled.{padded-zeros}
 use Rattle.table.proofs.Kept.{kept-length}
 use Rattle.names.specs.Names.{rowsOf}
 use Rattle.names.specs.Held.{AllNamed}
 use Rattle.store.specs.Lent.{Lent, lent, filledWith}
 use Rattle.store.specs.Saying.{nothingSaid}
-use Rattle.store.specs.Tables.{clauseWords, constraintWords, formulaParts, wordsOf, caseWith, noCase}
+use Rattle.store.specs.Tables.{clauseWords, constraintWords, formulaParts, wordsOf, caseSaid}
 use Rattle.store.specs.Held.{Long, Limits, Held, Kept}
 use Rattle.store.proofs.Lent.{lent-same, filled-with-again}
 use Rattle.store.proofs.Prices.{no-prices}
@@ -59,10 +58,10 @@ nothing-limits = record {
   query-atoms = omega arith;
 }
 
-pub nothing-held : (t u : Lent) → u ≡ filledWith (wordsOf nothingSaid) t → Held nothingSaid noCase u
+pub nothing-held : (t u : Lent) → u ≡ filledWith (wordsOf nothingSaid) t → Held nothingSaid (caseSaid nothingSaid) u
 nothing-held t u e = record {
   limits = nothing-limits;
-  case-is = ap (caseWith 0 0 0 0 0 0) (padded-zeros 16);
+  case-is = refl;
   all-named = AllNamed.none;
   few-names = omega arith;
   tables-are = e ∙ sym (ap (filledWith _) e ∙ filled-with-again _ _ t);

@@ -1,16 +1,18 @@
--- Laws of what a line says, and of the atoms of its literals. Assumes nothing.
+-- Laws of what a line says, of the atoms of its literals, and of the edition. Assumes nothing.
 use mathlib.Core.Path.{_≡_, refl}
 use mathlib.Core.Bool.{Bool, false, _||_, or-assoc}
 use mathlib.Core.List.{List, [], _∷_, _++_}
 use Prim.Native.Nat.{ℕ, _^_, _<_}
 use Rattle.words.specs.Bits.{has}
 use Rattle.words.proofs.Words.{has-word, is-word}
+use Rattle.text.proofs.Each.{Each}
 use Rattle.formulas.specs.Sentence.{Sentence}
 use Rattle.grammar.specs.Line.{Line, Literal}
 use Rattle.names.specs.Names.{atomOf}
 use Rattle.store.specs.Prices.{hasCost}
-use Rattle.store.specs.Saying.{Said, someOn, atomsBy, encoded, clauseRow, constraintRow, costRow, withClause}
-use Rattle.store.specs.Saying.{withConstraint, withObserved, withQuery, withCost, saidBy, isSecondCost}
+use Rattle.store.specs.Saying.{Said, lastOr, someOn, atomsBy, encoded, clauseRow, constraintRow, costRow}
+use Rattle.store.specs.Saying.{withClause, withConstraint, withObserved, withQuery, withCost, saidBy}
+use Rattle.store.specs.Saying.{withEdition, isSecondCost}
 
 pub said-names : (st : Said) (x : Line) → saidBy st x .names ≡ st .names
 unfolding saidBy
@@ -22,6 +24,7 @@ said-names st (Line.seen x) = refl
 said-names st (Line.query f) = refl
 said-names st (Line.cost w p s) = refl
 said-names st (Line.atom w) = refl
+said-names st (Line.edition e) = refl
 
 -- by the kind of the line
 
@@ -52,6 +55,10 @@ module _ (st : Said) where
   unfolding saidBy
   atom-said w = refl
 
+  pub edition-said : (e : ℕ) → saidBy st (Line.edition e) ≡ withEdition st e
+  unfolding saidBy
+  edition-said e = refl
+
   pub clause-no-cost : (k : ℕ) (w : List ℕ) (l : List Literal) → isSecondCost st (Line.clause k w l) ≡ false
   unfolding isSecondCost
   clause-no-cost k w l = refl
@@ -77,6 +84,10 @@ module _ (st : Said) where
   unfolding isSecondCost
   atom-no-cost w = refl
 
+  pub edition-no-cost : (e : ℕ) → isSecondCost st (Line.edition e) ≡ false
+  unfolding isSecondCost
+  edition-no-cost e = refl
+
 -- the literals by a lookup of names
 
 module _ (at : List ℕ → ℕ) (b : Bool) where
@@ -98,3 +109,20 @@ module _ (at : List ℕ → ℕ) (b : Bool) where
       → w ≡ atomsBy at b l
   unfolding atomsBy
   is-atoms w l h e = is-word 64 w (someOn at b l) h e
+
+-- the last of numbers
+
+pub last-none : (d : ℕ) → lastOr d [] ≡ d
+unfolding lastOr
+last-none d = refl
+
+pub last-push : (d : ℕ) (l : List ℕ) (e : ℕ) → lastOr d (l ++ (e ∷ [])) ≡ e
+unfolding lastOr
+last-push d [] e = refl
+last-push d (x ∷ l) e = last-push x l e
+
+-- it is as each of them is
+pub last-each : (P : ℕ → Type 0) (d : ℕ) (l : List ℕ) → P d → Each P l → P (lastOr d l)
+unfolding lastOr
+last-each P d [] h k = h
+last-each P d (x ∷ l) h k = last-each P x l (k .0) (k .1)

@@ -16,6 +16,7 @@ use Rattle.formulas.specs.Parsing.{sizeOf}
 use Rattle.formulas.proofs.Sizes.{first-formula-size}
 use Rattle.grammar.specs.declared.line.Form.{Form}
 use Rattle.grammar.specs.declared.line.Form.the-variants.{Skipped, NoForm, Clause, Constraint, Seen, Query, Cost, Atom}
+use Rattle.grammar.specs.declared.line.Form.the-variants.{Edition}
 use Rattle.grammar.specs.Line.{Line, Literal}
 use Rattle.grammar.specs.Parsing.{FormIs, bodyIn}
 use Rattle.names.specs.Row.{rowOf}
@@ -25,13 +26,13 @@ use Rattle.store.specs.Prices.{priceOf}
 use Rattle.store.specs.Saying.{encodedBy, saidBy, isSecondCost}
 use Rattle.store.specs.Held.{Long}
 use Rattle.store.specs.Masks.{masksBy}
-use Rattle.store.specs.Stored.{ClauseStored, ConstraintStored, ObservedStored, QueryStored, withPrice}
+use Rattle.store.specs.Stored.{ClauseStored, ConstraintStored, ObservedStored, QueryStored, withPrice, ofEdition}
 use Rattle.store.specs.Stored.{Storable, StoredAs}
 use Rattle.store.proofs.Encoded.{encoded-length}
 use Rattle.store.proofs.Lent.{lent-same, kept-refl-all}
 use Rattle.store.proofs.NodeLaws.{formula-put}
 use Rattle.store.proofs.Prices.{price-kept}
-use Rattle.store.proofs.Held.{clause-held, constraint-held, observed-held, query-held, cost-held}
+use Rattle.store.proofs.Held.{clause-held, constraint-held, observed-held, query-held, cost-held, edition-held}
 
 -- the masks m are those of the literals at place at of the line l, by the first n names in the table na
 abbrev MasksOf : List ℕ → ℕ → List ℕ → ℕ → Masks → Type 0
@@ -99,6 +100,14 @@ module _ {l : List ℕ} {x : Form} {c : Case} {y : Line} (s : Storable l x c y) 
     pub atom-stored : {a e : ℕ} → x ≡ Atom a e → StoredAs y c (lent cl co fo na pr) c (lent cl co fo na pr)
     unfolding saidBy
     atom-stored q = record { kept = kept-refl-all _; held = λ st h known once. rw (form-told q .1) h }
+
+    pub edition-stored : {n : ℕ} → x ≡ Edition n
+        → StoredAs y c (lent cl co fo na pr) (ofEdition c n) (lent cl co fo na pr)
+    unfolding saidBy
+    edition-stored {n} q = record {
+      kept = kept-refl-all _;
+      held = λ st h known once. rw (form-told q .2) (edition-held st c _ h n);
+    }
 
     module _ (long : Long (lent cl co fo na pr)) {r : Case} where
       pub clause-stored : {k a e n : ℕ} {m : Masks} {u : List ℕ} → x ≡ Clause k a e n → MasksOf l e na (c .atoms) m

@@ -1,9 +1,11 @@
--- What a file says: names, clauses, constraints, observed literals, queries and costs, by atom numbers.
+-- What a file says: names, clauses, constraints, observed literals, queries, costs and editions, by atom numbers.
 -- From: document 01, "The file" and "Case tables and sound cases"; document 02, [5] (the kind of a constraint), [7]
--- (costs), [8] (an atom line "only names an atom").
+-- (costs), [8] (an atom line "only names an atom"), [10] ("`(edition 1)` or no line leaves it off").
 --
---   Said               what was read so far; plain and negated are the observed atoms, bit i for atom i
+--   Said               what was read so far; plain and negated are the observed atoms, bit i for atom i; editions are
+--                      the numbers of the edition lines, in file order
 --   nothingSaid        what was read before the first line; renamed and with.. are st with a part exchanged
+--   editionOf es       the edition by the edition lines es: that of the last, 1 without one
 --   someOn at b ls a   some literal of ls is on atom a, by the lookup at
 --   atomsBy at b ls    the atoms of the negated (b) or plain literals of ls, bit i for atom i; one repeated counts once
 --   plainAtoms ns ls   the atoms of the plain literals of ls, by the names ns; negatedAtoms those of the negated ones
@@ -45,10 +47,12 @@ pub record Said : Type 0 where
   pub negated : ℕ
   pub queries : List Formula
   pub costs : List CostRow
+  pub editions : List ℕ
 
 -- what was read, by its parts
-abbrev pub said : List (List ℕ) → List ClauseRow → List ConstraintRow → ℕ → ℕ → List Formula → List CostRow → Said
-said ns cs ds p q fs ks = record {
+abbrev pub said : List (List ℕ) → List ClauseRow → List ConstraintRow → ℕ → ℕ → List Formula → List CostRow → List ℕ
+    → Said
+said ns cs ds p q fs ks es = record {
   names = ns;
   clauses = cs;
   constraints = ds;
@@ -56,10 +60,19 @@ said ns cs ds p q fs ks = record {
   negated = q;
   queries = fs;
   costs = ks;
+  editions = es;
 }
 
 abbrev pub nothingSaid : Said
-nothingSaid = said [] [] [] 0 0 [] []
+nothingSaid = said [] [] [] 0 0 [] [] []
+
+-- the last number, d where there is none
+unfoldable pub lastOr : ℕ → List ℕ → ℕ
+lastOr d [] = d
+lastOr d (e ∷ es) = lastOr e es
+
+abbrev pub editionOf : List ℕ → ℕ
+editionOf es = lastOr 1 es
 
 -- some literal of l is on atom a, negated where b holds and plain otherwise
 unfoldable pub someOn : (List ℕ → ℕ) → Bool → List Literal → ℕ → Bool
@@ -99,29 +112,39 @@ orAtoms v w = word 64 (λ a. has v a || has w a)
 
 -- st with the names ns
 abbrev pub renamed : List (List ℕ) → Said → Said
-renamed ns st = said ns (st .clauses) (st .constraints) (st .plain) (st .negated) (st .queries) (st .costs)
+renamed ns st =
+    said ns (st .clauses) (st .constraints) (st .plain) (st .negated) (st .queries) (st .costs) (st .editions)
 
--- st with a clause, a constraint, observed literals, a query or a cost more
+-- st with a clause, a constraint, observed literals, a query, a cost or an edition more
 abbrev pub withClause : Said → ClauseRow → Said
 withClause st c =
     said (st .names) (st .clauses ++ (c ∷ [])) (st .constraints) (st .plain) (st .negated) (st .queries) (st .costs)
+    (st .editions)
 
 abbrev pub withConstraint : Said → ConstraintRow → Said
 withConstraint st c =
     said (st .names) (st .clauses) (st .constraints ++ (c ∷ [])) (st .plain) (st .negated) (st .queries) (st .costs)
+    (st .editions)
 
 abbrev pub withObserved : Said → List Literal → Said
 withObserved st l =
     said (st .names) (st .clauses) (st .constraints) (orAtoms (st .plain) (plainAtoms (st .names) l))
-    (orAtoms (st .negated) (negatedAtoms (st .names) l)) (st .queries) (st .costs)
+    (orAtoms (st .negated) (negatedAtoms (st .names) l)) (st .queries) (st .costs) (st .editions)
 
 abbrev pub withQuery : Said → Formula → Said
 withQuery st f =
     said (st .names) (st .clauses) (st .constraints) (st .plain) (st .negated) (st .queries ++ (f ∷ [])) (st .costs)
+    (st .editions)
 
 abbrev pub withCost : Said → CostRow → Said
 withCost st r =
     said (st .names) (st .clauses) (st .constraints) (st .plain) (st .negated) (st .queries) (st .costs ++ (r ∷ []))
+    (st .editions)
+
+abbrev pub withEdition : Said → ℕ → Said
+withEdition st e =
+    said (st .names) (st .clauses) (st .constraints) (st .plain) (st .negated) (st .queries) (st .costs)
+    (st .editions ++ (e ∷ []))
 
 unfoldable pub saidBy : Said → Line → Said
 saidBy st Line.skipped = st
@@ -132,6 +155,7 @@ saidBy st (Line.seen x) = withObserved st (x ∷ [])
 saidBy st (Line.query f) = withQuery st (encoded (st .names) f)
 saidBy st (Line.cost w p s) = withCost st (costRow (st .names) w p s)
 saidBy st (Line.atom w) = st
+saidBy st (Line.edition e) = withEdition st e
 
 unfoldable pub isSecondCost : Said → Line → Bool
 isSecondCost st Line.skipped = false
@@ -142,3 +166,4 @@ isSecondCost st (Line.seen x) = false
 isSecondCost st (Line.query f) = false
 isSecondCost st (Line.cost w p s) = hasCost (st .costs) (atomOf (st .names) w)
 isSecondCost st (Line.atom w) = false
+isSecondCost st (Line.edition e) = false

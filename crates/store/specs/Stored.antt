@@ -1,6 +1,7 @@
 -- What storing a form of a line leaves.
 --
---   withRows c n m      the record c with n clauses and m constraints; withFormula, withObservedAtoms are alike
+--   withRows c n m      the record c with n clauses and m constraints; withFormula, withObservedAtoms and ofEdition are
+--                       alike
 --   ClauseStored ..     one clause more; ConstraintStored, ObservedStored, QueryStored are alike
 --   withPrice t a p     the table t with the price p of atom a, where a is below 64
 --   Room c b            behind c there is room for what a line brings, and its price and supplement are in their limits
@@ -32,16 +33,20 @@ use Rattle.store.specs.Nodes.{nodesFrom, nodeTable, withNodes}
 use Rattle.store.specs.Held.{Held, Kept}
 
 abbrev pub withRows : Case → ℕ → ℕ → Case
-withRows c n m = caseWith (c .atoms) n m (c .formulas) (c .plain) (c .negated) (c .nodes)
+withRows c n m = caseWith (c .atoms) n m (c .formulas) (c .plain) (c .negated) (c .nodes) (c .edition)
 
 -- one formula more, with n nodes
 abbrev pub withFormula : Case → ℕ → Case
 withFormula c n =
     caseWith (c .atoms) (c .clauses) (c .constraints) (c .formulas + 1) (c .plain) (c .negated)
-    (set (c .nodes) (c .formulas) n)
+    (set (c .nodes) (c .formulas) n) (c .edition)
 
 abbrev pub withObservedAtoms : Case → ℕ → ℕ → Case
-withObservedAtoms c p q = caseWith (c .atoms) (c .clauses) (c .constraints) (c .formulas) p q (c .nodes)
+withObservedAtoms c p q = caseWith (c .atoms) (c .clauses) (c .constraints) (c .formulas) p q (c .nodes) (c .edition)
+
+-- with the edition e
+abbrev pub ofEdition : Case → ℕ → Case
+ofEdition c e = caseWith (c .atoms) (c .clauses) (c .constraints) (c .formulas) (c .plain) (c .negated) (c .nodes) e
 
 -- one clause more, with the head w, by the names in the table na
 pub record ClauseStored (w : List ℕ) (kind : ℕ) (m : Masks) (c : Case) (na cl : List ℕ) (r : Case) (u : List ℕ)

@@ -1,6 +1,6 @@
 -- The record and the words of the tables that hold what was read.
 -- From: document 01, "Case tables and sound cases"; document 02, [5] (a third word for each constraint), [7]
--- (the table of prices).
+-- (the table of prices), [10] ("the case record holds the edition").
 --
 --   clauseWords cs       the words of clauses: three each
 --   constraintWords cs   the words of constraints: three each
@@ -19,7 +19,7 @@ use Rattle.table.specs.Filled.{padded}
 use Rattle.names.specs.Names.{rowsOf}
 use Rattle.store.specs.Lent.{Lent, lent}
 use Rattle.store.specs.Prices.{pricesOf}
-use Rattle.store.specs.Saying.{Said, ClauseRow, ConstraintRow}
+use Rattle.store.specs.Saying.{Said, ClauseRow, ConstraintRow, editionOf}
 
 -- three words a clause
 unfoldable pub clauseWords : List ClauseRow → List ℕ
@@ -45,8 +45,8 @@ wordsOf st =
     (rowsOf (st .names)) (pricesOf (st .costs))
 
 -- a record by its parts
-abbrev pub caseWith : ℕ → ℕ → ℕ → ℕ → ℕ → ℕ → List ℕ → Case
-caseWith a c d m p q ns = record {
+abbrev pub caseWith : ℕ → ℕ → ℕ → ℕ → ℕ → ℕ → List ℕ → ℕ → Case
+caseWith a c d m p q ns e = record {
   atoms = a;
   clauses = c;
   constraints = d;
@@ -54,12 +54,13 @@ caseWith a c d m p q ns = record {
   plain = p;
   negated = q;
   nodes = ns;
+  edition = e;
 }
 
 abbrev pub caseSaid : Said → Case
 caseSaid st =
     caseWith (length (st .names)) (length (st .clauses)) (length (st .constraints)) (length (st .queries)) (st .plain)
-    (st .negated) (padded 16 (nodeCounts (st .queries)))
+    (st .negated) (padded 16 (nodeCounts (st .queries))) (editionOf (st .editions))
 
 abbrev pub noCase : Case
-noCase = caseWith 0 0 0 0 0 0 (replicate 16 0)
+noCase = caseWith 0 0 0 0 0 0 (replicate 16 0) 0

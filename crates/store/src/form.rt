@@ -126,5 +126,10 @@ pub fn store_form(
             c
         }
         Form::Atom(_, _) => c,
+        Form::Edition(n) => {
+            let mut next = c;
+            next.edition = n;
+            next
+        }
     }
 }

@@ -17,8 +17,23 @@ atom-form-requires c κs = search needs
 returns-2 : tie.Need-returns-2
 returns-2 c = search (needs, form-as)
 
+edition-form-requires : tie.Need-edition-form-requires
+edition-form-requires c κs = search needs
+
 returns-3 : tie.Need-returns-3
-returns-3 c = search (needs, flat-kindless)
+returns-3 c = search (needs, form-as)
+
+returns-4 : tie.Need-returns-4
+returns-4 c = search (needs, flat-kindless)
 
 pub flat-form-spec : {M : Type 1} → statement M
-flat-form-spec = tie.close (tie.spec cost-form-requires returns atom-form-requires returns-2 returns-3)
+flat-form-spec =
+    tie.close
+    (tie.spec
+    cost-form-requires
+    returns
+    atom-form-requires
+    returns-2
+    edition-form-requires
+    returns-3
+    returns-4)

@@ -4,9 +4,9 @@ use Prim.Native.Nat.{_+_, _-_}
 use lib.ListN.{length}
 use borrow.Author.Needs.{needs}
 use Rattle.store.specs.Lent.{lent}
-use Rattle.reader.proofs.TakingLines.{file-lengths, LinesTaken, no-lines-taken, taken-in-limits, line-taken}
+use Rattle.reader.proofs.TakingLines.{file-lengths, LinesTaken, no-lines-taken, taken-bounded, line-taken}
 use Rattle.reader.proofs.TakingLines.{line-refused}
-use Rattle.reader.proofs.EndChecks.{causes-countable, end-refused, end-accepted}
+use Rattle.reader.proofs.EndChecks.{settings-countable, end-refused, end-accepted}
 use Rattle.reader.proofs.read.take_lines.Statement.{statement}
 use Rattle.reader.proofs.read.take_lines.Tie as tie
 
@@ -22,16 +22,31 @@ loop-holds : tie.Need-loop-holds Inv-loop μ-loop
 loop-holds c = search (needs, no-lines-taken)
 
 take-line-requires : tie.Need-take-line-requires Inv-loop μ-loop
-take-line-requires c κs = search (needs, taken-in-limits)
+take-line-requires c κs = search (needs, taken-bounded)
 
 returns : tie.Need-returns Inv-loop μ-loop
 returns c = search (needs, line-refused)
+
+-- the place before, where the line's end was found
+abbrev ended : tie.After-p Inv-loop μ-loop → tie.After-line-end Inv-loop μ-loop
+ended c =
+    let d = c .before .before .before .before .before .before .before .before .before .before in
+    d .before .before .before .before .before .before .before .before .before .before
+
+add-at : tie.Need-add-at Inv-loop μ-loop
+add-at c = search (needs, ended c .line-end .ensures, ended c .before .before .loop .inv .places)
+
+add-line : tie.Need-add-line Inv-loop μ-loop
+add-line c = search (needs, ended c .before .before .loop .inv .places, ended c .before .loop-test)
+
+loop-less : tie.Need-loop-less Inv-loop μ-loop
+loop-less c = search (needs, ended c .line-end .ensures, ended c .before .before .loop .inv .places)
 
 loop-again : tie.Need-loop-again Inv-loop μ-loop
 loop-again c = search (needs, line-taken)
 
 end-refusal-requires : tie.Need-end-refusal-requires Inv-loop μ-loop
-end-refusal-requires c κs = search (needs, causes-countable)
+end-refusal-requires c κs = search (needs, settings-countable)
 
 returns-2 : tie.Need-returns-2 Inv-loop μ-loop
 returns-2 c = search (needs, end-refused)
@@ -47,7 +62,7 @@ take-lines-spec =
     (λ c. file-lengths (returns c) .clauses-same) (λ c. file-lengths (returns c) .constraints-same)
     (λ c. file-lengths (returns c) .formula-same) (λ c. file-lengths (returns c) .names-same)
     (λ c. file-lengths (returns c) .prices-same) returns
-    (λ c. search needs) (λ c. search needs) (λ c. search needs) loop-again end-refusal-requires
+    add-at add-line loop-less loop-again end-refusal-requires
     (λ c. file-lengths (returns-2 c) .clauses-same) (λ c. file-lengths (returns-2 c) .constraints-same)
     (λ c. file-lengths (returns-2 c) .formula-same) (λ c. file-lengths (returns-2 c) .names-same)
     (λ c. file-lengths (returns-2 c) .prices-same) returns-2
