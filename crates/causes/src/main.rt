@@ -10,7 +10,7 @@ use libc::STDOUT_FILENO;
 // Room for a byte more than a file may have (refusal 2), and for every report (crates/report/specs/Claims.antt).
 const FILE_ROOM: usize = 32769;
 
-const REPORT_ROOM: usize = 264640;
+const REPORT_ROOM: usize = 392640;
 
 // Puts the report of a file in front of an output with room for every report, and answers its length.
 fn answer(file: &[u8], out: &mut [u8; REPORT_ROOM]) -> usize

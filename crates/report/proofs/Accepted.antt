@@ -17,8 +17,8 @@ use Rattle.table.proofs.Filled.{filled-exact, padded-length, padded-split}
 use Rattle.program.specs.Case.{clauseSize, constraintSize, formulaSize, nameSize, priceSize, tablesFull, nodesOf}
 use Rattle.program.specs.Cause.{atomsIn}
 use Rattle.program.specs.Sound.{sound}
-use Rattle.program.proofs.Soundness.{sound-full, sound-atoms, sound-formulas, sound-few}
-use Rattle.program.proofs.Theorems.{causes-counted}
+use Rattle.program.specs.declared.cause.Causes.{Causes}
+use Rattle.program.proofs.Soundness.{sound-full, sound-atoms, sound-formulas, sound-settings}
 use Rattle.names.specs.Names.{rowsOf}
 use Rattle.names.specs.Row.{nameIn}
 use Rattle.names.specs.Held.{Named}
@@ -27,7 +27,6 @@ use Rattle.names.proofs.Short.{no-zero}
 use Rattle.question.specs.declared.operation.Answer.{Answer}
 use Rattle.question.specs.Operation.{settingsIn, choicesIn, questionRefusal, answerIn, Asked}
 use Rattle.question.proofs.Answers.{lent-full, refusal-none, asked-answer, asked-list}
-use Rattle.walk.proofs.Bounds.{causes-fit, settings-few}
 use Rattle.verdict.specs.Walk.{verdictNumber}
 use Rattle.verdict.proofs.Counting.{minimals-le}
 use Rattle.verdict.proofs.Verdicts.{verdicts-length}
@@ -44,7 +43,7 @@ use Rattle.reader.specs.Contents.{fileContent}
 use Rattle.reader.proofs.FileSays.{says}
 use Rattle.reader.proofs.Theorems.{accepted-sound, accepted-names}
 use Rattle.wording.specs.Text.{answerText}
-use Rattle.report.specs.Report.{clauseTable, constraintTable, formulaTable, priceTable, causesIn, judgeIn}
+use Rattle.report.specs.Report.{clauseTable, constraintTable, formulaTable, priceTable, causesSaid, judgeIn}
 use Rattle.report.specs.Report.{minimalsOf}
 use Rattle.report.specs.Report.{totalsOf, shownOf, verdictsIn, verdictNumbers, nameOf, saidText, listLength}
 use Rattle.wording.proofs.Naming.{answer-alike}
@@ -127,12 +126,7 @@ module _ (f : List ℕ) (st : Said) (e : readFile f ≡ Outcome.case st) where
   said-table = table-name (st .names) (λ a h. said-named a)
 
   said-settings : settingsIn (caseSaid st) (clauseTable st) ≤ 59049
-  said-settings = settings-few (caseSaid st) (clauseTable st) (constraintTable st) (formulaTable st) said-sound
-
-  said-causes : length (atomsIn (causesIn st)) ≤ 10
-  said-causes =
-      rw (causes-counted (causesIn st) (causes-fit (caseSaid st) _ _ _ said-sound))
-      (sound-few (caseSaid st) _ _ _ said-sound)
+  said-settings = sound-settings (caseSaid st) (clauseTable st) (constraintTable st) (formulaTable st) said-sound
 
   -- a sum over the settings of at most as many as there are atoms
   said-sum : {n : ℕ} → n ≤ settingsIn (caseSaid st) (clauseTable st) * caseSaid st .atoms → n < 10 ^ 7
@@ -156,12 +150,12 @@ module _ (f : List ℕ) (st : Said) (e : readFile f ≡ Outcome.case st) where
     minimal-short = omega (arith, said-minimals);
   }
 
-  pub said-length : length (saidText st) ≤ 264640
+  pub said-length : length (saidText st) ≤ 392640
   unfolding saidText
   said-length =
       let l = minimalsOf st in
       let few = length-take listLength l in
-      answer-length (nameOf st) (λ a. said-named a .short) (causesIn st) said-causes (verdictNumbers st) (totalsOf st)
+      answer-length (nameOf st) (λ a. said-named a .short) (causesSaid st) said-settings (verdictNumbers st) (totalsOf st)
       (take listLength l) (omega (arith, numbers-length st, said-queries)) said-short (omega arith)
 
 -- What is answered for it, with a list of 1,024 slots and a work area of 59,049 bytes
@@ -208,11 +202,11 @@ module _ (f : List ℕ) (st : Said) (e : readFile f ≡ Outcome.case st) (list w
     pub asked-fits : r .written ≤ length listAfter
     asked-fits = rw (answer-is, list-is) (front-fits (minimalsOf st) list 1024 full)
 
-    pub asked-text : (names : List ℕ) (causes : ℕ) → names ≡ padded nameSize (rowsOf (st .names)) → causes ≡ causesIn st
+    pub asked-text : (names : List ℕ) (causes : Causes) → names ≡ padded nameSize (rowsOf (st .names)) → causes ≡ causesSaid st
         → answerText (nameIn names) causes (take (length (st .queries)) (r .verdicts)) (shownOf r)
         (take (r .written) listAfter) ≡ saidText st
     unfolding saidText
     asked-text names causes n c =
         rw (n, c, verdicts-are, answer-is, list-is, front-written (minimalsOf st) list 1024)
-        (answer-alike (nameIn (padded nameSize (rowsOf (st .names)))) (nameOf st) (said-table f st e) (causesIn st)
+        (answer-alike (nameIn (padded nameSize (rowsOf (st .names)))) (nameOf st) (said-table f st e) (causesSaid st)
         (verdictNumbers st) (totalsOf st) (take listLength (minimalsOf st)))

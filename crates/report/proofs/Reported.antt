@@ -13,7 +13,8 @@ use Rattle.table.specs.Filled.{padded}
 use Rattle.table.proofs.Filled.{filled-exact, padded-length}
 use Rattle.program.specs.Case.{clauseSize, constraintSize, formulaSize, nameSize, priceSize}
 use Rattle.program.specs.Program.{headsOf}
-use Rattle.program.specs.Cause.{causesAmong}
+use Rattle.program.specs.declared.cause.Causes.{Causes}
+use Rattle.program.specs.Cause.{causesIn}
 use Rattle.program.specs.Sound.{sound}
 use Rattle.program.proofs.Causes.{causes-of}
 use Rattle.program.proofs.Soundness.{clauses-held, sound-full, sound-limits}
@@ -34,7 +35,7 @@ use Rattle.reader.proofs.RefusalNumbers.{Numbered, file-numbered}
 use Rattle.output.specs.declared.Answer as output
 use Rattle.output.specs.Writing.{Room}
 use Rattle.wording.specs.Text.{answerText, refusalText}
-use Rattle.report.specs.Report.{clauseTable, constraintTable, formulaTable, priceTable, causesIn, saidText}
+use Rattle.report.specs.Report.{clauseTable, constraintTable, formulaTable, priceTable, causesSaid, saidText}
 use Rattle.report.specs.Report.{outcomeText, shownOf, fileRefusal, fileText, reportText}
 use Rattle.report.specs.Operation.{ReportShown}
 use Rattle.report.specs.Sizes.{FullTables}
@@ -127,13 +128,13 @@ module _ {f : List ℕ} {t u : Lent} {r : Answer} (x : FullTables t) (h : ReadAs
 
 -- An accepted file, and what its question answers, with a list of 1,024 slots and a work area of 59,049 bytes
 
-abbrev textOf : Answer → Lent → ℕ → question.Answer → List ℕ → List ℕ
+abbrev textOf : Answer → Lent → Causes → question.Answer → List ℕ → List ℕ
 textOf r u causes q list =
     answerText (nameIn (u .names)) causes (take (r .found .formulas) (q .verdicts)) (shownOf q)
     (take (q .written) list)
 
 -- what the report shows of the answer q and its list, with the record of the answer r and the tables u
-pub record Answered (f : List ℕ) (r : Answer) (u : Lent) (causes : ℕ) (q : question.Answer) (list : List ℕ) : Type 0
+pub record Answered (f : List ℕ) (r : Answer) (u : Lent) (causes : Causes) (q : question.Answer) (list : List ℕ) : Type 0
   where
     pub names-fit : nameSize ≤ length (u .names)
     pub queries-fit : r .found .formulas ≤ length (q .verdicts)
@@ -178,12 +179,12 @@ module _ {f : List ℕ} {u : Lent} {r : Answer} (a : Accepted f u r) where
         listAfter workAfter
     asked-said = rw (a .case-is, a .clauses-are, a .constraints-are, a .formula-is, a .prices-are) at h
 
-    pub accepted-answered : {heads causes : ℕ} → heads ≡ headsOf (u .clauses) (r .found .clauses)
-        → causes ≡ causesAmong (r .found .atoms) heads → Answered f r u causes q listAfter
-    accepted-answered {heads} {causes} d c =
+    pub accepted-answered : {causes : Causes}
+        → causes ≡ causesIn (r .found .edition) (r .found .atoms) (u .clauses) (r .found .clauses)
+        → Answered f r u causes q listAfter
+    accepted-answered {causes} c =
         let st = a .said in
-        let e : causes ≡ causesIn st =
-        rw (a .case-is, a .clauses-are) at (c ∙ ap (causesAmong (r .found .atoms)) d ∙ sym (causes-of (r .found) _)) in
+        let e : causes ≡ causesSaid st = rw (a .case-is, a .clauses-are) at (c ∙ sym (causes-of (r .found) _)) in
         let t : textOf r u causes q listAfter ≡ saidText st =
         rw (a .case-is)
         (asked-text f st (a .read-is) list work full room q listAfter workAfter asked-said (u .names) causes

@@ -15,7 +15,7 @@ use Rattle.verdict.specs.Walk.{verdictOf, verdictsOf, verdictNumber}
 use Rattle.verdict.proofs.Verdicts.{verdict-alike, verdicts-length, verdicts-at}
 use Rattle.store.specs.Saying.{Said}
 use Rattle.store.specs.Tables.{caseSaid}
-use Rattle.report.specs.Report.{listLength, formulaTable, causesIn, judgeIn, minimalsOf, totalsOf, nameOf}
+use Rattle.report.specs.Report.{listLength, formulaTable, causesSaid, judgeIn, minimalsOf, totalsOf, nameOf}
 use Rattle.report.specs.Report.{saidText, outcomeText}
 use Rattle.report.specs.Claims.{reportLimit, ReportFits, ReportCut, judgeOn, verdictOn}
 use Rattle.report.specs.Claims.{VerdictsOnQueries, OneQuery}
@@ -54,5 +54,5 @@ one-query f st g h e q =
     file-read saidText f h
     ∙ ap (outcomeText saidText) e
     ∙ rw (verdicts-on-queries f st e, q)
-    (answer-one (nameOf st) (causesIn st) (verdictNumber (verdictOn st g)) (totalsOf st)
+    (answer-one (nameOf st) (causesSaid st) (verdictNumber (verdictOn st g)) (totalsOf st)
     (take listLength (minimalsOf st)))

@@ -22,13 +22,13 @@ use Rattle.store.specs.Tables.{caseSaid}
 use Rattle.reader.specs.Reading.{Outcome, readFile}
 use Rattle.reader.specs.Contents.{fileContent}
 use Rattle.wording.specs.Text.{verdictLine, roundsLine, decidedLine, minimalLine, causeLines, cheapestLines}
-use Rattle.report.specs.Report.{listLength, clauseTable, causesIn, judgeIn, minimalsOf, roundsOf, decidedOf}
+use Rattle.report.specs.Report.{listLength, clauseTable, causesSaid, judgeIn, minimalsOf, roundsOf, decidedOf}
 use Rattle.report.specs.Report.{lowestOf, verdictsIn, nameOf, reportText}
 
 -- a bound on the length of any report: 16 verdicts, the three lines behind them, 1,024 settings of ten causes with
 -- names of 16 bytes, and the line of the lowest cost
 abbrev pub reportLimit : ℕ
-reportLimit = 264640
+reportLimit = 392640
 
 -- an output of that many bytes is long enough for the report of any file
 abbrev pub ReportFits : Type 0
@@ -45,7 +45,7 @@ judgeOn st g = record {
   rounds = judgeIn st .rounds;
   decided = judgeIn st .decided;
   queries = 1;
-  value = λ q s. valueOf (settledWith (caseSaid st) (clauseTable st) (additionsOf (causesIn st) s)) g;
+  value = λ q s. valueOf (settledWith (caseSaid st) (clauseTable st) (additionsOf (causesSaid st) s)) g;
 }
 
 -- over the minimal settings
@@ -67,4 +67,4 @@ OneQuery = (f : List ℕ) (st : Said) (g : Formula) → length f ≤ 32768 → r
     ++ (roundsLine (roundsOf st)
     ++ (decidedLine (decidedOf st)
     ++ (minimalLine (length l) (length listed)
-    ++ (causeLines (nameOf st) (causesIn st) listed ++ cheapestLines (length l) (lowestOf st)))))
+    ++ (causeLines (nameOf st) (causesSaid st) listed ++ cheapestLines (length l) (lowestOf st)))))

@@ -3,7 +3,7 @@
 --
 --   listLength             the slots of the program's list
 --   judgeIn st             the judge of what a file says
---   causesIn st            its causes; minimalsOf st its minimal settings
+--   causesSaid st          its causes; minimalsOf st its minimal settings
 --   roundsOf st            the rounds over all settings; decidedOf st the decided atoms
 --   lowestOf st            the lowest cost among its minimal settings
 --   totalsOf st            these three, and the number of minimal settings
@@ -20,6 +20,7 @@ use lib.ListN.{length, getD, take}
 use Rattle.words.specs.Choice.{unlessRefused, check, firstFailed}
 use Rattle.table.specs.Filled.{padded}
 use Rattle.program.specs.Case.{clauseSize, constraintSize, formulaSize, priceSize}
+use Rattle.program.specs.declared.cause.Causes.{Causes}
 use Rattle.program.specs.Cause.{causesOf}
 use Rattle.verdict.specs.declared.verdict.Verdict.{Verdict}
 use Rattle.explanation.specs.Judge.{Judge, judgeOf}
@@ -51,8 +52,8 @@ formulaTable st = padded formulaSize (formulaParts (st .queries))
 abbrev pub priceTable : Said → List ℕ
 priceTable st = padded priceSize (pricesOf (st .costs))
 
-abbrev pub causesIn : Said → ℕ
-causesIn st = causesOf (caseSaid st) (clauseTable st)
+abbrev pub causesSaid : Said → Causes
+causesSaid st = causesOf (caseSaid st) (clauseTable st)
 
 abbrev pub judgeIn : Said → Judge
 judgeIn st = judgeOf (caseSaid st) (clauseTable st) (constraintTable st) (formulaTable st)
@@ -92,7 +93,7 @@ nameOf st a = getD (st .names) a []
 
 unfoldable pub saidText : Said → List ℕ
 saidText st =
-    answerText (nameOf st) (causesIn st) (verdictNumbers st) (totalsOf st) (take listLength (minimalsOf st))
+    answerText (nameOf st) (causesSaid st) (verdictNumbers st) (totalsOf st) (take listLength (minimalsOf st))
 
 abbrev pub outcomeText : (Said → List ℕ) → Outcome → List ℕ
 outcomeText said (Outcome.case st) = said st

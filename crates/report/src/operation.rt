@@ -11,6 +11,7 @@ ghost use Rattle.output.specs.Writing.{Room};
 ghost use Rattle.report.specs.Sizes.{FullSizes};
 use output::Answer;
 use program::case::Case;
+use program::cause::Causes;
 use wording::Totals;
 use wording::answer_text;
 use wording::refusal_text;
@@ -36,7 +37,7 @@ fn show_answer(
     a: question::operation::Answer,
     queries: usize,
     names: &[u8],
-    causes: u64,
+    causes: Causes,
     list: &[u16],
     out: &mut [u8],
 ) -> Answer
@@ -90,7 +91,7 @@ fn report_in(
     let c = found.found;
     let a = question::operation::ask(c, clauses, constraints, formula, prices, list, work);
     let heads = program::cause::heads(clauses, c.clauses);
-    let causes = program::cause::causes(c.atoms, heads);
+    let causes = program::cause::causes_in(c.edition, c.atoms, clauses, c.clauses, heads);
     let n = a.written;
     show_answer(a, c.formulas, names, causes, &list[..n], out)
 }

@@ -34,8 +34,8 @@ passed c =
 abbrev asked : tie.After-heads-arg → tie.After-ask
 asked c = c .before .before .before .before .before
 
-abbrev asking : tie.After-causes → tie.After-ask
-asking c = asked (c .before .before)
+abbrev asking : tie.After-causes-in → tie.After-ask
+asking c = asked (c .before .before .before)
 
 abbrev showing : tie.After-slice-known17 → tie.After-show-answer
 showing c = c .before .before
@@ -50,14 +50,13 @@ accepted : (c : tie.Else1) → let q = reading (c .before) in
 accepted c = let q = reading (c .before) in
     accepted-report {u = filled q} (entry q .pre .tables-full) (q .read .ensures) (c .if1 .left)
 
-answered : (c : tie.After-causes) → let k = asking c in let q = reading (passed k .before) in
-    Answered (entry q .args .file .now) (q .read .result) (filled q) (c .causes .result) (k .ask .result)
+answered : (c : tie.After-causes-in) → let k = asking c in let q = reading (passed k .before) in
+    Answered (entry q .args .file .now) (q .read .result) (filled q) (c .causes-in .result) (k .ask .result)
     (k .ask .last .1 .1 .1 .1 .1 .0)
 answered c =
     let k = asking c in
     let s = entry (reading (passed k .before)) .pre in
-    accepted-answered (accepted (passed k)) (s .list-full) (s .work-full) (k .ask .ensures) (c .before .heads .ensures)
-    (c .causes .ensures)
+    accepted-answered (accepted (passed k)) (s .list-full) (s .work-full) (k .ask .ensures) (c .causes-in .ensures)
 
 -- where the test of reading was passed, before the end
 abbrev read-before : tie.After-slice-known17 → tie.Else1
@@ -101,8 +100,10 @@ ask-requires c κs = tt
 heads-requires : tie.Need-heads-requires
 heads-requires c κs = let h = accepted-held (accepted (passed (asked c))) in (h .2, h .3)
 
-causes-requires : tie.Need-causes-requires
-causes-requires c κs = let h = accepted-held (accepted (passed (asked (c .before)))) in (h .0, h .1)
+causes-in-requires : tie.Need-causes-in-requires
+causes-in-requires c κs =
+    let h = accepted-held (accepted (passed (asked (c .before .before)))) in
+    (h .0, h .1, h .2, h .3, c .before .heads .ensures)
 
 slice-reshare-prefix-show-answer : tie.Need-slice-reshare-prefix-show-answer
 slice-reshare-prefix-show-answer c = answered (c .before) .list-fits
@@ -164,7 +165,7 @@ report-in-spec =
     returns
     ask-requires
     heads-requires
-    causes-requires
+    causes-in-requires
     slice-reshare-prefix-show-answer
     slice-aggregate-show-answer
     show-answer-requires
