@@ -1,13 +1,15 @@
--- The ten marked files of document 01, M6 with `avoid` and M4 with prices, from their bytes to list, rounds, decided
--- atoms, lowest cost and verdicts: claim 7 of the design, one table of rows and one statement. Proved in
--- proofs/Marking.antt by computation.
--- From: document 01, "Ten marked files"; document 02, [5] (M6), [6] (the decided total) and [7] (the lowest cost).
+-- The ten marked files of document 01, M6 with `avoid`, M4 with prices, M1 and two assumed atoms with edition 2, from
+-- their bytes to list, rounds, decided atoms, lowest cost and verdicts: claim 7 of the design, one table of rows and one
+-- statement. Proved in proofs/Marking.antt by computation.
+-- From: document 01, "Ten marked files"; document 02, [5] (M6), [6] (the decided total), [7] (the lowest cost) and [10]
+-- ("M1 with edition 2"; "With x and y assumed, rules o if x and y, o if neither, and o seen, only the empty set is
+-- minimal").
 --
 --   Result         refused with a number at a line, or accepted: the minimal settings, the rounds and the decided atoms
 --                  over all, the lowest cost and the setting that has it, a verdict for each query
 --   Row            a file's bytes and its result
 --   resultOf f     the result of the file f by the definitions of reading and of the question
---   marked         the twelve rows
+--   marked         the fourteen rows
 --   MarkedRows     the result in each of them is that of its file
 use mathlib.Core.Path.{_≡_}
 use mathlib.Core.List.{List, [], _∷_, _++_, map}
@@ -46,10 +48,19 @@ resultFrom (Outcome.refused n k) = Result.refused n k
 abbrev pub resultOf : List ℕ → Result
 resultOf f = resultFrom (readFile f)
 
+abbrev pub dampershut : List ℕ
+dampershut = bytes "(if low dampershut (not ab))\n(false ab)\n(seen low)\n(query dampershut)\n"
+
 abbrev pub m1 : Row
-m1 =
-    row (bytes "(if low dampershut (not ab))\n(false ab)\n(seen low)\n(query dampershut)\n")
-    (Result.accepted (1 ∷ []) 5 7 0 1 (Follows ∷ []))
+m1 = row dampershut (Result.accepted (1 ∷ []) 5 7 0 1 (Follows ∷ []))
+
+abbrev pub m1Overridden : Row
+m1Overridden = row (dampershut ++ bytes "(edition 2)\n") (Result.accepted (1 ∷ []) 11 15 0 1 (Follows ∷ []))
+
+abbrev pub bothOrNeither : Row
+bothOrNeither =
+    row (bytes "(edition 2)\n(false x)\n(false y)\n(if o x y)\n(if o (not x) (not y))\n(seen o)\n(query o)")
+    (Result.accepted (0 ∷ []) 8 12 0 0 (Follows ∷ []))
 
 abbrev pub m2 : Row
 m2 = row (bytes "(query a)") (Result.accepted (0 ∷ []) 2 2 0 0 (Open ∷ []))
@@ -97,7 +108,17 @@ abbrev pub m10 : Row
 m10 = row (bytes "(true a)\n(false a)\n(query a)") (Result.accepted (0 ∷ []) 1 1 0 0 (Follows ∷ []))
 
 abbrev pub marked : List Row
-marked = m1 ∷ m2 ∷ m3 ∷ m4 ∷ m4Priced ∷ m5 ∷ m6 ∷ m6Avoid ∷ m7 ∷ m8 ∷ m9 ∷ m10 ∷ []
+marked =
+    m1 ∷ m1Overridden ∷ bothOrNeither ∷ m2 ∷ m3
+    ∷ m4 ∷ m4Priced ∷ m5
+    ∷ m6 ∷ m6Avoid ∷ m7 ∷ m8 ∷ m9 ∷ m10 ∷ []
+
+-- the results of rows by the definitions, and those that stand in them
+abbrev pub results : List Row → List Result
+results l = map (λ (r : Row). resultOf (r .file)) l
+
+abbrev pub expected : List Row → List Result
+expected l = map (λ (r : Row). r .result) l
 
 abbrev pub MarkedRows : Type 0
-MarkedRows = map (λ (r : Row). resultOf (r .file)) marked ≡ map (λ (r : Row). r .result) marked
+MarkedRows = results marked ≡ expected marked
