@@ -1,5 +1,5 @@
--- What the reader knows between two lines: the record, the tables, and for which neither has a place: which atoms have
--- a cost line, and how many edition lines there are.
+-- What the reader knows between two lines: the record, the tables, and what neither has a place for, which atoms have a
+-- cost line and how many edition lines there are.
 -- From: document 02, [7] ("when a name has a second cost line", also behind a price of 0), [10] ("when a second edition
 -- line comes").
 --
