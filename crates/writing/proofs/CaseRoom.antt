@@ -10,7 +10,7 @@ use mathlib.Core.Bool.{true}
 use mathlib.Core.List.{List, [], map}
 use Prim.Native.Nat.{ℕ, zero, suc, _*_, _≤_}
 use native.Mathlib.Omega.{arith}
-use lib.Dec.{eqb, ltb}
+use lib.Dec.{ltb}
 use lib.ListN.{length, getD, drop, length-append, length-take}
 use Rattle.words.specs.Below.{every}
 use Rattle.words.specs.Choice.{consIf}
@@ -34,9 +34,9 @@ use Rattle.reader.specs.Operation.{tablesFit}
 use Rattle.reader.proofs.WellFormed.{Rows}
 use Rattle.output.specs.Writing.{Room}
 use Rattle.writing.specs.Lines.{literalsFor, clauseLine, constraintLine, queryLine, costLine, linesOf, lineText}
-use Rattle.writing.specs.Used.{clauseIn, constraintIn, formulaIn, costOf, costsIn, editionsIn}
-use Rattle.writing.specs.Used.{saidOf}
+use Rattle.writing.specs.Used.{clauseIn, constraintIn, formulaIn, costOf, costsIn, saidOf}
 use Rattle.writing.specs.Operation.{isWritableAtom, writable, caseLines, caseText}
+use Rattle.writing.proofs.Editions.{editions-formed}
 use Rattle.writing.proofs.Rows.{rows-map, rows-append, rows-all, rows-gives, rows-list-of}
 use Rattle.writing.proofs.LineSizes.{ShortLine, SmallFormula, literals-small, atom-short, edition-short}
 use Rattle.writing.proofs.LineSizes.{clause-short, constraint-short, seen-short, query-short, cost-short}
@@ -64,10 +64,6 @@ costs-few pr (suc a) =
       costs-few pr a,
       cons-few (ltb 0 (getD pr a 0)) (costOf pr a) 0 [] (omega arith),
     )
-
--- ---- editions
-editions-few : (e : ℕ) → length (editionsIn e) ≤ 1
-editions-few e = cons-few (eqb e 2) 2 0 [] (omega arith)
 
 -- ---- the lines of what st says
 -- what st says is within the limits
@@ -146,7 +142,7 @@ module _ (c : Case) (t : Lent) (h : writable c t ≡ true) where
             rows-list-of SmallFormula 16 (c .formulas) (formulaIn c (t .formula)) (sound-formulas c _ _ _ s .1)
             (λ q l. nodes-few (c .atoms) (c .nodes) (t .formula) q (sound-each c _ _ _ s q l));
         costs = omega (arith, costs-few (t .prices) (c .atoms));
-        editions = editions-few (c .edition);
+        editions = editions-formed (c .edition) .few;
       }
 
   case-lines : Rows (λ l. length l ≤ 12600) 561 (caseLines c t)

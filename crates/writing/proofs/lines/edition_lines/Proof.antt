@@ -3,8 +3,6 @@ use borrow.Author.Needs.{needs}
 use mathlib.Core.Path.{_≡_}
 use native.Mathlib.Omega.{arith}
 use borrow.Author.Tests.{eq-eqb, ne-eqb}
-use Rattle.grammar.specs.Line.{Line}
-use Rattle.writing.specs.Lines.{lineText}
 use Rattle.writing.proofs.CaseTexts.{line-absent, line-room-there, line-there}
 use Rattle.writing.proofs.lines.edition_lines.Statement.{statement}
 use Rattle.writing.proofs.lines.edition_lines.Tie as tie
