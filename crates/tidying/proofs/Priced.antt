@@ -47,6 +47,7 @@ said-low st (Line.seen x) r h = r
 said-low st (Line.query f) r h = r
 said-low st (Line.cost w p s) r h = each-append Low (st .costs) _ r (h, tt)
 said-low st (Line.atom w) r h = r
+said-low st (Line.edition e) r h = r
 
 line-low : (st : Said) (l : List ℕ) → AllLow st → lineRefusal st l ≡ 0 → AllLow (saidAfter st l)
 line-low st l r e =

@@ -1,6 +1,5 @@
 -- Atom lines, which name one atom each, are read as these names. Assumes nothing.
 use mathlib.Core.Path.{_≡_, refl, sym, ap, subst, _∙_}
-use mathlib.Core.Bool.{false}
 use mathlib.Core.List.{List, [], _∷_, _++_, map, append-assoc}
 use Prim.Native.Nat.{ℕ, _+_, _≤_, _<_}
 use native.Mathlib.Omega.{arith}
@@ -39,7 +38,7 @@ abbrev pub AtomWritten : List ℕ → Type 0
 AtomWritten w = Written Line.atom IsName w
 
 abbrev withAtoms : List (List ℕ) → Said
-withAtoms ns = said ns [] [] 0 0 [] []
+withAtoms ns = said ns [] [] 0 0 [] [] []
 
 abbrev Ready : List (List ℕ) → List (List ℕ) → Type 0
 Ready done rest = Left AtomWritten 64 done rest × Distinct (done ++ rest)
@@ -72,6 +71,7 @@ module _ (done : List (List ℕ)) (w : List ℕ) (rest : List (List ℕ)) (r : R
         short = r .0 .each .0 .1;
         not-deep = omega arith;
         room = atom-room;
+        editions-few = omega arith;
       }
 
   atom-step : Step Line.atom withAtoms Ready done w rest
@@ -85,5 +85,5 @@ module _ (done : List (List ℕ)) (w : List ℕ) (rest : List (List ℕ)) (r : R
   }
 
 pub atoms-read : (ns : List (List ℕ)) → Left AtomWritten 64 [] ns → Distinct ns
-    → Reads (said [] [] [] 0 0 [] []) (map Line.atom ns) (said ns [] [] 0 0 [] [])
+    → Reads (said [] [] [] 0 0 [] [] []) (map Line.atom ns) (said ns [] [] 0 0 [] [] [])
 atoms-read ns l d = segment Line.atom withAtoms Ready atom-step ns (l, d)

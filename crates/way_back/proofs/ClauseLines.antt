@@ -23,7 +23,7 @@ use Rattle.way_back.proofs.KnownNames.{NamedBy, Usable, usable, known-s
 use Rattle.way_back.proofs.Bodies.{body-named, body-usable, plain-again, negated-again}
 use Rattle.way_back.proofs.Bodies.{clause-takes, constraint-takes}
 
-module _ (ns : List (List ℕ)) (name : ℕ → List ℕ) (h : NamedBy ns name) where
+module _ (ns : List (List ℕ)) (name : ℕ → List ℕ) (h : NamedBy ns name) (es : List ℕ) (es-few : length es ≤ 1) where
   -- ---- clauses
   module _ (c : ClauseRow) (f : ClauseFormed (length ns) c) where
     abbrev body : List Literal
@@ -56,7 +56,7 @@ module _ (ns : List (List ℕ)) (name : ℕ → List ℕ) (h : NamedBy ns name) 
   ClauseWritten c = Written (clauseLine name) (ClauseFormed (length ns)) c
 
   abbrev withClauses : List ClauseRow → Said
-  withClauses cs = said ns cs [] 0 0 [] []
+  withClauses cs = said ns cs [] 0 0 [] [] es
 
   -- behind the clauses done
   module _ (done : List ClauseRow) (c : ClauseRow) (f : ClauseFormed (length ns) c) where
@@ -82,13 +82,13 @@ module _ (ns : List (List ℕ)) (name : ℕ → List ℕ) (h : NamedBy ns name) 
       let m = left-room ClauseWritten 256 done c rest r in
       record {
         fits = known-fits (withClauses done) (clauseLine name c) (clause-usable c f) (clause-line c f)
-            (r .each .0 .1) (omega arith) (clause-room done c f (omega arith));
+            (r .each .0 .1) (omega arith) (clause-room done c f (omega arith)) (omega arith);
         says = clause-says done c f;
         on = left-on ClauseWritten 256 done c rest r;
       }
 
   pub clauses-read : (cs : List ClauseRow) → Left ClauseWritten 256 [] cs
-      → Reads (said ns [] [] 0 0 [] []) (map (clauseLine name) cs) (said ns cs [] 0 0 [] [])
+      → Reads (said ns [] [] 0 0 [] [] es) (map (clauseLine name) cs) (said ns cs [] 0 0 [] [] es)
   clauses-read cs r = segment (clauseLine name) withClauses (Left ClauseWritten 256) clause-step cs r
 
   -- ---- constraints
@@ -116,7 +116,7 @@ module _ (ns : List (List ℕ)) (name : ℕ → List ℕ) (h : NamedBy ns name) 
 
   module _ (cs : List ClauseRow) (few : length cs ≤ 256) where
     abbrev withConstraints : List ConstraintRow → Said
-    withConstraints ds = said ns cs ds 0 0 [] []
+    withConstraints ds = said ns cs ds 0 0 [] [] es
 
     constraint-step : (done : List ConstraintRow) (c : ConstraintRow) (rest : List ConstraintRow)
         → Left ConstraintWritten 32 done (c ∷ rest)
@@ -130,13 +130,13 @@ module _ (ns : List (List ℕ)) (name : ℕ → List ℕ) (h : NamedBy ns name) 
         record {
           fits = known-fits st (constraintLine name c) u (constraint-line c f) (r .each .0 .1) (omega arith)
               (rw (constraint-no-cost st (c .kind) l)
-              (room-rows st _ refl refl (h .few) (omega arith) (omega arith) (omega arith)));
+              (room-rows st _ refl refl (h .few) (omega arith) (omega arith) (omega arith))) (omega arith);
           says = known-says st (constraintLine name c) u ∙ constraint-said st (c .kind) l
               ∙ ap (λ x. withConstraints (done ++ (x ∷ []))) (constraint-back c f);
           on = left-on ConstraintWritten 32 done c rest r;
         }
 
     pub constraints-read : (ds : List ConstraintRow) → Left ConstraintWritten 32 [] ds
-        → Reads (said ns cs [] 0 0 [] []) (map (constraintLine name) ds) (said ns cs ds 0 0 [] [])
+        → Reads (said ns cs [] 0 0 [] [] es) (map (constraintLine name) ds) (said ns cs ds 0 0 [] [] es)
     constraints-read ds r =
         segment (constraintLine name) withConstraints (Left ConstraintWritten 32) constraint-step ds r

@@ -69,10 +69,10 @@ module _ (ns : List (List ℕ)) (name : ℕ → List ℕ) (h : NamedBy ns name) 
   abbrev Ready : List CostRow → List CostRow → Type 0
   Ready done rest = Each CostWritten rest × Fresh done rest
 
-  module _ (cs : List ClauseRow) (cs-few : length cs ≤ 256) (ds : List ConstraintRow) (ds-few : length ds ≤ 32)
-      (p q : ℕ) (fs : List Formula) (fs-few : length fs ≤ 16) where
+  module _ (es : List ℕ) (es-few : length es ≤ 1) (cs : List ClauseRow) (cs-few : length cs ≤ 256)
+      (ds : List ConstraintRow) (ds-few : length ds ≤ 32) (p q : ℕ) (fs : List Formula) (fs-few : length fs ≤ 16) where
     abbrev withCosts : List CostRow → Said
-    withCosts ks = said ns cs ds p q fs ks
+    withCosts ks = said ns cs ds p q fs ks es
 
     module _ (done : List CostRow) (r : CostRow) (f : CostFormed (length ns) r)
         (fresh : hasCost done (r .atom) ≡ false) where
@@ -101,7 +101,7 @@ module _ (ns : List (List ℕ)) (name : ℕ → List ℕ) (h : NamedBy ns name) 
         let st = withCosts done in
         record {
           fits = known-fits st (costLine name r) u (cost-is-line r f) (y .0 .0 .1) (omega arith)
-              (rw (cost-brings r f) (cost-room done r f (y .1 .0)));
+              (rw (cost-brings r f) (cost-room done r f (y .1 .0))) (omega arith);
           says = known-says st (costLine name r) u
               ∙ cost-said st (name (r .atom)) (decimal (r .price)) (decimal 0)
               ∙ ap (λ k. withCosts (done ++ (k ∷ []))) (cost-back r f);
@@ -109,5 +109,5 @@ module _ (ns : List (List ℕ)) (name : ℕ → List ℕ) (h : NamedBy ns name) 
         }
 
     pub costs-read : (ks : List CostRow) → Each CostWritten ks → Fresh [] ks
-        → Reads (said ns cs ds p q fs []) (map (costLine name) ks) (said ns cs ds p q fs ks)
+        → Reads (said ns cs ds p q fs [] es) (map (costLine name) ks) (said ns cs ds p q fs ks es)
     costs-read ks e f = segment (costLine name) withCosts Ready cost-step ks (e, f)

@@ -8,7 +8,7 @@
 use mathlib.Core.Path.{_≡_, ap, _∙_}
 use mathlib.Core.Bool.{Bool, true, false}
 use mathlib.Core.List.{List}
-use Prim.Native.Nat.{ℕ, _≤_, _<_}
+use Prim.Native.Nat.{ℕ, _+_, _≤_, _<_}
 use lib.Dec.{leb}
 use lib.ListN.{length}
 use borrow.Author.Tests.{le-leb, lt-leb}
@@ -33,8 +33,8 @@ use Rattle.checks.specs.Checks.{lookRefusal, lineRefusal, saidAfter}
 use Rattle.checks.specs.Naming.{IsName}
 use Rattle.checks.proofs.Naming.{name-lettered, name-bytes, name-short}
 use Rattle.checks.proofs.After.{after-line}
-use Rattle.checks.proofs.Passing.{RoomPasses, textNumber, roomNumber, form-refusal-is, room-none, look-none}
-use Rattle.checks.proofs.Passing.{line-looked}
+use Rattle.checks.proofs.Passing.{RoomPasses, textNumber, roomNumber, editionNumber, form-refusal-is, room-none}
+use Rattle.checks.proofs.Passing.{edition-none, look-none, line-looked}
 use Rattle.writing.specs.Lines.{lineText}
 
 abbrev pub namedBy : Said → Line → Said
@@ -43,7 +43,7 @@ namedBy st x = renamed (withNames (st .names) (lineNames x)) st
 abbrev pub after : Said → Line → Said
 after st x = saidBy (namedBy st x) x
 
--- the checks from 8 on, of a line that brings b
+-- the checks from 8 to 10, of a line that brings b
 abbrev pub RoomFor : Said → Bool → Brings → Type 0
 RoomFor st s b =
     RoomPasses (length (st .names)) (length (st .clauses)) (length (st .constraints)) (length (st .queries)) s b
@@ -54,6 +54,7 @@ pub record Fits (st : Said) (x : Line) : Type 0 where
   pub short : length (lineText x) ≤ 200
   pub not-deep : brings x .depth ≤ 16
   pub room : RoomFor (namedBy st x) (isSecondCost (namedBy st x) x) (brings x)
+  pub editions-few : length (st .editions) + brings x .editions ≤ 1
 
 -- a name is a word
 name-word : (w : List ℕ) → IsName w → IsWord w
@@ -89,13 +90,17 @@ module _ (st : Said) (x : Line) (h : Fits st x) where
   room-is : roomNumber st ts ≡ 0
   room-is = rw (names, read) (room-none _ _ _ _ _ (brings x) (h .room))
 
+  edition-is : editionNumber st ts ≡ 0
+  edition-is = rw read (edition-none (length (st .editions)) (brings x) (h .editions-few))
+
   -- the checks 6 and 7 pass, and 20 is the test b
   text-is : {b : Bool} → leb (brings x .literals) 11 ≡ b → textNumber ts ≡ pick b 0 20
   text-is e = rw (names, read, names-short, le-leb (brings x .depth) 16 (h .not-deep), e)
 
   judged : lineRefusal st (lineText x) ≡ firstOf (textNumber ts) 0
   judged =
-      line-looked st (lineText x) (line-no-comment x) looked ∙ rw tokens-are (form-refusal-is st ts ∙ rw room-is)
+      line-looked st (lineText x) (line-no-comment x) looked
+      ∙ rw tokens-are (form-refusal-is st ts ∙ rw (room-is, edition-is))
 
   pub line-passes : brings x .literals ≤ 11 → lineRefusal st (lineText x) ≡ 0
   line-passes few = judged ∙ ap (λ (n : ℕ). firstOf n 0) (text-is (le-leb _ 11 few))

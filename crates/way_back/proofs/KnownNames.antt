@@ -51,13 +51,14 @@ module _ (st : Said) (x : Line) (u : Each (Usable (st .names)) (lineNames x)) wh
   known-says = ap (λ s. saidBy s x) same-said
 
   pub known-fits : isLine x ≡ true → length (lineText x) ≤ 200 → brings x .depth ≤ 16
-      → RoomFor st (isSecondCost st x) (brings x) → Fits st x
-  known-fits i s d r = record {
+      → RoomFor st (isSecondCost st x) (brings x) → length (st .editions) + brings x .editions ≤ 1 → Fits st x
+  known-fits i s d r e = record {
     is-line = i;
     named = each-gives _ IsName (λ w h. h .0) (lineNames x) u;
     short = s;
     not-deep = d;
     room = subst (λ v. RoomFor v (isSecondCost v x) (brings x)) (sym same-said) r;
+    editions-few = e;
   }
 
 -- room

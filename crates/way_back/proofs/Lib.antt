@@ -9,7 +9,8 @@
 -- FittingLines: lines that may stand one behind the other.
 -- KnownNames: lines all of whose names were read before.
 -- Bodies: the bodies of clauses and constraints, and readings.
--- AtomLines, ClauseLines, SeenLines, QueryLines, CostLines: the lines of each kind are read as what they are of.
+-- AtomLines, EditionLines, ClauseLines, SeenLines, QueryLines, CostLines: the lines of each kind are read as what they
+-- are of.
 -- WrittenLines: so are the lines of all that is well formed.
 -- LiteralCounts: how many literals these lines have.
 -- SaidBodies: how long the bodies of a case are.
@@ -26,6 +27,7 @@ pub mod FittingLines
 pub mod KnownNames
 pub mod Bodies
 pub mod AtomLines
+pub mod EditionLines
 pub mod ClauseLines
 pub mod SeenLines
 pub mod QueryLines

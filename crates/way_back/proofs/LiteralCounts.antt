@@ -1,5 +1,5 @@
 -- The lines of what is well formed have as many literals as its bodies hold: those of clauses and constraints, in table
--- order, behind the atom lines; the others have none.
+-- order, behind the atom lines and the edition line; the others have none.
 -- Assumes nothing.
 use mathlib.Core.Path.{_≡_, refl, sym, ap, ap₂, _∙_}
 use mathlib.Core.List.{List, [], _∷_, _++_, map, map-append, append-assoc}
@@ -53,9 +53,15 @@ module _ (name : ℕ → List ℕ) (st : Said) (w : Writes name st) where
   abbrev n : ℕ
   n = length (st .names)
 
-  -- the atom lines, and those behind the constraints
+  -- the atom lines and edition lines, and those behind the constraints
+  abbrev atomCounts : List ℕ
+  atomCounts = map literalsIn (map Line.atom (st .names))
+
+  abbrev editionCounts : List ℕ
+  editionCounts = map literalsIn (map Line.edition (st .editions))
+
   abbrev front : List ℕ
-  front = map literalsIn (map Line.atom (st .names))
+  front = atomCounts ++ editionCounts
 
   abbrev others : List Line
   others =
@@ -78,14 +84,27 @@ module _ (name : ℕ → List ℕ) (st : Said) (w : Writes name st) where
   counts-are : map literalsIn (linesOf name st) ≡ front ++ (saidBodies st ++ map literalsIn others)
   counts-are =
       let behind = map literalsIn others in
-      map-append literalsIn (map Line.atom (st .names)) _ ∙ ap (λ l. front ++ l) (
+      map-append literalsIn (map Line.atom (st .names)) _ ∙ ap (λ l. atomCounts ++ l) (
+      map-append literalsIn (map Line.edition (st .editions)) _ ∙ ap (λ l. editionCounts ++ l) (
       map-append literalsIn (map (clauseLine name) (st .clauses)) _
       ∙ ap₂ _++_ clauses-counted (map-append literalsIn (map (constraintLine name) (st .constraints)) others
       ∙ ap (λ l. l ++ behind) constraints-counted)
-      ∙ sym (append-assoc (map clauseBody (st .clauses)) (map constraintBody (st .constraints)) behind))
+      ∙ sym (append-assoc (map clauseBody (st .clauses)) (map constraintBody (st .constraints)) behind)))
+      ∙ sym (append-assoc atomCounts editionCounts (saidBodies st ++ behind))
 
   front-few : Each (λ n. n ≤ 11) front
-  front-few = few-counted (map Line.atom (st .names)) (none-counted Line.atom (λ a. refl) (st .names))
+  front-few =
+      each-append (λ n. n ≤ 11) atomCounts editionCounts
+      (few-counted (map Line.atom (st .names)) (none-counted Line.atom (λ a. refl) (st .names)))
+      (few-counted (map Line.edition (st .editions)) (none-counted Line.edition (λ e. refl) (st .editions)))
+
+  lines-length : {A : Type 0} (line : A → Line) (l : List A) → length (map literalsIn (map line l)) ≡ length l
+  lines-length line l = length-map (map line l) literalsIn ∙ length-map l line
+
+  front-length : length front ≡ n + length (st .editions)
+  front-length =
+      length-append atomCounts editionCounts
+      ∙ ap₂ _+_ (lines-length Line.atom (st .names)) (lines-length Line.edition (st .editions))
 
   others-few : Each (λ n. n ≤ 11) (map literalsIn others)
   others-few =
@@ -102,8 +121,8 @@ module _ (name : ℕ → List ℕ) (st : Said) (w : Writes name st) where
       (each-append (λ n. n ≤ 11) front _ front-few
       (each-append (λ n. n ≤ 11) (saidBodies st) _ (all-few (saidBodies st) h) others-few))
 
-  pub count-over : (k : ℕ) → FirstLong (saidBodies st) k → FirstOver (map literalsIn (linesOf name st)) (n + k)
+  pub count-over : (k : ℕ) → FirstLong (saidBodies st) k
+      → FirstOver (map literalsIn (linesOf name st)) (n + length (st .editions) + k)
   count-over k h =
       let over = over-before (saidBodies st) (map literalsIn others) k (first-over (saidBodies st) k h) in
-      let l : length front ≡ n = length-map (map Line.atom (st .names)) literalsIn ∙ length-map (st .names) Line.atom in
-      rw (counts-are, ← l) (over-behind front (saidBodies st ++ map literalsIn others) k front-few over)
+      rw (counts-are, ← front-length) (over-behind front (saidBodies st ++ map literalsIn others) k front-few over)

@@ -30,10 +30,10 @@ module _ (ns : List (List ℕ)) (name : ℕ → List ℕ) (h : NamedBy ns name) 
   abbrev pub QueryWritten : Formula → Type 0
   QueryWritten f = Written (queryLine name) (QueryFormed (length ns)) f
 
-  module _ (cs : List ClauseRow) (cs-few : length cs ≤ 256) (ds : List ConstraintRow) (ds-few : length ds ≤ 32)
-      (p q : ℕ) where
+  module _ (es : List ℕ) (es-few : length es ≤ 1) (cs : List ClauseRow) (cs-few : length cs ≤ 256)
+      (ds : List ConstraintRow) (ds-few : length ds ≤ 32) (p q : ℕ) where
     abbrev withQueries : List Formula → Said
-    withQueries fs = said ns cs ds p q fs []
+    withQueries fs = said ns cs ds p q fs [] es
 
     query-step : (done : List Formula) (f : Formula) (rest : List Formula) → Left QueryWritten 16 done (f ∷ rest)
         → Step (queryLine name) withQueries (Left QueryWritten 16) done f rest
@@ -45,12 +45,12 @@ module _ (ns : List (List ℕ)) (name : ℕ → List ℕ) (h : NamedBy ns name) 
           fits = known-fits st (queryLine name f) (d .names) (query-is-line f (r .each .0 .0)) (r .each .0 .1)
               (omega (arith, decoded-depth d, r .each .0 .0 .not-deep))
               (rw (query-no-cost st (decoded name f))
-              (room-rows st _ refl refl (h .few) (omega arith) (omega arith) (omega arith)));
+              (room-rows st _ refl refl (h .few) (omega arith) (omega arith) (omega arith))) (omega arith);
           says = known-says st (queryLine name f) (d .names) ∙ query-said st (decoded name f)
               ∙ ap (λ g. withQueries (done ++ (g ∷ []))) (d .back);
           on = left-on QueryWritten 16 done f rest r;
         }
 
     pub queries-read : (fs : List Formula) → Left QueryWritten 16 [] fs
-        → Reads (said ns cs ds p q [] []) (map (queryLine name) fs) (said ns cs ds p q fs [])
+        → Reads (said ns cs ds p q [] [] es) (map (queryLine name) fs) (said ns cs ds p q fs [] es)
     queries-read fs r = segment (queryLine name) withQueries (Left QueryWritten 16) query-step fs r

@@ -14,7 +14,7 @@ use Rattle.program.specs.declared.case.Case.{Case}
 use Rattle.program.specs.Case.{clauseSize, constraintSize, formulaSize, nameSize, priceSize, partSize, nodesOf}
 use Rattle.program.specs.Sound.{sound}
 use Rattle.program.proofs.Soundness.{sound-atoms, sound-clauses, sound-constraints, sound-formulas, sound-each}
-use Rattle.program.proofs.Soundness.{formula-few, nodes-length}
+use Rattle.program.proofs.Soundness.{sound-edition, formula-few, nodes-length}
 use Rattle.text.proofs.Slices.{slice-take}
 use Rattle.table.specs.Filled.{filled, padded}
 use Rattle.table.proofs.Filled.{filled-length}
@@ -34,6 +34,7 @@ use Rattle.writing.specs.Operation.{writable}
 use Rattle.way_back.specs.Claims.{SameUsed}
 use Rattle.writing.proofs.CaseRoom.{writable-sound, formula-nodes}
 use Rattle.writing.proofs.Costs.{costs-price}
+use Rattle.writing.proofs.Editions.{edition-back}
 use Rattle.way_back.proofs.Writable.{row-is}
 use Rattle.way_back.proofs.UsedRows.{rows-used, clause-words, constraint-words}
 
@@ -162,6 +163,7 @@ module _ (c : Case) (t v : Lent) (h : writable c t ≡ true) (long : Long t) (ro
     formula-count-is = list-of-length (c .formulas) (formulaIn c (t .formula));
     plain-is = refl;
     negated-is = refl;
+    edition-is = edition-back (c .edition) (sound-edition c _ _ _ is-sound);
     node-counts-are = count-used;
     clauses-are = clauses-used;
     constraints-are = constraints-used;

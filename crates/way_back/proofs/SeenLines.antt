@@ -30,13 +30,13 @@ module _ (at : List ℕ → ℕ) (b : Bool) where
       is-atoms at b (orAtoms (atomsBy at b l) (atomsBy at b m)) (l ++ m) (word-lt 64 _) (λ a h.
       has-word 64 _ a h ∙ ap₂ _||_ (atoms-has at b l a h) (atoms-has at b m a h) ∙ sym (on-append at b l m a))
 
-module _ (ns : List (List ℕ)) (few : length ns ≤ 64) (cs : List ClauseRow) (cs-few : length cs ≤ 256)
-    (ds : List ConstraintRow) (ds-few : length ds ≤ 32) where
+module _ (ns : List (List ℕ)) (few : length ns ≤ 64) (es : List ℕ) (es-few : length es ≤ 1) (cs : List ClauseRow)
+    (cs-few : length cs ≤ 256) (ds : List ConstraintRow) (ds-few : length ds ≤ 32) where
   abbrev pub ReadingWritten : Literal → Type 0
   ReadingWritten x = Written Line.seen (λ y. Each (Usable ns) (bodyNames (y ∷ []))) x
 
   abbrev withReadings : List Literal → Said
-  withReadings l = said ns cs ds (plainAtoms ns l) (negatedAtoms ns l) [] []
+  withReadings l = said ns cs ds (plainAtoms ns l) (negatedAtoms ns l) [] [] es
 
   abbrev Ready : List Literal → List Literal → Type 0
   Ready done rest = Each ReadingWritten rest
@@ -50,7 +50,7 @@ module _ (ns : List (List ℕ)) (few : length ns ≤ 64) (cs : List ClauseRow) (
       → after (withReadings done) (Line.seen x) ≡ withReadings (done ++ (x ∷ []))
   reading-says done x u =
       known-says (withReadings done) (Line.seen x) u ∙ seen-said (withReadings done) x
-      ∙ ap₂ (λ p q. said ns cs ds p q [] [])
+      ∙ ap₂ (λ p q. said ns cs ds p q [] [] es)
       (atoms-more (atomOf ns) false done (x ∷ [])) (atoms-more (atomOf ns) true done (x ∷ []))
 
   reading-step : (done : List Literal) (x : Literal) (rest : List Literal) → Ready done (x ∷ rest)
@@ -60,14 +60,16 @@ module _ (ns : List (List ℕ)) (few : length ns ≤ 64) (cs : List ClauseRow) (
       let st = withReadings done in
       record {
         fits = known-fits st (Line.seen x) u (seen-is-line x u) (r .0 .1) (omega arith)
-            (rw (seen-no-cost st x) (room-rows st nothing refl refl few (omega arith) (omega arith) (omega arith)));
+            (rw (seen-no-cost st x) (room-rows st nothing refl refl few (omega arith) (omega arith) (omega arith)))
+            (omega arith);
         says = reading-says done x u;
         on = r .1;
       }
 
   pub readings-read : (l : List Literal) → Each ReadingWritten l
-      → Reads (said ns cs ds 0 0 [] []) (map Line.seen l) (said ns cs ds (plainAtoms ns l) (negatedAtoms ns l) [] [])
+      → Reads (said ns cs ds 0 0 [] [] es) (map Line.seen l)
+      (said ns cs ds (plainAtoms ns l) (negatedAtoms ns l) [] [] es)
   readings-read l r =
       subst (λ st. Reads st (map Line.seen l) (withReadings l))
-      (ap₂ (λ p q. said ns cs ds p q [] []) (atoms-none (atomOf ns) false) (atoms-none (atomOf ns) true))
+      (ap₂ (λ p q. said ns cs ds p q [] [] es) (atoms-none (atomOf ns) false) (atoms-none (atomOf ns) true))
       (segment Line.seen withReadings Ready reading-step l r)

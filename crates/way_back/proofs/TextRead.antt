@@ -5,15 +5,13 @@ use mathlib.Core.Bool.{true}
 use mathlib.Core.List.{List, [], _∷_, map}
 use Prim.Native.Nat.{ℕ, suc, _+_, _*_, _≤_}
 use native.Mathlib.Omega.{arith}
-use lib.Dec.{leb}
 use lib.ListN.{length, take}
 use lib.Seq.{getD-take}
 use borrow.Author.Tests.{le-leb}
 use Rattle.words.proofs.Lists.{list-of-length}
 use Rattle.program.specs.declared.case.Case.{Case}
-use Rattle.program.specs.Sound.{fewCauses}
-use Rattle.program.proofs.MakingSound.{few-causes-ext}
-use Rattle.program.proofs.Soundness.{sound-atoms, sound-clauses, sound-formulas, sound-causes}
+use Rattle.program.proofs.MakingSound.{few-settings-ext}
+use Rattle.program.proofs.Soundness.{sound-atoms, sound-clauses, sound-formulas, sound-edition, sound-few}
 use Rattle.text.proofs.Each.{Each}
 use Rattle.text.proofs.Spelled.{text-lines}
 use Rattle.grammar.specs.Line.{Line}
@@ -22,14 +20,15 @@ use Rattle.store.specs.Lent.{Lent}
 use Rattle.store.specs.Saying.{Said, nothingSaid}
 use Rattle.store.specs.Tables.{clauseWords}
 use Rattle.store.proofs.Rows.{clause-rows}
-use Rattle.reader.specs.Reading.{Outcome, ending, readLines, readFile}
+use Rattle.reader.specs.Reading.{Outcome, settingsFew, ending, readLines, readFile}
 use Rattle.reader.proofs.EarlyRefusals.{fit-long}
 use Rattle.writing.specs.Lines.{linesOf, lineText}
-use Rattle.writing.specs.Used.{clauseIn, formulaIn, saidOf}
+use Rattle.writing.specs.Used.{clauseIn, formulaIn, editionsIn, saidOf}
 use Rattle.spelling.proofs.Pages.{short-lines}
 use Rattle.writing.proofs.CaseRoom.{writable-sound}
 use Rattle.writing.specs.Operation.{caseLines, caseText, writeRefusal}
 use Rattle.writing.proofs.Costs.{costs-formed, costs-fresh}
+use Rattle.writing.proofs.Editions.{edition-back}
 use Rattle.way_back.proofs.Writable.{name-is, name-atom, prices-few, said-formed}
 use Rattle.way_back.proofs.UsedRows.{rows-taken, clause-words}
 use Rattle.writing.proofs.Unrefused.{Unrefused, unrefused}
@@ -46,9 +45,7 @@ short-each [] h = tt
 short-each (x ∷ xs) h = (h .0, short-each xs (h .1))
 
 -- the checks after the last line pass
-ending-case : (st : Said) → 1 ≤ length (st .queries)
-    → fewCauses (length (st .names)) (clauseWords (st .clauses)) (length (st .clauses)) ≡ true
-    → ending st ≡ Outcome.case st
+ending-case : (st : Said) → 1 ≤ length (st .queries) → settingsFew st ≡ true → ending st ≡ Outcome.case st
 unfolding ending
 ending-case st h k = rw (le-leb 1 (length (st .queries)) h, k)
 
@@ -96,12 +93,18 @@ module _ (c : Case) (t : Lent) (u : Unrefused c t) where
       rows-taken clause-rows (clauseIn (t .clauses)) (t .clauses) (c .clauses)
       (λ k l. clause-words (t .clauses) k (omega arith))
 
-  causes-few : fewCauses (length (st .names)) (clauseWords (st .clauses)) (length (st .clauses)) ≡ true
-  causes-few =
-      rw (atoms-are, words-are, list-of-length (c .clauses) (clauseIn (t .clauses)))
-      (few-causes-ext (take (3 * c .clauses) (t .clauses)) (t .clauses) (c .clauses)
-      (λ k l. getD-take (3 * c .clauses) (t .clauses) (3 * k) 0 (omega arith)) (c .atoms)
-      ∙ sound-causes c _ _ _ (writable-sound c t (u .can-write)))
+  settings-few : settingsFew st ≡ true
+  settings-few =
+      let s = writable-sound c t (u .can-write) in
+      rw (
+        edition-back (c .edition) (sound-edition c _ _ _ s),
+        atoms-are,
+        words-are,
+        list-of-length (c .clauses) (clauseIn (t .clauses)),
+      )
+      (few-settings-ext (take (3 * c .clauses) (t .clauses)) (t .clauses) (c .clauses)
+      (λ k l. getD-take (3 * c .clauses) (t .clauses) (3 * k) 0 (omega arith)) (c .edition) (c .atoms)
+      ∙ sound-few c _ _ _ s)
 
   file-lines : readFile (caseText c t) ≡ readLines (map lineText (linesOf name st)) nothingSaid 1
   unfolding readFile
@@ -113,14 +116,19 @@ module _ (c : Case) (t : Lent) (u : Unrefused c t) where
   file-read few =
       file-lines ∙ lines-read (linesOf name st) nothingSaid st 1 reads
       (counts-few name st writes (subst AllFew (said-bodies c t) few))
-      ∙ ending-case st query-some causes-few
+      ∙ ending-case st query-some settings-few
+
+  -- the lines in front of the bodies
+  abbrev front : ℕ
+  front = c .atoms + length (editionsIn (c .edition))
 
   file-refused : (k : ℕ) → FirstLong (bodySizes c t) k
-      → readFile (caseText c t) ≡ Outcome.refused 20 (suc (c .atoms + k))
+      → readFile (caseText c t) ≡ Outcome.refused 20 (suc (front + k))
   file-refused k f =
-      let e : 1 + (length (st .names) + k) ≡ suc (c .atoms + k) = omega (arith, atoms-are) in
+      let m = length (st .names) + length (st .editions) in
+      let e : 1 + (m + k) ≡ suc (front + k) = omega (arith, atoms-are) in
       file-lines
-      ∙ lines-refused (linesOf name st) (length (st .names) + k) nothingSaid st 1 reads
+      ∙ lines-refused (linesOf name st) (m + k) nothingSaid st 1 reads
       (count-over name st writes k (subst (λ l. FirstLong l k) (said-bodies c t) f))
       ∙ ap (Outcome.refused 20) e
 
@@ -129,5 +137,5 @@ module _ (c : Case) (t : Lent) (n : ℕ) (h : writeRefusal c t n ≡ 0) where
   text-read = file-read c t (unrefused c t n h)
 
   pub text-refused : (k : ℕ) → FirstLong (bodySizes c t) k
-      → readFile (caseText c t) ≡ Outcome.refused 20 (suc (c .atoms + k))
+      → readFile (caseText c t) ≡ Outcome.refused 20 (suc (c .atoms + length (editionsIn (c .edition)) + k))
   text-refused = file-refused c t (unrefused c t n h)

@@ -2,6 +2,7 @@
 use mathlib.Core.Path.{_≡_, refl, sym}
 use mathlib.Core.Bool.{true}
 use Prim.Native.Nat.{ℕ, suc, _+_}
+use lib.ListN.{length}
 use Rattle.program.specs.declared.case.Case.{Case}
 use Rattle.store.specs.Lent.{Lent, filledWith}
 use Rattle.store.specs.Tables.{wordsOf, caseSaid}
@@ -11,7 +12,7 @@ use Rattle.reader.specs.Reading.{Outcome, readFile}
 use Rattle.reader.specs.Operation.{tablesFit, earlyRefusal, ReadAs}
 use Rattle.reader.proofs.EarlyRefusals.{early-none}
 use Rattle.reader.proofs.FileSays.{accepted}
-use Rattle.writing.specs.Used.{saidOf}
+use Rattle.writing.specs.Used.{editionsIn, saidOf}
 use Rattle.writing.specs.Operation.{caseText, writeRefusal}
 use Rattle.way_back.specs.Bodies.{bodySizes, AllFew, FirstLong}
 use Rattle.way_back.specs.Claims.{SameUsed, WayBack, LongBodyRefused, AcceptedBack}
@@ -50,10 +51,13 @@ module _ (c : Case) (t v u : Lent) (n : ℕ) (r : Answer) (h : writeRefusal c t 
 
   -- where body k is the first long one
   module _ (k : ℕ) (f : FirstLong (bodySizes c t) k) where
-    refused : readFile (caseText c t) ≡ Outcome.refused 20 (suc (c .atoms + k))
+    abbrev line : ℕ
+    line = suc (c .atoms + length (editionsIn (c .edition)) + k)
+
+    refused : readFile (caseText c t) ≡ Outcome.refused 20 line
     refused = text-refused c t n h k f
 
-    not-back : (r .refusal ≡ 20) × (r .line ≡ suc (c .atoms + k))
+    not-back : (r .refusal ≡ 20) × (r .line ≡ line)
     not-back = (rw (early, refused) at (a .refusal-is), rw (early, refused) at (a .line-is))
 
 pub way-back : WayBack

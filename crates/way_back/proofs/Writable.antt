@@ -29,6 +29,7 @@ use Rattle.reader.proofs.WellFormed.{NamesFormed, ClauseFormed, ConstraintForme
 use Rattle.reader.proofs.WellFormed.{well-formed}
 use Rattle.writing.specs.Used.{clauseIn, constraintIn, formulaIn, saidOf}
 use Rattle.writing.specs.Operation.{writable}
+use Rattle.writing.proofs.Editions.{editions-formed}
 use Rattle.writing.proofs.Rows.{rows-list-of}
 use Rattle.writing.proofs.CaseRoom.{writable-sound}
 use Rattle.writing.proofs.WritableAtoms.{writable-atom, price-few, atom-name, atom-row, row-fresh}
@@ -104,5 +105,5 @@ module _ (c : Case) (t : Lent) (h : writable c t ≡ true) where
       let queries =
       rows-list-of (QueryFormed (c .atoms)) 16 (c .formulas) _ (sound-formulas c _ _ _ s .1) each-formula in
       let observed = within-formed (c .atoms) (c .plain) (c .negated) (sound-within c _ _ _ s) in
-      well-formed (saidOf c t) names-formed (rw same clauses) (rw same constraints) (rw same observed)
-      (rw same queries)
+      well-formed names-formed (rw same clauses) (rw same constraints) (rw same observed) (rw same queries)
+      (editions-formed (c .edition))

@@ -36,8 +36,9 @@ use Rattle.output.specs.Writing.{Room}
 use Rattle.writing.specs.Lines.{literalsFor, clauseLine, constraintLine, queryLine, costLine, linesOf, lineText}
 use Rattle.writing.specs.Used.{clauseIn, constraintIn, formulaIn, costOf, costsIn, saidOf}
 use Rattle.writing.specs.Operation.{isWritableAtom, writable, caseLines, caseText}
+use Rattle.writing.proofs.Editions.{editions-formed}
 use Rattle.writing.proofs.Rows.{rows-map, rows-append, rows-all, rows-gives, rows-list-of}
-use Rattle.writing.proofs.LineSizes.{ShortLine, SmallFormula, literals-small, atom-short}
+use Rattle.writing.proofs.LineSizes.{ShortLine, SmallFormula, literals-small, atom-short, edition-short}
 use Rattle.writing.proofs.LineSizes.{clause-short, constraint-short, seen-short, query-short, cost-short}
 
 -- ---- formulas
@@ -72,6 +73,7 @@ record Limited (st : Said) : Type 0 where
   constraints : length (st .constraints) ≤ 32
   queries : Rows SmallFormula 16 (st .queries)
   costs : length (st .costs) ≤ 64
+  editions : length (st .editions) ≤ 1
 
 module _ (name : ℕ → List ℕ) (short : (a : ℕ) → length (name a) ≤ 16) (st : Said) (h : Limited st) where
   abbrev Short : ℕ → List Line → Type 0
@@ -79,6 +81,10 @@ module _ (name : ℕ → List ℕ) (short : (a : ℕ) → length (name a) ≤ 16
 
   atom-rows : Short 64 (map Line.atom (st .names))
   atom-rows = rows-map ShortLine Line.atom 64 (st .names) (rows-gives _ _ atom-short 64 (st .names) (h .names))
+
+  edition-rows : Short 1 (map Line.edition (st .editions))
+  edition-rows =
+      rows-map ShortLine Line.edition 1 (st .editions) (rows-all _ edition-short 1 (st .editions) (h .editions))
 
   clause-rows : Short 256 (map (clauseLine name) (st .clauses))
   clause-rows =
@@ -106,12 +112,13 @@ module _ (name : ℕ → List ℕ) (short : (a : ℕ) → length (name a) ≤ 16
       rows-map ShortLine (costLine name) 64 (st .costs)
       (rows-all _ (cost-short name short) 64 (st .costs) (h .costs))
 
-  line-rows : Short 560 (linesOf name st)
+  line-rows : Short 561 (linesOf name st)
   line-rows =
-      rows-append ShortLine 64 496 _ _ atom-rows
+      rows-append ShortLine 64 497 _ _ atom-rows
+      (rows-append ShortLine 1 496 _ _ edition-rows
       (rows-append ShortLine 256 240 _ _ clause-rows
       (rows-append ShortLine 32 208 _ _ constraint-rows
-      (rows-append ShortLine 128 80 _ _ seen-rows (rows-append ShortLine 16 64 _ _ query-rows cost-rows))))
+      (rows-append ShortLine 128 80 _ _ seen-rows (rows-append ShortLine 16 64 _ _ query-rows cost-rows)))))
 
 -- ---- the case
 module _ (c : Case) (t : Lent) (h : writable c t ≡ true) where
@@ -135,11 +142,12 @@ module _ (c : Case) (t : Lent) (h : writable c t ≡ true) where
             rows-list-of SmallFormula 16 (c .formulas) (formulaIn c (t .formula)) (sound-formulas c _ _ _ s .1)
             (λ q l. nodes-few (c .atoms) (c .nodes) (t .formula) q (sound-each c _ _ _ s q l));
         costs = omega (arith, costs-few (t .prices) (c .atoms));
+        editions = editions-formed (c .edition) .few;
       }
 
-  case-lines : Rows (λ l. length l ≤ 12600) 560 (caseLines c t)
+  case-lines : Rows (λ l. length l ≤ 12600) 561 (caseLines c t)
   case-lines =
-      rows-map _ lineText 560 (linesOf (nameIn (t .names)) (saidOf c t))
+      rows-map _ lineText 561 (linesOf (nameIn (t .names)) (saidOf c t))
       (line-rows (nameIn (t .names)) (name-short (t .names)) (saidOf c t) said-limited)
 
 pub case-room : (c : Case) (t : Lent) → tablesFit t ≡ true → writable c t ≡ true → Room (caseText c t) 0

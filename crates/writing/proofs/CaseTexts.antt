@@ -3,10 +3,8 @@ use mathlib.Core.Path.{_≡_, refl, sym, ap, ap₂, _∙_}
 use mathlib.Core.Bool.{Bool, true, false}
 use mathlib.Core.List.{List, [], _∷_, _++_, map, map-append, append-assoc, append-nil}
 use Prim.Native.Nat.{ℕ, zero, suc}
-use native.Mathlib.Omega.{arith}
-use lib.Dec.{ltb}
+use lib.Dec.{eqb, ltb}
 use lib.ListN.{getD}
-use borrow.Author.Tests.{le-ltb, lt-ltb}
 use Rattle.words.specs.Choice.{consIf}
 use Rattle.words.specs.Lists.{listOf}
 use Rattle.words.proofs.Lists.{list-of-map}
@@ -25,7 +23,7 @@ use Rattle.writing.specs.Lines.{literalsOn, literalsFor, clauseLine, con
 use Rattle.writing.specs.Lines.{lineText}
 use Rattle.writing.specs.Used.{clauseIn, constraintIn, formulaIn, costOf, costsIn, saidOf}
 use Rattle.writing.specs.Operation.{caseLines}
-use Rattle.writing.specs.Steps.{atomTexts, clauseTexts, constraintTexts, seenTexts, queryTexts, pricedText}
+use Rattle.writing.specs.Steps.{atomTexts, editionTexts, clauseTexts, constraintTexts, seenTexts, queryTexts}
 use Rattle.writing.specs.Steps.{costTexts, firstPage}
 use Rattle.writing.proofs.Ways.{LinesLeft, lines-start, lines-room, lines-more, lines-end}
 
@@ -85,8 +83,11 @@ module _ (c : Case) (t : Lent) where
   abbrev pub fromClauses : List (List ℕ)
   fromClauses = clauseTexts (t .names) (t .clauses) (c .clauses) ++ fromConstraints
 
+  abbrev pub fromEditions : List (List ℕ)
+  fromEditions = editionTexts (c .edition) ++ fromClauses
+
   abbrev pub fromAtoms : List (List ℕ)
-  fromAtoms = atomTexts (t .names) (c .atoms) ++ fromClauses
+  fromAtoms = atomTexts (t .names) (c .atoms) ++ fromEditions
 
   abbrev name : ℕ → List ℕ
   name = nameIn (t .names)
@@ -97,6 +98,7 @@ module _ (c : Case) (t : Lent) where
   case-texts : caseLines c t ≡ fromAtoms
   case-texts =
       both-texts (map Line.atom (st .names)) _ (texts-of Line.atom (c .atoms) name)
+      (both-texts (map Line.edition (st .editions)) _ (cons-texts Line.edition (eqb (c .edition) 2) 2)
       (both-texts (map (clauseLine name) (st .clauses)) _
       (texts-of (clauseLine name) (c .clauses) (clauseIn (t .clauses)))
       (both-texts (map (constraintLine name) (st .constraints)) _
@@ -106,7 +108,7 @@ module _ (c : Case) (t : Lent) where
       (both-texts (map (queryLine name) (st .queries)) _
       (texts-of (queryLine name) (c .formulas) (formulaIn c (t .formula)))
       (cost-texts (t .names) (t .prices) (c .atoms)))
-      ∙ append-assoc (seenTexts (t .names) false (c .plain)) _ _)))
+      ∙ append-assoc (seenTexts (t .names) false (c .plain)) _ _))))
 
   -- of the lines of the case those of left are still to be written
   abbrev pub CaseLeft : List ℕ → List (List ℕ) → Page → List ℕ → Type 0
@@ -130,20 +132,15 @@ module _ (c : Case) (t : Lent) where
       → Sets (caseLines c t) out firstPage r out₂
   case-end h k = lines-end (lines-more h fromCosts [] (sym (append-nil fromCosts)) k) refl
 
--- ---- the line of a price, where it is above 0
-module _ (na pr : List ℕ) (a : ℕ) where
-  pub price-none : getD pr a 0 ≡ 0 → {out : List ℕ} {g : Page} → Sets (pricedText na pr a) out g g out
-  price-none e {out} {g} = rw (le-ltb 0 (getD pr a 0) (omega arith)) (sets-none out g)
+-- ---- the line l, where the test b holds
+module _ (l : List ℕ) {b : Bool} where
+  pub line-absent : b ≡ false → {out : List ℕ} {g : Page} → Sets (consIf b l []) out g g out
+  line-absent e {out} {g} = rw e (sets-none out g)
 
-  module _ (l : getD pr a 0 ≡ 0 → ⊥) where
-    price-text : pricedText na pr a ≡ lineText (costLine (nameIn na) (costOf pr a)) ∷ []
-    price-text = rw (lt-ltb 0 (getD pr a 0) (omega arith))
+  module _ (e : b ≡ true) where
+    pub line-room-there : {at : ℕ} → Room (textOf (consIf b l [])) at → Room (textOf (l ∷ [])) at
+    line-room-there r = rw e at r
 
-    pub price-room : {at : ℕ} → Room (textOf (pricedText na pr a)) at
-        → Room (textOf (lineText (costLine (nameIn na) (costOf pr a)) ∷ [])) at
-    price-room r = rw price-text at r
-
-    pub price-written : {out out₁ : List ℕ} {g r : Page}
-        → Sets (lineText (costLine (nameIn na) (costOf pr a)) ∷ []) out g r out₁
-        → Sets (pricedText na pr a) out g r out₁
-    price-written h = rw price-text h
+    pub line-there : {out out₁ : List ℕ} {g r : Page} → Sets (l ∷ []) out g r out₁
+        → Sets (consIf b l []) out g r out₁
+    line-there h = rw e h

@@ -11,6 +11,7 @@
 -- Growing: lines written one entry of a table after another.
 -- Rows: lists of at most so many entries, of each of which something holds.
 -- LineSizes: how long a line is.
+-- Editions: the edition lines of a case.
 -- CaseRoom: the text of a writable case has room.
 -- Fitting: what a case that fits gives to the steps of writing it.
 -- CaseTexts: the lines of a case, kind by kind.
@@ -30,6 +31,7 @@ pub mod LineTexts
 pub mod Growing
 pub mod Rows
 pub mod LineSizes
+pub mod Editions
 pub mod CaseRoom
 pub mod Fitting
 pub mod CaseTexts

@@ -26,7 +26,7 @@ use Rattle.formulas.proofs.NameSentence.{name-tokens}
 use Rattle.formulas.proofs.FormSentence.{negation-tokens, joined-tokens}
 use Rattle.grammar.specs.Line.{Line, Literal, lineWords, ofLiteral, bodyTokens, lineTokens}
 use Rattle.grammar.proofs.LineTokens.{body-none, body-first, atom-tokens, clause-tokens, constraint-tokens}
-use Rattle.grammar.proofs.LineTokens.{seen-tokens, query-tokens, cost-tokens}
+use Rattle.grammar.proofs.LineTokens.{seen-tokens, query-tokens, cost-tokens, edition-tokens}
 use Rattle.reader.proofs.WellFormed.{Rows}
 use Rattle.store.specs.Prices.{CostRow}
 use Rattle.store.specs.Saying.{ClauseRow, ConstraintRow}
@@ -131,6 +131,11 @@ form-short x e h k = tokens-short x (rw e (small-form h k))
 pub atom-short : (w : List ℕ) → length w ≤ 16 → ShortLine (Line.atom w)
 atom-short w h =
     form-short (Line.atom w) (atom-tokens w) (line-word 8) (small-le (omega arith) (small-word w (omega arith)))
+
+pub edition-short : (e : ℕ) → ShortLine (Line.edition e)
+edition-short e =
+    form-short (Line.edition e) (edition-tokens e) (line-word 9)
+    (small-le (omega arith) (small-word ((48 + e) ∷ []) (omega arith)))
 
 pub seen-short : (x : Literal) → SmallLiteral x → ShortLine (Line.seen x)
 seen-short x h = form-short (Line.seen x) (seen-tokens x) (line-word 5) (small-le (omega arith) h)

@@ -2,7 +2,7 @@
 use mathlib.Core.Path.{_≡_, ap, _∙_}
 use mathlib.Core.Bool.{false}
 use mathlib.Core.List.{List, [], _∷_, _++_, append-assoc}
-use Prim.Native.Nat.{ℕ, _+_, _≤_}
+use Prim.Native.Nat.{ℕ, _+_, _%_, _≤_, _<_}
 use native.Mathlib.Omega.{arith}
 use lib.ListN.{getD}
 use Rattle.text.specs.Bytes.{bytes}
@@ -12,8 +12,10 @@ use Rattle.text.proofs.Spelled.{spelled-closing, text-one}
 use Rattle.formulas.specs.Sentence.{Sentence, formTokens, tokensOf}
 use Rattle.grammar.specs.Line.{Line, Literal, lineWords, ofLiteral, bodyTokens}
 use Rattle.grammar.proofs.LineTokens.{atom-tokens, clause-tokens, constraint-tokens, seen-tokens, query-tokens}
-use Rattle.grammar.proofs.LineTokens.{cost-tokens}
+use Rattle.grammar.proofs.LineTokens.{cost-tokens, edition-tokens}
+use Rattle.output.specs.Decimal.{decimal}
 use Rattle.output.specs.Writing.{Room}
+use Rattle.output.proofs.Decimals.{decimal-one}
 use Rattle.output.proofs.Laying as laying
 use Rattle.spelling.specs.declared.Pen.{Pen}
 use Rattle.spelling.specs.declared.Page.{Page}
@@ -101,6 +103,12 @@ module _ (j k : ℕ) (g : Page) (e : k ≡ j) where
 -- ---- each kind of line
 pub atom-form : (w : List ℕ) → FormLine (lineText (Line.atom w)) (bytes "atom") (Token.word w ∷ [])
 atom-form w = record { text-is = ap spelled (atom-tokens w) }
+
+pub edition-form : (e : ℕ) → e < 10
+    → FormLine (lineText (Line.edition e)) (bytes "edition") (Token.word (decimal e) ∷ [])
+edition-form e h =
+    let z : e % 10 ≡ e = omega arith in
+    record { text-is = ap spelled (rw (decimal-one e h, z) (edition-tokens e)) }
 
 pub clause-form : (k : ℕ) (w : List ℕ) (l : List Literal)
     → FormLine (lineText (Line.clause k w l)) (getD lineWords k []) (Token.word w ∷ bodyTokens l)

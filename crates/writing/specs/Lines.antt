@@ -1,7 +1,8 @@
 -- The lines of a case, as the trees that reading has.
 -- From: document 02, [8] ("It starts with one line `(atom N)` for each atom .. Then come clauses, constraints,
 -- observations, queries and costs, in table order, plain literals before negated ones, each in atom order"; "Only a
--- price above 0 is written, with supplement 0").
+-- price above 0 is written, with supplement 0"), [10] ("A case of edition 2 is written with that line after its `atom`
+-- lines").
 --
 --   literalsOn name b l     the literals on the atoms l, negated where b holds; name gives the name of each atom
 --   literalsFor name p q    the plain literals on the atoms of the word p, then the negated ones on those of q
@@ -54,10 +55,11 @@ costLine name r = Line.cost (name (r .atom)) (decimal (r .price)) (decimal 0)
 abbrev pub linesOf : (ℕ → List ℕ) → Said → List Line
 linesOf name st =
     map Line.atom (st .names)
+    ++ (map Line.edition (st .editions)
     ++ (map (clauseLine name) (st .clauses)
     ++ (map (constraintLine name) (st .constraints)
     ++ (map Line.seen (literalsFor name (st .plain) (st .negated))
-    ++ (map (queryLine name) (st .queries) ++ map (costLine name) (st .costs)))))
+    ++ (map (queryLine name) (st .queries) ++ map (costLine name) (st .costs))))))
 
 abbrev pub lineText : Line → List ℕ
 lineText x = spelled (lineTokens x)

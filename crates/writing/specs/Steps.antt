@@ -1,6 +1,7 @@
 -- What the code's steps of writing answer and leave.
 --
 --   atomTexts, ..            the texts of the lines of each kind, by the names table na
+--   editionTexts e           the text of the edition line of a case of edition e, where it has one
 --   pricedText na pr a       the text of the line of atom a's price, where it is above 0
 --   literalTokens name b a   the tokens of the literal on atom a, negated where b holds
 --   openedBy w               the tokens that a form with the word w begins with
@@ -16,7 +17,7 @@ use mathlib.Core.Path.{_≡_}
 use mathlib.Core.Bool.{Bool, true, false}
 use mathlib.Core.List.{List, [], _∷_, _++_, map}
 use Prim.Native.Nat.{ℕ, zero, suc, _+_, _*_, _≤_, _<_}
-use lib.Dec.{ltb}
+use lib.Dec.{eqb, ltb}
 use lib.ListN.{length, getD, drop}
 use lib.Seq.{slice}
 use Rattle.words.specs.Choice.{consIf}
@@ -47,6 +48,9 @@ use Rattle.writing.specs.Operation.{writable}
 -- a line for each of the first n atoms, clauses, constraints and formulas
 abbrev pub atomTexts : List ℕ → ℕ → List (List ℕ)
 atomTexts na n = listOf n (λ a. lineText (Line.atom (nameIn na a)))
+
+abbrev pub editionTexts : ℕ → List (List ℕ)
+editionTexts e = consIf (eqb e 2) (lineText (Line.edition 2)) []
 
 abbrev pub clauseTexts : List ℕ → List ℕ → ℕ → List (List ℕ)
 clauseTexts na cl n = listOf n (λ k. lineText (clauseLine (nameIn na) (clauseIn cl k)))

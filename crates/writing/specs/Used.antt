@@ -1,15 +1,16 @@
 -- What a record and its tables say in their used entries.
 -- From: document 02, [8] ("the same record and tables, both in their used entries"; "Only a price above 0 is written");
--- document 01, "Case tables and sound cases".
+-- document 01, "Case tables and sound cases"; document 02, [10] ("A case of edition 2 is written with that line").
 --
 --   clauseIn cl k       clause k of the table cl
 --   constraintIn co k   constraint k of the table co
 --   formulaIn c fo q    formula q of the case c
 --   costsIn pr n        the prices above 0 of the first n atoms, in atom order
+--   editionsIn e        the edition lines of a case of edition e: one of edition 2, none of any other
 --   saidOf c t          what the case c with the tables t says
 use mathlib.Core.List.{List, [], _++_}
 use Prim.Native.Nat.{ℕ, zero, suc}
-use lib.Dec.{ltb}
+use lib.Dec.{eqb, ltb}
 use lib.ListN.{getD}
 use Rattle.words.specs.Choice.{consIf}
 use Rattle.words.specs.Lists.{listOf}
@@ -39,6 +40,9 @@ unfoldable pub costsIn : List ℕ → ℕ → List CostRow
 costsIn pr zero = []
 costsIn pr (suc a) = costsIn pr a ++ consIf (ltb 0 (getD pr a 0)) (costOf pr a) []
 
+abbrev pub editionsIn : ℕ → List ℕ
+editionsIn e = consIf (eqb e 2) 2 []
+
 abbrev pub saidOf : Case → Lent → Said
 saidOf c t =
     said (listOf (c .atoms) (nameIn (t .names)))
@@ -47,3 +51,4 @@ saidOf c t =
     (c .plain) (c .negated)
     (listOf (c .formulas) (formulaIn c (t .formula)))
     (costsIn (t .prices) (c .atoms))
+    (editionsIn (c .edition))

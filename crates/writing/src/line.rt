@@ -82,6 +82,16 @@ pub fn atom_line(out: &mut [u8], g: Page, names: &[u8], atom: usize) -> Page
     close(out, g, q)
 }
 
+// Writes the line of an edition.
+pub fn edition_line(out: &mut [u8], g: Page, edition: usize) -> Page
+    requires { ⌜ (edition < 10) × Room (textOf (lineText (Line.edition edition) ∷ [])) (g .at) ⌝ }
+    ensures { λ r. ⌜ Sets (lineText (Line.edition edition) ∷ []) (now (out .entry)) g r (now (out .exit)) ⌝ }
+{
+    let p = begin(out, g, b"edition");
+    let q = number(out, p, edition as u64);
+    close(out, g, q)
+}
+
 // Writes the line of a clause, by its three words.
 pub fn clause_line(
     out: &mut [u8],

@@ -7,12 +7,14 @@ ghost use Rattle.store.specs.Lent.{lent};
 ghost use Rattle.output.specs.Writing.{Room};
 ghost use Rattle.spelling.specs.Page.{Sets};
 ghost use Rattle.writing.specs.Operation.{caseLines, caseText};
-ghost use Rattle.writing.specs.Steps.{atomTexts, clauseTexts, constraintTexts, seenTexts, queryTexts};
-ghost use Rattle.writing.specs.Steps.{pricedText, costTexts, KindsSound, BarsSound, QueriesSound, Fit, firstPage};
+ghost use Rattle.writing.specs.Steps.{atomTexts, editionTexts, clauseTexts, constraintTexts, seenTexts};
+ghost use Rattle.writing.specs.Steps.{queryTexts, pricedText, costTexts, KindsSound, BarsSound, QueriesSound};
+ghost use Rattle.writing.specs.Steps.{Fit, firstPage};
 use crate::line::atom_line;
 use crate::line::clause_line;
 use crate::line::constraint_line;
 use crate::line::cost_line;
+use crate::line::edition_line;
 use crate::line::query_line;
 use crate::line::seen_line;
 use program::case::Case;
@@ -30,6 +32,17 @@ fn atom_lines(out: &mut [u8], g: Page, names: &[u8], n: usize) -> Page
         a += 1;
     }
     page
+}
+
+// Writes the line of an edition, where it is 2.
+fn edition_lines(out: &mut [u8], g: Page, edition: usize) -> Page
+    requires { ⌜ Room (textOf (editionTexts edition)) (g .at) ⌝ }
+    ensures { λ r. ⌜ Sets (editionTexts edition) (now (out .entry)) g r (now (out .exit)) ⌝ }
+{
+    if edition != 2 {
+        return g;
+    }
+    edition_line(out, g, edition)
 }
 
 // Writes the lines of the first n clauses.
@@ -172,7 +185,8 @@ pub fn case_lines(
 {
     let first = Page { at: 0, long: false };
     let named = atom_lines(out, first, names, c.atoms);
-    let ruled = clause_lines(out, named, names, clauses, c.clauses);
+    let edited = edition_lines(out, named, c.edition);
+    let ruled = clause_lines(out, edited, names, clauses, c.clauses);
     let bounded = constraint_lines(out, ruled, names, constraints, c.constraints);
     let seen = seen_lines(out, bounded, names, c.plain, false);
     let observed = seen_lines(out, seen, names, c.negated, true);
