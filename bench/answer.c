@@ -4,7 +4,7 @@
 #include <stdio.h>
 #include <string.h>
 
-enum { MOST_TEXT = 300000 };
+enum { MOST_TEXT = 400000 };
 
 // The values of a formula, in their order.
 typedef enum { FALSE, UNKNOWN, TRUE } Value;
@@ -55,9 +55,10 @@ static const char *verdict(const Answer *answer, int query) {
 // Writes the line of one setting; answers the end of the text.
 static char *put_setting(char *end, int setting, const Case *c, const Program *p) {
     end = stpcpy(end, "(cause");
-    for (int i = 0; i < p->causes; i++, setting /= 3) {
-        if (setting % 3 == 0) continue;
-        end = stpcpy(end, setting % 3 == 1 ? " (true " : " (false ");
+    for (int i = 0; i < p->causes; i++) {
+        int digit = setting / p->weight[i] % choices(p, p->cause[i]);
+        if (digit == 0) continue;
+        end = stpcpy(end, digit == 1 ? " (true " : " (false ");
         end = stpcpy(end, c->name[p->cause[i]]);
         *end++ = ')';
     }

@@ -4,7 +4,7 @@
 
 #include "program.h"
 
-enum { MOST_SETTINGS = 59049, LISTED = 1024 };
+enum { LISTED = 1024 };
 
 // What the bytes of the work area say of a setting.
 enum { NO, EXPLAINS, MINIMAL };

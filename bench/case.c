@@ -136,7 +136,7 @@ static void cost(void) {
     reading->price[a] = price + (price * supplement + 50) / 100;
 }
 
-// Takes the form of one line, told by the first letter of its word.
+// Takes the form of one line, told by the first letter of its word; `atom` and `avoid` by the second.
 static void form(void) {
     const char *from;
     word(&from);
@@ -145,10 +145,14 @@ static void form(void) {
     case 'f': clause(ASSUMPTION); break;
     case 'i': clause(RULE); break;
     case 'n': constraint(NEVER); break;
-    case 'a': constraint(AVOID); break;
+    case 'a':
+        if (from[1] == 'v') constraint(AVOID);
+        else atom();
+        break;
     case 's': literals(&reading->observed); break;
     case 'q': query(); break;
     case 'c': cost(); break;
+    case 'e': reading->edition = (int)number(); break;
     default: fail("a line that is no form");
     }
 }
@@ -158,6 +162,7 @@ void read_case(Case *c) {
     size_t length = fread(file, 1, MOST_BYTES + 1, stdin);
     if (length > MOST_BYTES) fail("the file is too long");
     memset(c, 0, sizeof *c);
+    c->edition = 1;
     reading = c;
     const char *end = file + length;
     for (at = file; at < end; at++) {

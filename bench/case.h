@@ -5,7 +5,7 @@
 #include <stdint.h>
 
 enum { MOST_ATOMS = 64, MOST_CLAUSES = 256, MOST_CONSTRAINTS = 32, MOST_QUERIES = 16, MOST_NODES = 128 };
-enum { MOST_CAUSES = 10, MOST_NAME = 16 };
+enum { MOST_CAUSES = 15, MOST_SETTINGS = 59049, MOST_NAME = 16 };
 
 // The nodes of a formula in prefix order: an atom's number, or one of these.
 enum { NOT = 64, AND, OR, THEN, SAME };
@@ -37,9 +37,9 @@ typedef struct {
 } Constraint;
 
 // Clauses, constraints and queries stand in file order, names and prices by atom number; a price is in cents, 0 where
-// the file has none.
+// the file has none. The edition is 1 or 2, 1 where the file has none.
 typedef struct {
-    int atoms, clauses, constraints, queries;
+    int atoms, clauses, constraints, queries, edition;
     Clause clause[MOST_CLAUSES];
     Constraint constraint[MOST_CONSTRAINTS];
     Body observed;

@@ -30,6 +30,8 @@ static Planes opening;                 // the program's own facts and assumption
 static Planes now;                     // the block
 static Planes fresh;                   // what a round decides
 static uint64_t row[2 * BLOCKS];       // setting s at bit LANES * BLOCKS + s; the words in front stay 0
+static int back[MOST_CAUSES];          // from a setting to the one without a cause's assumption; from one with a cause
+                                       // of two choices into the words in front
 
 // The word with the first lanes, 1 to 64 of them.
 static inline uint64_t first_lanes(int number) { return ~(uint64_t)0 >> (LANES - number); }
@@ -42,6 +44,7 @@ static void prepare_lanes(const Program *p) {
         opening.trues[a] = p->facts & bit(a) ? ~(uint64_t)0 : 0;
         opening.falses[a] = p->assumed & bit(a) ? ~(uint64_t)0 : 0;
     }
+    for (int i = 0; i < p->causes; i++) back[i] = choices(p, p->cause[i]) == 3 ? 2 * p->weight[i] : LANES * BLOCKS;
 }
 
 // Adds a lane to the words of the atoms of a set.
@@ -49,12 +52,14 @@ static inline void spread(uint64_t *plane, uint64_t set, uint64_t lane) {
     for (; set != 0; set &= set - 1) plane[lowest(set)] |= lane;
 }
 
-// Adds what the next 64 settings add to the planes, from the first of them on; answers what the setting behind adds.
+// Adds what the next 64 settings add to the planes, from the first of them on; answers what the setting behind adds. A
+// cause of two choices is assumed by the program itself, and false where no fact is added.
 static Added fill(const Program *p, Added x) {
     for (int j = 0; j < LANES; j++, x = next_setting(p, x)) {
         spread(now.trues, x.facts, bit(j));
         spread(now.falses, x.assumed, bit(j));
     }
+    for (uint64_t left = p->twofold; left != 0; left &= left - 1) now.falses[lowest(left)] = ~now.trues[lowest(left)];
     return x;
 }
 
@@ -161,12 +166,12 @@ static inline uint64_t bits(int place) {
 }
 
 // The lanes whose setting, with one digit put to 0, has its bit in the row. No rule has a cause as its head, so the
-// planes still have what each setting adds.
+// planes still have what each setting adds; but a cause of two choices is false where nothing is added.
 static inline uint64_t dropped(const Program *p, int place) {
     uint64_t lanes = 0;
     for (int i = 0; i < p->causes; i++) {
-        int a = p->cause[i], weight = p->weight[i];
-        lanes |= (bits(place - weight) & now.trues[a]) | (bits(place - 2 * weight) & now.falses[a]);
+        int a = p->cause[i];
+        lanes |= (bits(place - p->weight[i]) & now.trues[a]) | (bits(place - back[i]) & now.falses[a]);
     }
     return lanes;
 }
@@ -192,12 +197,13 @@ static inline Interpretation column(int atoms, int lane) {
     return i;
 }
 
-// What the setting of one lane costs. No rule has a cause as its head, so the planes have what the setting adds.
+// What the setting of one lane costs, by what the planes have for its causes.
 static inline uint64_t cost_in(const Case *c, const Program *p, int lane) {
     uint64_t sum = 0;
     for (uint64_t left = p->priced; left != 0; left &= left - 1) {
         int a = lowest(left);
-        if ((now.trues[a] | now.falses[a]) >> lane & 1) sum += c->price[a];
+        uint64_t added = p->twofold & bit(a) ? now.trues[a] : now.trues[a] | now.falses[a];
+        if (added >> lane & 1) sum += c->price[a];
     }
     return sum;
 }

@@ -25,15 +25,18 @@ static void take_rules(Program *p, const Case *c) {
     p->first[MOST_ATOMS] = rule;
 }
 
+// Takes the causes: the atoms without a clause, and in edition 2 those of assumptions alone.
 static void take_causes(Program *p, const Case *c) {
     p->settings = 1;
+    if (c->edition == 2) p->twofold = p->assumed;
     for (int a = 0; a < c->atoms; a++) {
-        if (p->heads & bit(a)) continue;
-        if (p->causes == MOST_CAUSES) fail("too many causes");
+        if (p->heads & ~p->twofold & bit(a)) continue;
+        if (p->settings > MOST_SETTINGS / choices(p, a)) fail("too many settings");
         if (c->price[a] != 0) p->priced |= bit(a);
         p->cause[p->causes] = a;
+        p->word[p->causes] = bit(a);
         p->weight[p->causes++] = p->settings;
-        p->settings *= 3;
+        p->settings *= choices(p, a);
     }
 }
 

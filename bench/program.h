@@ -18,8 +18,10 @@ typedef struct {
     const Rule *first[MOST_ATOMS + 1];  // for each atom its first rule; the next atom's first rule ends them
     Rule rule[MOST_CLAUSES];            // the rules, ordered by head
     int causes, settings;
+    uint64_t twofold;                   // the causes of two choices: nothing added, or a fact
     uint64_t priced;                    // the causes with a price over 0
     int cause[MOST_CAUSES];
+    uint64_t word[MOST_CAUSES];         // the causes again, each as a word
     int weight[MOST_CAUSES];
 } Program;
 
@@ -30,11 +32,18 @@ typedef struct {
 
 void prepare(Program *p, const Case *c);
 
-// What the next setting adds: the lowest digit that isn't 2 rises, those below it fall to 0.
+// How many choices a cause has.
+static inline int choices(const Program *p, int cause) { return p->twofold & bit(cause) ? 2 : 3; }
+
+// What the next setting adds: the lowest digit that isn't its cause's last rises, those below it fall to 0.
 static inline Added next_setting(const Program *p, Added x) {
     for (int i = 0; i < p->causes; i++) {
-        uint64_t cause = bit(p->cause[i]);
-        if (x.facts & cause) return (Added){x.facts ^ cause, x.assumed | cause};
+        uint64_t cause = p->word[i];
+        if (x.facts & cause) {
+            if (!(p->twofold & cause)) return (Added){x.facts ^ cause, x.assumed | cause};
+            x.facts ^= cause;
+            continue;
+        }
         if (!(x.assumed & cause)) return (Added){x.facts | cause, x.assumed};
         x.assumed ^= cause;
     }

@@ -64,7 +64,7 @@ static int explains_in(const Case *c, Interpretation i) {
 static int is_minimal(const Program *p, const uint8_t *work, int setting, Added x) {
     int step[MOST_CAUSES], digits = 0, below = 0;
     for (int i = 0; i < p->causes; i++) {
-        uint64_t cause = bit(p->cause[i]);
+        uint64_t cause = p->word[i];
         if (!((x.facts | x.assumed) & cause)) continue;
         int digit = x.facts & cause ? p->weight[i] : 2 * p->weight[i];
         step[digits++] = below - digit;

@@ -1,6 +1,6 @@
 /* A case with its tables in one struct, over the calls of causes.h: the sizes go with it, and a name is a text.
  *
- * A struct is 10,416 bytes. Calls on different structs are independent; all but reading only read theirs.
+ * A struct is 10,424 bytes. Calls on different structs are independent; all but reading only read theirs.
  */
 #ifndef CAUSES_CASE_H
 #define CAUSES_CASE_H
@@ -44,8 +44,8 @@ struct causes_layering {
     uint64_t layered, count, entries[CAUSES_ATOMS];
 };
 
-/* Reads a file into a case. Refuses with 2 to 12, 16, 17 and 20; then the line, 0 where no line is at fault, is put to
- * *line unless line is a null pointer, and the record is zeros. */
+/* Reads a file into a case. Refuses with 2 to 12, 16, 17, 20 and 21; then the line, 0 where no line is at fault, is put
+ * to *line unless line is a null pointer, and the record is zeros. */
 static inline uint32_t causes_case_read(struct causes_case *c, const uint8_t *file, size_t file_bytes, uint64_t *line)
 {
     uint64_t words[CAUSES_READ_WORDS];
@@ -128,17 +128,38 @@ static inline void causes_case_name(const struct causes_case *c, size_t atom, ch
         memcpy(name, c->names + atom * CAUSES_NAME_BYTES, CAUSES_NAME_BYTES);
 }
 
-/* Puts the causes, that is the atoms that head no clause, in atom order, and answers how many there are. With k causes
- * there are 3^k settings; digit i of a setting to base three, lowest first, belongs to causes[i]: 0 adds nothing, 1 a
- * fact, 2 an assumption. */
+/* The edition of a case. */
+static inline uint64_t causes_case_edition(const struct causes_case *c)
+{
+    return c->record[CAUSES_RECORD_WORDS - 1];
+}
+
+/* How many choices a setting has for an atom: 3 if it heads no clause, 2 if it heads assumptions alone and the edition
+ * is 2, and 1 if it is no cause. */
+static inline unsigned causes_case_choices(const struct causes_case *c, size_t atom)
+{
+    int headed = 0;
+    size_t i;
+    if (atom >= c->record[0])
+        return 1;
+    for (i = 0; i < c->record[1] && i < CAUSES_CLAUSE_WORDS / 3; i++) {
+        if (c->clauses[3 * i] % CAUSES_ATOMS != atom)
+            continue;
+        if (causes_case_edition(c) != CAUSES_EDITION_2 || c->clauses[3 * i] / CAUSES_ATOMS != CAUSES_ASSUMPTION)
+            return 1;
+        headed = 1;
+    }
+    return headed ? 2 : 3;
+}
+
+/* Puts the causes, that is the atoms with more than one choice, in atom order, and answers how many there are. The
+ * product of their choices is the number of settings, and causes[i] has digit i of a setting in that mixed base, lowest
+ * first: 0 adds nothing, 1 a fact, 2 an assumption. */
 static inline size_t causes_case_causes(const struct causes_case *c, uint8_t causes[CAUSES_ATOMS])
 {
-    uint64_t heads = 0;
     size_t i, count = 0;
-    for (i = 0; i < c->record[1] && i < CAUSES_CLAUSE_WORDS / 3; i++)
-        heads |= (uint64_t)1 << (c->clauses[3 * i] % CAUSES_ATOMS);
-    for (i = 0; i < c->record[0] && i < CAUSES_ATOMS; i++)
-        if ((heads >> i & 1) == 0)
+    for (i = 0; i < CAUSES_ATOMS; i++)
+        if (causes_case_choices(c, i) > 1)
             causes[count++] = (uint8_t)i;
     return count;
 }

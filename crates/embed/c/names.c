@@ -12,6 +12,7 @@ int main(void)
 {
     struct causes_answer answer;
     uint8_t causes[CAUSES_ATOMS];
+    unsigned choices[CAUSES_ATOMS];
     char name[CAUSES_NAME_BYTES + 1];
     uint64_t line, rest;
     size_t count, i, k;
@@ -25,12 +26,14 @@ int main(void)
     for (i = 0; i < answer.queries; i++)
         printf("(verdict %s)\n", verdicts[answer.verdicts[i]]);
     count = causes_case_causes(&c, causes);
+    for (k = 0; k < count; k++)
+        choices[k] = causes_case_choices(&c, causes[k]);
     for (i = 0; i < answer.listed; i++) {
         printf("(cause");
-        for (k = 0, rest = list[i]; k < count; k++, rest /= 3) {
+        for (k = 0, rest = list[i]; k < count; rest /= choices[k], k++) {
             causes_case_name(&c, causes[k], name);
-            if (rest % 3 != 0)
-                printf(" (%s %s)", rest % 3 == 1 ? "true" : "false", name);
+            if (rest % choices[k] != 0)
+                printf(" (%s %s)", rest % choices[k] == 1 ? "true" : "false", name);
         }
         printf(")\n");
     }

@@ -146,7 +146,7 @@ static void struct_calls(uint64_t setting, size_t slots, size_t bytes, size_t te
     struct causes_settled settled;
     struct causes_answer answer;
     struct causes_layering layering;
-    uint8_t causes[CAUSES_ATOMS];
+    uint8_t causes[CAUSES_ATOMS], choices[CAUSES_ATOMS + 1];
     char name[CAUSES_NAME_BYTES + 1];
     uint64_t line, length;
     size_t i;
@@ -157,6 +157,10 @@ static void struct_calls(uint64_t setting, size_t slots, size_t bytes, size_t te
     print_words("record", lent.record, CAUSES_RECORD_WORDS);
     print_tables();
     print_bytes("causes", causes, causes_case_causes(&lent, causes));
+    for (i = 0; i < CAUSES_ATOMS + 1; i++)
+        choices[i] = (uint8_t)causes_case_choices(&lent, i);
+    print_bytes("choices", choices, CAUSES_ATOMS + 1);
+    printf("edition %" PRIu64 "\n", causes_case_edition(&lent));
     for (i = 0; i < CAUSES_ATOMS + 1; i++) {
         causes_case_name(&lent, i, name);
         printf("name %s\n", name);

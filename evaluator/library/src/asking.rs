@@ -20,7 +20,7 @@ const DRAWN: u64 = 1_200;
 
 /// The verdicts met, and how often more than one minimal explanation, verdicts that differ, and 16 queries.
 #[derive(Default)]
-struct Met {
+pub struct Met {
     verdicts: [usize; 4],
     several: usize,
     differing: usize,
@@ -40,15 +40,15 @@ impl Met {
     }
 
     /// Fails the family under way unless all was met.
-    fn require(&self, tests: &mut Tests) {
+    pub fn require(&self, tests: &mut Tests) {
         tests.require("each verdict and m > 1", self.verdicts.iter().all(|n| *n > 0) && self.several > 0);
         tests.require("verdicts that differ, and 16 queries", self.differing > 0 && self.sixteen > 0);
     }
 }
 
-/// Asks the question of `case`, which `held` holds: lists of 0, 1, m − 1, m and m + 1 slots, work areas of 3^k − 1
-/// bytes, of 3^k and of more.
-fn asked(tests: &mut Tests, name: &str, case: Case, held: &Held, met: &mut Met) {
+/// Asks the question of `case`, which `held` holds: lists of 0, 1, m − 1, m and m + 1 slots, work areas of a byte less
+/// than there are settings, of as many and of more.
+pub fn asked(tests: &mut Tests, name: &str, case: Case, held: &Held, met: &mut Met) {
     let asking = Asking::of(case);
     let (settings, found) = (asking.settings(), asking.minimal());
     met.count(&asking);

@@ -35,7 +35,7 @@ fn line_due(form: usize, count: usize, bits: Bits, line: u64) -> ReadDue {
         return due::refused(20, line);
     }
     let [plain, negated] = bits;
-    let mut held = Held::zeros();
+    let mut held = Held::empty();
     let atoms = if negated == 2 { 2 } else { 1 };
     (held.record[0], held.record[FORMULAS], held.record[NODES]) = (atoms, 1, 1);
     held.names[0] = b'a';

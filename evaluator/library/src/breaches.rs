@@ -3,15 +3,15 @@
 //! Each takes a sound case and breaks the phrase at a drawn place; those in entries change one word or byte.
 
 use crate::drawn::{deep, sized};
-use crate::held::{nodes, Held, FORMULAS, NODES, PART_BYTES};
+use crate::held::{nodes, Held, EDITION, FORMULAS, NODES, PART_BYTES};
 use crate::sound::Phrase;
 use evaluator::random::Random;
 
 /// A breach: its name, the phrase that it breaks, and how.
 pub type Breach = (&'static str, Phrase, fn(&mut Random, &mut Held));
 
-/// The breaches of the limits on counts and depth.
-pub const COUNTS: [Breach; 8] = [
+/// The breaches of the limits on counts and depth, and of the edition.
+pub const COUNTS: [Breach; 11] = [
     ("65 to 74 atoms", Phrase::AtomCount, |r, h| h.record[0] = r.between(65, 74) as u64),
     ("a 257th clause", Phrase::ClauseCount, |r, h| {
         let count = r.between(257, 300);
@@ -30,7 +30,13 @@ pub const COUNTS: [Breach; 8] = [
     ("no formula", Phrase::FormulaCount, |_, h| h.record[FORMULAS] = 0),
     ("a 17th formula", Phrase::FormulaCount, |r, h| h.record[FORMULAS] = *r.pick(&[17, 17, 18, 32, 40])),
     ("a 129th node", Phrase::NodeCount, long_formula),
-    ("an 11th cause", Phrase::CauseCount, |r, h| h.record[0] += r.between(11, 40) as u64),
+    ("an 11th cause", Phrase::SettingCount, |r, h| h.record[0] += r.between(11, 40) as u64),
+    ("a 16th cause of two choices", Phrase::SettingCount, many_assumed),
+    ("an edition that is none", Phrase::EditionListed, |r, h| {
+        let far = [257, 258, 1 << 16, (1 << 32) + 1, (1 << 32) + 2, 1 << 63, (1 << 63) + 1, u64::MAX - 1, u64::MAX];
+        h.record[EDITION] = if r.chance(40) { *r.pick(&[0, 3]) } else { *r.pick(&far) };
+    }),
+    ("a bit above the edition", Phrase::EditionListed, |r, h| h.record[EDITION] |= 1 << r.between(2, 63)),
     ("a formula of depth 17 and more", Phrase::Depth, |r, h| {
         let depth = *r.pick(&[17, 17, 18, 20, 33, 60]);
         let deep = nodes(&deep(r, h.record[0] as usize, depth));
@@ -97,6 +103,20 @@ pub const FORMULA: [Breach; 6] = [
         h.formula[last] = r.between(64, 68) as u8;
     }),
 ];
+
+/// Puts 16 and more atoms of assumptions alone, some of them with two, behind the others, in edition 2.
+fn many_assumed(random: &mut Random, held: &mut Held) {
+    held.record[EDITION] = 2;
+    for _ in 0..random.between(16, 40) {
+        let head = held.record[0];
+        held.record[0] += 1;
+        for _ in 0..random.between(1, 2) {
+            let at = 3 * held.record[1] as usize;
+            held.record[1] += 1;
+            held.clauses[at..at + 3].copy_from_slice(&[head + 64, 0, 0]);
+        }
+    }
+}
 
 /// A number below 64 that names no atom.
 fn strange(random: &mut Random, held: &Held) -> u64 {

@@ -99,9 +99,9 @@ fn prices(tests: &mut Tests) {
     }
 }
 
-/// Records of 0 to 21 words, where nothing is touched, and of more than 22.
+/// Records of 0 to 22 words, where nothing is touched, and of more than 23.
 fn records(tests: &mut Tests) {
-    tests.family("settle, question, layers: records of 0 to 21 words");
+    tests.family("settle, question, layers: records of 0 to 22 words");
     for known in (0..20).map(Known::of) {
         for length in 0..RECORD_WORDS {
             for held in [known.held.clone(), resized(&known.held, "clauses", 767)] {
@@ -113,7 +113,7 @@ fn records(tests: &mut Tests) {
             }
         }
     }
-    tests.family("settle, question, layers: records of more than 22 words");
+    tests.family("settle, question, layers: records of more than 23 words");
     for known in (0..20).map(Known::of) {
         for length in RECORD_WORDS + 1..RECORD_WORDS + 14 {
             known.accepted(tests, &length.to_string(), &resized(&known.held, "record", length));

@@ -6,6 +6,7 @@ use crate::due::{Layering, Settling};
 use crate::held::Held;
 use crate::tests::Tests;
 use evaluator::case::{Body, Case, Clause};
+use evaluator::cause::Edition;
 use evaluator::formula::{Formula, Literal};
 
 /// A chain of `atoms` links, the first of which is the lowest atom or, in a falling chain, the highest. The others are
@@ -41,6 +42,7 @@ impl Chain {
             observations: Vec::new(),
             queries: vec![Formula::Atom(0)],
             prices: vec![0; self.atoms],
+            edition: Edition::First,
         }
     }
 

@@ -9,16 +9,17 @@
 
 use crate::corpus::M4;
 use crate::due::{refused, unasked, Asking, Settling};
-use crate::held::{Held, FORMULA_BYTES};
+use crate::held::{Held, EDITION, FORMULA_BYTES};
 use crate::tests::{differing, Tests};
 use crate::write_call::WRITE_WORDS;
 use causes::{sizes, stack};
 use evaluator::answer::LIST_SLOTS;
-use evaluator::file::{self, ATOMS, CAUSES, CLAUSES, CONSTRAINTS, FILE_BYTES, LITERALS, NAME_BYTES, QUERIES};
+use evaluator::cause::SETTINGS;
+use evaluator::file::{self, ATOMS, CLAUSES, CONSTRAINTS, FILE_BYTES, LITERALS, NAME_BYTES, QUERIES};
 use std::path::Path;
 
 /// The refusals of documents 01 and 02.
-pub const REFUSALS: [(&str, u32); 20] = [
+pub const REFUSALS: [(&str, u32); 21] = [
     ("SHORT", 1),
     ("LONG_FILE", 2),
     ("LONG_LINE", 3),
@@ -39,6 +40,7 @@ pub const REFUSALS: [(&str, u32); 20] = [
     ("LONG_TEXT", 18),
     ("SHORT_OUTPUT", 19),
     ("MANY_LITERALS", 20),
+    ("SECOND_EDITION", 21),
 ];
 
 /// The name of the refusal `number`; 0 is none.
@@ -56,24 +58,35 @@ fn verdict(file: &str) -> u64 {
     Asking::of(file::read(file.as_bytes()).unwrap_or_else(|r| panic!("refused with {}", r.number))).verdicts()[0]
 }
 
-/// The most minimal explanations: settings with j causes decided, for the j that has the most of them.
+/// The most causes: so many with two choices, as each has two or more.
+fn most_causes() -> usize {
+    SETTINGS.ilog2() as usize
+}
+
+/// How many settings of causes with the `choices` add something for j causes, by j.
+fn levels(choices: &[u64]) -> Vec<u64> {
+    choices.iter().fold(vec![1], |lower, choices| {
+        let more = [vec![0], lower.iter().map(|n| n * (choices - 1)).collect()].concat();
+        [lower, vec![0]].concat().iter().zip(more).map(|(n, more)| n + more).collect()
+    })
+}
+
+/// The most minimal explanations: of those causes whose choices have the product for it, the settings that add
+/// something for j of them, for the j that has the most. No larger set has no two settings of which one is a subset.
 fn most_minimal() -> u64 {
-    let mut ways = 1;
-    let mut most = 0;
-    for decided in 0..=CAUSES as u64 {
-        most = most.max(ways * 2u64.pow(decided as u32));
-        ways = ways * (CAUSES as u64 - decided) / (decided + 1);
-    }
-    most
+    let twos = |threes: usize| (SETTINGS / 3u128.pow(threes as u32)).ilog2() as usize;
+    let threes = 0..=SETTINGS.ilog(3) as usize;
+    let most = threes.flat_map(|n| levels(&[vec![3; n], vec![2; twos(n)]].concat())).max();
+    most.expect("a setting")
 }
 
 /// The bytes of a report that has the longest of each line, and any 64-bit number as its cost, rounded up to tens.
 fn longest_report() -> u64 {
-    let most = 3u64.pow(CAUSES as u32) * ATOMS as u64;
+    let most = SETTINGS * ATOMS as u128;
     let verdicts = "(verdict unexplained)\n".repeat(QUERIES);
     let sums = format!("(rounds {most})\n(decided {most})\n");
     let head = format!("{verdicts}{sums}(minimal {} {LIST_SLOTS})\n", most_minimal());
-    let cause = format!("(cause{})\n", format!(" (false {})", "n".repeat(NAME_BYTES)).repeat(CAUSES));
+    let cause = format!("(cause{})\n", format!(" (false {})", "n".repeat(NAME_BYTES)).repeat(most_causes()));
     let cheapest = format!("(cheapest {})\n", u64::MAX);
     (head.len() + LIST_SLOTS * cause.len() + cheapest.len()).next_multiple_of(10) as u64
 }
@@ -82,6 +95,7 @@ fn longest_report() -> u64 {
 pub fn due() -> Vec<(&'static str, u64)> {
     let kind = |line: &str| held(&format!("{line}\n(query a)")).clauses[0] / 64;
     let constraint = |line: &str| held(&format!("{line}\n(query a)")).constraints[2];
+    let edition = |line: &str| held(&format!("{line}\n(query a)")).record[EDITION];
     let node = |formula: &str| u64::from(held(&format!("(query {formula})")).formula[0]);
     let words = |file: &[u8]| Settling::of(file::read(file).unwrap_or_else(|_| panic!("a lawful file"))).words(0);
     let mut rows = vec![
@@ -100,13 +114,15 @@ pub fn due() -> Vec<(&'static str, u64)> {
         ("RULE", kind("(if a b)")),
         ("NEVER", constraint("(never a)")),
         ("AVOID", constraint("(avoid a)")),
+        ("EDITION_1", edition("(edition 1)")),
+        ("EDITION_2", edition("(edition 2)")),
         ("NOT", node("(not a)")),
         ("AND", node("(and a b)")),
         ("OR", node("(or a b)")),
         ("THEN", node("(then a b)")),
         ("SAME", node("(same a b)")),
         ("FILE_BYTES", FILE_BYTES as u64),
-        ("SETTINGS", 3u64.pow(CAUSES as u32)),
+        ("SETTINGS", SETTINGS as u64),
         ("MINIMAL", most_minimal()),
         ("REPORT_BYTES", longest_report()),
         ("RECORD_WORDS", Held::zeros().record.len() as u64),

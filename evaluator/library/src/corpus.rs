@@ -159,6 +159,10 @@ pub fn refused_files() -> Vec<(u32, u64, Vec<u8>)> {
         (20, 65, lines(64, "(atom n#)") + "(avoid" + &" n0".repeat(11) + " new)\n"),
         (20, 257, lines(256, "(true low)") + &body("if low", "low", 12) + &query),
         (20, 34, query.clone() + &lines(32, "(never low)") + &body("avoid", "low", 12)),
+        (21, 3, query.clone() + "(edition 1)\n(edition 1)\n(\n"),
+        (21, 4, query.clone() + "(edition 2)\n;\n( edition  1 )\n" + &query.repeat(17)),
+        (21, 2, String::from("(edition 1)\n(edition 2)\n")),
+        (21, 26, String::from("(edition 2)\n") + &lines(24, "(false c#)") + "(edition 2)\n" + &query),
     ];
     rows.into_iter().map(|(number, line, text)| (number, line, text.into_bytes())).collect()
 }

@@ -4,13 +4,14 @@
 //! |---|---|
 //! | `Shape` | how many of each thing a case has, and the most nodes of a query |
 //! | `small`, `rich` | shapes for many cases; a rich one has each kind of entry |
-//! | `drawn` | a case of a shape |
+//! | `drawn`, `second` | a case of a shape, of edition 1; one of edition 2 with causes of two choices |
 //! | `prices` | prices of atoms, in one of several ranges |
 //! | `strewn` | a case's tables with garbage in the entries past the counts |
 //! | `sized`, `deep` | a formula of so many nodes; one of so great a depth |
 
-use crate::held::{Held, NODES, PART_BYTES, PRICES, QUERIES};
+use crate::held::{Held, EDITION, NODES, PART_BYTES, PRICES, QUERIES};
 use evaluator::case::{Body, Case, Clause};
+use evaluator::cause::{settings, Edition};
 use evaluator::constraint::{Constraint, KINDS};
 use evaluator::formula::{Connective, Formula, Literal};
 use evaluator::random::Random;
@@ -115,7 +116,7 @@ pub fn prices(random: &mut Random, atoms: usize) -> Vec<u32> {
     (0..atoms).map(|_| random.between(0, most as usize) as u32).collect()
 }
 
-/// A case of the shape `shape`.
+/// A case of the shape `shape`, of edition 1.
 pub fn drawn(random: &mut Random, shape: Shape) -> Case {
     let Shape { atoms, causes, .. } = shape;
     let defined = atoms - causes;
@@ -135,7 +136,23 @@ pub fn drawn(random: &mut Random, shape: Shape) -> Case {
         let nodes = if left == 0 { shape.nodes } else { random.between(1, shape.nodes) };
         queries.push(sized(random, atoms, nodes));
     }
-    Case { names, clauses, constraints, observations, queries, prices: prices(random, atoms) }
+    let edition = Edition::First;
+    Case { names, clauses, constraints, observations, queries, prices: prices(random, atoms), edition }
+}
+
+/// A case of the shape `shape`, of edition 2: drawn heads have assumptions alone, as many as leave `most` settings.
+pub fn second(random: &mut Random, shape: Shape, most: u128) -> Case {
+    let mut case = Case { edition: Edition::Second, ..drawn(random, shape) };
+    let mut heads: Vec<usize> = case.clauses.iter().map(|clause| clause.head).collect();
+    random.shuffle(&mut heads);
+    for head in heads {
+        let mut other = case.clone();
+        other.clauses.iter_mut().filter(|clause| clause.head == head).for_each(|clause| clause.body = Body::False);
+        if random.chance(30) && settings(&other.causes()) <= most {
+            case = other;
+        }
+    }
+    case
 }
 
 /// A word of drawn bits, now and then a small number or all ones.
@@ -155,7 +172,7 @@ pub fn strewn(random: &mut Random, held: &Held) -> Held {
     other.prices[PRICES.min(atoms as usize)..].fill_with(|| word(random) as u32);
     other.clauses[3 * clauses as usize..].fill_with(|| word(random));
     other.constraints[3 * constraints as usize..].fill_with(|| word(random));
-    other.record[NODES + held.formulas()..].fill_with(|| word(random));
+    other.record[NODES + held.formulas()..EDITION].fill_with(|| word(random));
     for (q, part) in other.formula.chunks_exact_mut(PART_BYTES).enumerate() {
         let nodes = if q < held.formulas() { held.nodes(q) } else { 0 };
         part[nodes..].fill_with(|| word(random) as u8);

@@ -3,6 +3,7 @@
 use crate::calls::{QuestionDue, ReadDue, ASKED_WORDS, LAYERS_WORDS, SETTLED_WORDS};
 use crate::held::{padded, Held, ATOMS, QUERIES, RECORD_WORDS};
 use evaluator::case::Case;
+use evaluator::cause::settings;
 use evaluator::file;
 use evaluator::formula::{FALSE, TRUE};
 use evaluator::layers::{dependence, is_ring, numbers, Dependence};
@@ -41,7 +42,7 @@ impl Settling {
 
     /// The number of settings.
     pub fn settings(&self) -> u64 {
-        3u64.pow(self.engine.causes.len() as u32)
+        settings(&self.engine.causes) as u64
     }
 
     /// What the setting `s` settles to: its least model by atom, and what each round newly decided.

@@ -5,11 +5,10 @@ use crate::calls::{LAYERS_WORDS, SETTLED_WORDS};
 use crate::constants::{due as constants, refusal};
 use crate::corpus::{all_folders, refused_files, Input, EACH, M4};
 use crate::due::{self, unasked, Asking, Layering, Settling};
-use crate::held::{padded, Held, QUERIES};
+use crate::held::{padded, Held, ATOMS, EDITION, QUERIES};
 use crate::meanings::{meaning, section};
 use crate::tests::{differing, Complaints, Tests};
 use evaluator::answer::answer;
-use evaluator::case::causes;
 use evaluator::file;
 use evaluator::writing::{self, tidied, tidy_text};
 use std::fmt::{Display, Write as _};
@@ -204,11 +203,14 @@ fn by_struct(bytes: &[u8], lent: &Lent) -> Vec<u8> {
     let answers = answers(bytes, lent);
     let tables = left(&read);
     let (names, found, queries) = match file::read(bytes) {
-        Ok(case) => (case.names.clone(), causes(case.names.len(), &case.clauses), case.queries.len()),
+        Ok(case) => (case.names.clone(), case.causes(), case.queries.len()),
         Err(_) => (Vec::new(), Vec::new(), 0),
     };
+    let choices = |atom: usize| found.iter().find(|c| c.atom == atom).map_or(1, |c| c.choices.len());
     let mut lines = line("read", [refusal(read.refusal).to_owned(), read.answer[0].to_string()]);
-    lines += &(line("record", &read.answer[1..]) + &table_lines(&tables) + &line("causes", found));
+    lines += &(line("record", &read.answer[1..]) + &table_lines(&tables));
+    lines += &(line("causes", found.iter().map(|c| c.atom)) + &line("choices", (0..=ATOMS).map(choices)));
+    lines += &line("edition", [read.answer[1 + EDITION]]);
     let mut rows: Vec<Vec<u8>> = Vec::new();
     for atom in 0..=64 {
         let untouched = if read.tables.is_none() && atom < 64 { vec![BYTE; 16] } else { Vec::new() };

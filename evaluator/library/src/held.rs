@@ -1,16 +1,19 @@
 //! The record and the tables that hold a case, made from the evaluator's case and read back.
 //!
-//! From: document 01, Case tables and sound cases; document 02, [1], [5], [7].
+//! From: document 01, Case tables and sound cases; document 02, [1], [5], [7], [10].
 //!
 //! | name | meaning |
 //! |---|---|
 //! | `Held` | a case record and tables, of any sizes and contents |
 //! | `FORMULAS`, `NODES` | the record's word with the number of formulas, and the first with a number of nodes |
+//! | `EDITION` | the record's word with the edition, its last |
+//! | `Held::zeros`, `Held::empty` | zeros everywhere; the same in edition 1 |
 //! | `Held::of` | the record and the full tables that hold a case, zeros in unused entries |
 //! | `Held::case` | the case that a sound record and its tables hold |
 //! | `Held::full` | the same in the evaluator's form, which says apart from `sound` whether it is sound |
 
 use evaluator::case::{Body, Case, Clause};
+use evaluator::cause::Edition;
 use evaluator::constraint::{Constraint, Kind};
 use evaluator::formula::{Connective, Formula, Literal};
 
@@ -22,13 +25,14 @@ pub const PART_BYTES: usize = 128;
 pub const FORMULA_BYTES: usize = QUERIES * PART_BYTES;
 pub const NAMES_BYTES: usize = 1_024;
 pub const PRICES: usize = 64;
-pub const RECORD_WORDS: usize = 22;
+pub const RECORD_WORDS: usize = 23;
 
 pub const FORMULAS: usize = 3;
 pub const NODES: usize = 6;
+pub const EDITION: usize = NODES + QUERIES;
 
-/// A case record of 22 words, and the tables: atoms, clauses, constraints, formulas, plain and negated observed atoms,
-/// and the nodes in each of the 16 parts of the formula table.
+/// A case record of 23 words, and the tables: atoms, clauses, constraints, formulas, plain and negated observed atoms,
+/// the nodes in each of the 16 parts of the formula table, and the edition.
 #[derive(Clone, PartialEq)]
 pub struct Held {
     pub record: Vec<u64>,
@@ -131,10 +135,10 @@ impl Held {
         let [plain, negated] = masks(&case.observations);
         let counts = [case.names.len(), case.clauses.len(), case.constraints.len(), queries.len()];
         let counts = counts.iter().map(|n| *n as u64).chain([plain, negated]);
-        let record = counts.chain(queries.iter().map(|query| query.len() as u64)).collect();
+        let record = padded(counts.chain(queries.iter().map(|query| query.len() as u64)).collect(), EDITION);
         let parts = queries.into_iter().flat_map(|query| padded(query, PART_BYTES)).collect();
         Held {
-            record: padded(record, RECORD_WORDS),
+            record: [record, vec![case.edition.number()]].concat(),
             clauses: padded(case.clauses.iter().flat_map(clause_words).collect(), CLAUSE_WORDS),
             constraints: padded(case.constraints.iter().flat_map(constraint_words).collect(), CONSTRAINT_WORDS),
             formula: padded(parts, FORMULA_BYTES),
@@ -155,14 +159,20 @@ impl Held {
         }
     }
 
+    /// Tables of zeros in their sizes, and a record of zeros but for the edition 1.
+    pub fn empty() -> Held {
+        let mut held = Held::zeros();
+        held.record[EDITION] = 1;
+        held
+    }
+
     /// The evaluator's record and tables with the same contents, of their full sizes.
     pub fn full(&self) -> evaluator::held::Held {
-        let [atoms, clauses, constraints, formulas, plain, negated, ref nodes @ ..] = self.record[..] else {
-            panic!("a record")
-        };
-        let nodes = nodes[..QUERIES].try_into().expect("a count for each part");
+        let [atoms, clauses, constraints, formulas, plain, negated] = self.record[..NODES] else { panic!("a record") };
+        let nodes = self.record[NODES..EDITION].try_into().expect("a count for each part");
+        let edition = self.record[EDITION];
         evaluator::held::Held {
-            record: evaluator::held::Record { atoms, clauses, constraints, formulas, nodes, plain, negated },
+            record: evaluator::held::Record { atoms, clauses, constraints, formulas, nodes, plain, negated, edition },
             clauses: self.clauses.clone(),
             constraints: self.constraints.clone(),
             formulas: self.formula.clone(),
@@ -205,6 +215,7 @@ impl Held {
                 .map(|q| formula(&self.formula[q * PART_BYTES..][..self.nodes(q)]).0)
                 .collect(),
             prices: self.prices[..count(0)].to_vec(),
+            edition: Edition::of(self.record[EDITION]).expect("an edition"),
         }
     }
 }

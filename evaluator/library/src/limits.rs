@@ -5,7 +5,7 @@ use crate::calls::{layers, question, settle, LayersDue, Room, ASKED_WORDS, LAYER
 use crate::case_sizes::refused;
 use crate::drawn::{deep, drawn, strewn, Shape};
 use crate::due::{Asking, Layering, Settling};
-use crate::held::{Held, FORMULAS, NODES, PART_BYTES, QUERIES};
+use crate::held::{Held, EDITION, FORMULAS, NODES, PART_BYTES, QUERIES};
 use crate::sound::{broken, Phrase};
 use crate::tests::Tests;
 use evaluator::case::Case;
@@ -76,7 +76,7 @@ fn past_the_formulas(tests: &mut Tests) {
         for queries in 1..QUERIES {
             let case = drawn(&mut Random::new(queries as u64), Shape { queries, ..SHAPE });
             let mut held = Held::of(&case);
-            held.record[NODES + queries..].fill(nodes);
+            held.record[NODES + queries..EDITION].fill(nodes);
             held.formula[queries * PART_BYTES..].fill(byte);
             accepted(tests, &format!("{name}, {queries} formulas"), case, &held);
             held.record[FORMULAS] += 1;

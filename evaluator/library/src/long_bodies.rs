@@ -14,6 +14,7 @@ use crate::tests::{Complaints, Tests};
 use crate::write_call::{write, Page, WriteDue, PAGE};
 use crate::writing::strewn_names;
 use evaluator::case::{Body, Case, Clause};
+use evaluator::cause::Edition;
 use evaluator::constraint::{Constraint, Kind, KINDS};
 use evaluator::formula::{Formula, Literal};
 use evaluator::random::Random;
@@ -112,6 +113,7 @@ fn made(name: String, rules: &[Bits], constraints: &[Bits], facts_first: bool, f
         observations: Vec::new(),
         queries: vec![Formula::Atom(0)],
         prices: vec![0; ATOMS],
+        edition: Edition::First,
     };
     Made { name, case, text, line: before.map(|before| (ATOMS + before + 1) as u64) }
 }
@@ -181,6 +183,7 @@ fn longest(tests: &mut Tests) {
             observations: Vec::new(),
             queries: vec![Formula::Atom(0)],
             prices: vec![0; 64],
+            edition: Edition::First,
         };
         let line = format!("(avoid{})", body_text(&names, bits));
         let text = format!("{}{}{line}\n(query a)\n", rows("atom"), rows("true"));

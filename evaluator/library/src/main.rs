@@ -12,6 +12,7 @@
 //! | marked, chains, pricing | M1 to M10 with their tables, chains of atoms, and prices, worked out by hand |
 //! | vectors | operations that stand in files with their answers |
 //! | breaches, unsound, limits | each phrase of soundness broken alone, and each limit met |
+//! | editions, second_edition, edition_lines | causes of two choices by hand and drawn, edition lines |
 //! | bodies, long_bodies | lines around the limit of a body's literals, and records with longer bodies |
 //! | fences | calls with the fence in front |
 //! | reports, threads | the report, calls from several threads |
@@ -29,6 +30,8 @@ mod constants;
 mod corpus;
 mod drawn;
 mod due;
+mod edition_lines;
+mod editions;
 mod fences;
 mod from_c;
 mod held;
@@ -46,6 +49,7 @@ mod read_sizes;
 mod reading;
 mod refusals;
 mod reports;
+mod second_edition;
 mod settling;
 mod sound;
 mod tests;
@@ -87,6 +91,9 @@ fn main() -> ExitCode {
     long_bodies::run(&mut tests);
     unsound::run(&mut tests);
     limits::run(&mut tests);
+    editions::run(&mut tests);
+    second_edition::run(&mut tests);
+    edition_lines::run(&mut tests);
     reports::run(&mut tests, &folder);
     fences::run(&mut tests, &folder);
     vectors::run(&mut tests, &folder);

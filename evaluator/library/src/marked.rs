@@ -82,7 +82,7 @@ const M4_DECIDED: [u64; 9] = [2, 4, 3, 4, 5, 5, 3, 5, 5];
 
 /// The record and the tables of a marked file.
 fn held((_, record, clauses, constraints, formula, names, _): Marked) -> Held {
-    let mut held = Held::zeros();
+    let mut held = Held::empty();
     held.record[..NODES].copy_from_slice(&record);
     held.record[NODES] = formula.len() as u64;
     held.clauses[..clauses.len()].copy_from_slice(clauses);

@@ -8,9 +8,8 @@ use crate::tests::{differing, Complaints, Tests};
 use crate::wrappers::{inputs, layers_inputs, record};
 use causes::{Case, Layer, Layers, Refusal};
 use evaluator::answer::{answer, LIST_SLOTS};
-use evaluator::case::causes;
+use evaluator::cause::{self, digits, Choice};
 use evaluator::file::{self, FILE_BYTES};
-use evaluator::question::digits;
 use evaluator::writing::written;
 use std::path::Path;
 
@@ -33,8 +32,8 @@ fn read(said: &evaluator::case::Case, case: &Case) -> Complaints {
     let held = Held::of(said);
     let tables = case.tables();
     let names: Vec<&str> = said.names.iter().map(String::as_str).collect();
-    let found = causes(said.names.len(), &said.clauses);
-    let settings = 3u64.pow(found.len() as u32);
+    let found = said.causes();
+    let choices = |atom: usize| found.iter().find(|c| c.atom == atom).map_or(1, |c| c.choices.len() as u64);
     [
         differing(&record(said, &held), case.record()),
         differing(held.clauses.as_slice(), &tables.clauses),
@@ -46,18 +45,20 @@ fn read(said: &evaluator::case::Case, case: &Case) -> Complaints {
         differing(names.last().copied(), case.name(names.len() - 1)),
         differing(None, case.name(names.len())),
         differing(said.prices.clone(), (0..).map_while(|atom| case.price(atom)).collect()),
-        differing(found, case.causes()),
-        differing(settings, case.settings()),
+        differing(said.edition.number(), case.edition()),
+        differing(found.iter().map(|c| c.atom).collect(), case.causes()),
+        differing((0..70).map(choices).collect::<Vec<_>>(), (0..70).map(|atom| case.choices(atom)).collect()),
+        differing(cause::settings(&found), u128::from(case.settings())),
     ]
     .concat()
 }
 
 /// A setting's digits by name, as the report's line has them.
 fn line(said: &evaluator::case::Case, setting: usize) -> String {
-    let found = causes(said.names.len(), &said.clauses);
-    let values = digits(setting, 3, found.len());
-    let added = found.iter().zip(values).filter(|(_, digit)| *digit > 0);
-    let added = added.map(|(atom, digit)| format!(" ({} {})", digit == 1, said.names[*atom]));
+    let found = said.causes();
+    let choices = found.iter().zip(digits(setting, &found)).map(|(cause, digit)| (cause.atom, cause.choices[digit]));
+    let added = choices.filter(|(_, choice)| *choice != Choice::Nothing);
+    let added = added.map(|(atom, choice)| format!(" ({} {})", choice == Choice::Fact, said.names[atom]));
     format!("(cause{})", added.collect::<String>())
 }
 

@@ -54,18 +54,18 @@ fn one_table(tests: &mut Tests) {
 
 /// Answers of 0 to 55 words, with full tables and with a short one.
 fn answers(tests: &mut Tests) {
-    tests.family("read: answers of 0 to 22 words");
+    tests.family("read: answers of 0 to 23 words");
     for file in files() {
-        for answer in 0..23 {
+        for answer in 0..24 {
             for clauses in [0, 767, 768, 769] {
                 let sizes = Sizes { clauses, answer, ..Sizes::FULL };
                 tests.call(|| format!("{sizes:?}"), read(&file, sizes, true, &untouched()));
             }
         }
     }
-    tests.family("read: answers of 23 and more words");
+    tests.family("read: answers of 24 and more words");
     for file in files() {
-        for answer in 23..56 {
+        for answer in 24..56 {
             let sizes = Sizes { answer, ..Sizes::FULL };
             tests.call(|| format!("{sizes:?}"), read(&file, sizes, true, &due::read(&file)));
             let short = Sizes { names: 1_023, ..sizes };

@@ -29,7 +29,8 @@ fn named(name: &str) -> Refusal {
         "SECOND_COST" => Refusal::SecondCost { line },
         "LONG_TEXT" => Refusal::LongText,
         "SHORT_OUTPUT" => Refusal::ShortOutput,
-        _ => Refusal::ManyLiterals { line },
+        "MANY_LITERALS" => Refusal::ManyLiterals { line },
+        _ => Refusal::SecondEdition { line },
     }
 }
 
@@ -41,7 +42,7 @@ fn refusals(tests: &mut Tests, root: &Path) {
         let what = || format!("{name}, {number}");
         let got = Refusal::from_number(number, 7);
         tests.call(what, differing(named(name), got));
-        let line = ((3..=10).contains(&number) || [16, 17, 20].contains(&number)).then_some(7);
+        let line = ((3..=10).contains(&number) || [16, 17, 20, 21].contains(&number)).then_some(7);
         tests.call(what, differing((number, line), (got.number(), got.line())));
         let text = meaning(&section, number).unwrap_or_default();
         tests.require(&format!("the manual's meaning of {number}"), !text.is_empty());
@@ -49,7 +50,7 @@ fn refusals(tests: &mut Tests, root: &Path) {
         let place = if line.is_some() { " in line 7" } else { "" };
         tests.call(what, differing(format!("refused with {number}{place}: {text}"), got.to_string()));
     }
-    for number in [21, 22, 23, 99] {
+    for number in [22, 23, 24, 99] {
         let got = Refusal::from_number(number, 3);
         let due = Refusal::Other { number, line: 3 };
         tests.call(|| number.to_string(), differing((due, number, Some(3)), (got, got.number(), got.line())));

@@ -9,7 +9,8 @@ use crate::held::Held;
 use crate::tests::{differing, Complaints, Tests};
 use crate::wrappers::{record, tables};
 use causes::lent;
-use evaluator::case::{causes, Case};
+use evaluator::case::Case;
+use evaluator::cause;
 use evaluator::file;
 use evaluator::random::Random;
 use std::path::Path;
@@ -25,7 +26,7 @@ const TRIED: u64 = 243;
 
 /// The number of settings of `case`.
 fn settings(case: &Case) -> u64 {
-    3u64.pow(causes(case.names.len(), &case.clauses).len() as u32)
+    cause::settings(&case.causes()) as u64
 }
 
 /// All settings below `end`, or for many the first, the last and some between.
@@ -38,7 +39,7 @@ fn some_settings(end: u64) -> Vec<u64> {
 }
 
 /// Settles settings of `case`, with garbage past the counts of `held`, which holds it.
-fn case_settings(tests: &mut Tests, name: &str, case: Case, held: &Held) {
+pub fn case_settings(tests: &mut Tests, name: &str, case: Case, held: &Held) {
     let mut settling = Settling::of(case);
     for s in some_settings(settling.settings()) {
         let due = settling.words(s);

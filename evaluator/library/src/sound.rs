@@ -1,11 +1,11 @@
 //! Which phrases of "A case is sound if .." a record and its tables break.
 //!
-//! From: document 01, Case tables and sound cases; document 02, [1], [5].
+//! From: document 01, Case tables and sound cases; document 02, [1], [5], [10].
 //!
 //! Counts, and bits held against them, are compared as they stand; a formula is read from its end, with the depths of
 //! what was read on a stack.
 
-use crate::held::{Held, CLAUSE_WORDS, CONSTRAINT_WORDS, FORMULA_BYTES, NODES, PART_BYTES, QUERIES};
+use crate::held::{Held, CLAUSE_WORDS, CONSTRAINT_WORDS, EDITION, FORMULA_BYTES, NODES, PART_BYTES, QUERIES};
 
 /// A phrase that can be broken.
 #[derive(Clone, Copy, Debug, PartialEq)]
@@ -16,7 +16,8 @@ pub enum Phrase {
     ConstraintCount,
     FormulaCount,
     NodeCount,
-    CauseCount,
+    EditionListed,
+    SettingCount,
     HeadNamesAtom,
     ClauseBitNamesAtom,
     ConstraintBitNamesAtom,
@@ -88,10 +89,14 @@ fn broken_by_formula(held: &Held, q: usize, atoms: u64) -> Vec<Phrase> {
     broken_of(&rows)
 }
 
-/// The number of atoms that head none of `clauses`.
-fn causes(clauses: &[u64], atoms: u64) -> u64 {
-    let headed = (0..64).filter(|a| *a < atoms && clauses.chunks_exact(3).any(|w| w[0] % 64 == *a)).count();
-    atoms - headed as u64
+/// Whether the product of the choices is at most 59,049: three for an atom that heads none of `clauses`, in edition 2
+/// two for one that heads assumptions alone. With 64 of each it still fits.
+fn has_few_settings(clauses: &[u64], atoms: u64, edition: u64) -> bool {
+    let kinds = |atom: u64| clauses.chunks_exact(3).filter(move |w| w[0] % 64 == atom).map(|w| w[0] / 64);
+    let headed = || (0..64).filter(|atom| *atom < atoms && kinds(*atom).next().is_some());
+    let twos = headed().filter(|atom| edition == 2 && kinds(*atom).all(|kind| kind == 1)).count();
+    let threes = atoms - headed().count() as u64;
+    threes <= 10 && 3u128.pow(threes as u32) << twos <= 59_049
 }
 
 /// The first `n` entries of `width` elements of `table`, as many as it has.
@@ -103,6 +108,7 @@ fn entries<T>(table: &[T], n: u64, width: usize) -> &[T] {
 /// The phrases that `held` breaks, each once.
 pub fn broken(held: &Held) -> Vec<Phrase> {
     let [atoms, clauses, constraints, formulas, plain, negated] = held.record[..NODES] else { panic!("a record") };
+    let edition = held.record[EDITION];
     let used = entries(&held.clauses, clauses, 3);
     let bodies = entries(&held.constraints, constraints, 3);
     let short = held.clauses.len() < CLAUSE_WORDS
@@ -115,7 +121,8 @@ pub fn broken(held: &Held) -> Vec<Phrase> {
         (Phrase::ClauseCount, clauses > 256),
         (Phrase::ConstraintCount, constraints > 32),
         (Phrase::FormulaCount, !(1..=16).contains(&formulas)),
-        (Phrase::CauseCount, causes(used, atoms) > 10),
+        (Phrase::EditionListed, !(1..=2).contains(&edition)),
+        (Phrase::SettingCount, !has_few_settings(used, atoms, edition)),
         (Phrase::ConstraintBitNamesAtom, bodies.chunks_exact(3).any(strange)),
         (Phrase::ObservedBitNamesAtom, strange(&[plain, negated])),
         (Phrase::ConstraintHasBit, bodies.chunks_exact(3).any(|w| w[0] == 0 && w[1] == 0)),

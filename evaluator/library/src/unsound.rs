@@ -4,7 +4,7 @@
 use crate::breaches::{Breach, COUNTS, ENTRIES, FORMULA};
 use crate::case_sizes;
 use crate::drawn::{drawn, rich, small, strewn, word, Shape};
-use crate::held::{Held, NODES, PART_BYTES, QUERIES};
+use crate::held::{Held, EDITION, NODES, PART_BYTES, QUERIES};
 use crate::limits::accepted;
 use crate::sound::broken;
 use crate::tests::Tests;
@@ -19,7 +19,7 @@ const ROUNDS: u64 = 150;
 const FAR: [u64; 8] = [1 << 8, 1 << 16, 1 << 31, 1 << 32, (1 << 32) + 1, 1 << 62, 1 << 63, u64::MAX - 1];
 
 /// Calls the operations on `held`, writing too, to be refused with 13.
-fn refused(tests: &mut Tests, what: &str, held: &Held) {
+pub fn refused(tests: &mut Tests, what: &str, held: &Held) {
     case_sizes::refused(tests, what, held, 13);
     for page in [Page::of(0), PAGE] {
         tests.call(|| format!("write, {what}"), write(held, page, &WriteDue::refused(13)));
@@ -123,7 +123,8 @@ fn change(random: &mut Random, held: &mut Held) {
     let formulas = held.formulas().min(QUERIES - 1);
     match random.below(8) {
         0 | 1 => {
-            let at = random.below(NODES + formulas + 1);
+            let at = random.below(NODES + formulas + 2);
+            let at = if at > NODES + formulas { EDITION } else { at };
             held.record[at] = near(random, held.record[at]);
         }
         2..=4 => {

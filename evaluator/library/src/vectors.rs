@@ -28,7 +28,7 @@ impl Lent {
         let mut record = Record::default();
         (record.atoms, record.clauses, record.constraints) = (from.atoms, from.clauses, from.constraints);
         (record.formulas, record.plain, record.negated) = (from.formulas, from.plain, from.negated);
-        record.nodes = from.nodes;
+        (record.nodes, record.edition) = (from.nodes, from.edition);
         let mut tables = Tables::new();
         tables.clauses.copy_from_slice(&held.clauses);
         tables.constraints.copy_from_slice(&held.constraints);
@@ -46,9 +46,9 @@ impl Lent {
 
     /// This record and these tables in the evaluator's form.
     fn held(&self) -> Held {
-        let Record { atoms, clauses, constraints, formulas, plain, negated, nodes, .. } = self.record;
+        let Record { atoms, clauses, constraints, formulas, plain, negated, nodes, edition, .. } = self.record;
         Held {
-            record: held::Record { atoms, clauses, constraints, formulas, nodes, plain, negated },
+            record: held::Record { atoms, clauses, constraints, formulas, nodes, plain, negated, edition },
             clauses: self.tables.clauses.to_vec(),
             constraints: self.tables.constraints.to_vec(),
             formulas: self.tables.formula.to_vec(),

@@ -3,7 +3,7 @@
 use crate::calls::layers_words;
 use crate::corpus::{all_folders, generated, refused_files, stored, Input};
 use crate::due::{self, Asking, Layering, Settling};
-use crate::held::{masks, padded, Held, NODES, QUERIES, RECORD_WORDS};
+use crate::held::{masks, padded, Held, EDITION, NODES, QUERIES, RECORD_WORDS};
 use crate::tests::{differing, Complaints, Tests};
 use causes::lent::{self, Record, Tables};
 use causes::Refusal;
@@ -36,7 +36,8 @@ pub fn record(case: &Case, held: &Held) -> Record {
     record.formulas = case.queries.len() as u64;
     record.plain = plain;
     record.negated = negated;
-    record.nodes.copy_from_slice(&held.record[NODES..]);
+    record.nodes.copy_from_slice(&held.record[NODES..EDITION]);
+    record.edition = case.edition.number();
     record
 }
 

@@ -5,6 +5,7 @@ use crate::held::{masks, nodes, Held, NODES};
 use crate::tests::Tests;
 use crate::write_call::{write, Page, WriteDue, PAGE};
 use evaluator::case::{Body, Case, Clause};
+use evaluator::cause::Edition;
 use evaluator::constraint::{Constraint, Kind};
 use evaluator::file;
 use evaluator::formula::{Connective, Formula, Literal};
@@ -128,6 +129,7 @@ fn bodies(tests: &mut Tests) {
             observations: both(one, other),
             queries: vec![Formula::two(Connective::Same, Formula::Atom(one), Formula::Atom(other))],
             prices: vec![0; 64],
+            edition: Edition::First,
         };
         let (low, high) = (one.min(other), one.max(other));
         let rest = format!(

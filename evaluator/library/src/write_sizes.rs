@@ -50,9 +50,9 @@ fn tables(tests: &mut Tests) {
     }
 }
 
-/// Records of 0 to 21 words, where nothing is touched, and of more than 22.
+/// Records of 0 to 22 words, where nothing is touched, and of more than 23.
 fn records(tests: &mut Tests) {
-    tests.family("write: records of 0 to 21 words");
+    tests.family("write: records of 0 to 22 words");
     for base in (0..20).map(lawful) {
         for length in 0..RECORD_WORDS {
             for held in [base.clone(), resized(&base, "names", NAMES_BYTES - 1)] {
@@ -61,7 +61,7 @@ fn records(tests: &mut Tests) {
             }
         }
     }
-    tests.family("write: records of more than 22 words");
+    tests.family("write: records of more than 23 words");
     for base in (0..20).map(lawful) {
         let due = due(&base, PAGE);
         for length in RECORD_WORDS + 1..RECORD_WORDS + 14 {

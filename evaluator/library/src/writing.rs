@@ -17,7 +17,7 @@ use std::path::Path;
 const SEEDS: u64 = 1_000;
 
 /// The text of `EACH`.
-const EACH_TEXT: &str = "(atom low)
+pub const EACH_TEXT: &str = "(atom low)
 (atom shut)
 (atom ab)
 (atom fan)
@@ -35,7 +35,7 @@ const EACH_TEXT: &str = "(atom low)
 ";
 
 /// The text of M4.
-const M4_TEXT: &str = "(atom low)
+pub const M4_TEXT: &str = "(atom low)
 (atom shut)
 (atom ab1)
 (atom stopped)
@@ -96,7 +96,7 @@ fn text(record: &Record, tables: &Tables) -> Result<Vec<u8>, Refusal> {
 
 /// The complaints on the way back of `bytes`, none given if it is refused or has no text: the text is read as the same
 /// record and tables, and written again as the same bytes.
-fn way_back(bytes: &[u8]) -> Option<Complaints> {
+pub fn way_back(bytes: &[u8]) -> Option<Complaints> {
     let (mut tables, mut again) = (Tables::new(), Tables::new());
     let record = lent::read(bytes, &mut tables).ok()?;
     let first = text(&record, &tables).ok()?;

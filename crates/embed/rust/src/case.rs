@@ -26,7 +26,7 @@ pub struct Case {
 }
 
 impl Case {
-    /// Reads a case file. Refuses with 2 to 12, 16, 17 and 20.
+    /// Reads a case file. Refuses with 2 to 12, 16, 17, 20 and 21.
     pub fn read(file: &[u8]) -> Result<Case, Refusal> {
         let mut tables = Box::new(Tables::new());
         let record = lent::read(file, &mut tables)?;
@@ -65,16 +65,44 @@ impl Case {
         (atom < self.record.atoms as usize).then(|| self.tables.prices[atom])
     }
 
-    /// The causes, that is the atoms that head no clause, in atom order.
-    pub fn causes(&self) -> Vec<usize> {
-        let clauses = self.tables.clauses.chunks_exact(3).take(self.record.clauses as usize);
-        let heads = clauses.fold(0u64, |heads, clause| heads | 1 << (clause[0] % 64));
-        (0..self.record.atoms as usize).filter(|atom| heads >> atom & 1 == 0).collect()
+    /// The edition, 1 or 2.
+    pub fn edition(&self) -> u64 {
+        self.record.edition
     }
 
-    /// The number of settings, three to the power of the number of causes.
+    /// How many choices a setting has for the atom `atom`: 3 if it heads no clause, 2 if it heads assumptions alone and
+    /// the edition is 2, and 1 if it is no cause.
+    ///
+    /// ```
+    /// let case = causes::Case::read(b"(edition 2)\n(if low shut (not ab))\n(false ab)\n(query low)\n")?;
+    /// assert_eq!([case.choices(0), case.choices(1), case.choices(2)], [1, 3, 2]);
+    /// assert_eq!((case.causes(), case.settings()), (vec![1, 2], 6));
+    /// # Ok::<(), causes::Refusal>(())
+    /// ```
+    pub fn choices(&self, atom: usize) -> u64 {
+        let clauses = self.tables.clauses.chunks_exact(3).take(self.record.clauses as usize);
+        let kinds: Vec<u64> = clauses.filter(|c| c[0] % 64 == atom as u64).map(|c| c[0] / 64).collect();
+        match kinds.as_slice() {
+            [] if atom < self.record.atoms as usize => 3,
+            [_, ..] if self.record.edition == 2 && kinds.iter().all(|kind| *kind == 1) => 2,
+            _ => 1,
+        }
+    }
+
+    /// The causes, that is the atoms with more than one choice, in atom order.
+    pub fn causes(&self) -> Vec<usize> {
+        self.bases().into_iter().map(|(atom, _)| atom).collect()
+    }
+
+    /// The number of settings, the product of the choices of the causes.
     pub fn settings(&self) -> u64 {
-        3u64.pow(self.causes().len() as u32)
+        self.bases().into_iter().map(|(_, choices)| choices).product()
+    }
+
+    /// The causes in atom order, each with its choices: a setting is a number in this mixed base, lowest digit first.
+    fn bases(&self) -> Vec<(usize, u64)> {
+        let choices = (0..self.record.atoms as usize).map(|atom| (atom, self.choices(atom)));
+        choices.filter(|(_, choices)| *choices > 1).collect()
     }
 
     /// Settles the setting `setting`. Refuses with 14 one that the case doesn't have.
@@ -96,15 +124,15 @@ impl Case {
         let mut work = vec![0; self.settings() as usize];
         let answer = lent::question(&self.record, &self.tables, &mut list, &mut work)
             .expect("a case that was read is sound, and the work area has a byte for each setting");
-        let causes = self.causes();
+        let bases = self.bases();
         let listed = list[..answer.listed].iter();
         Answer {
             verdicts: answer.verdicts().to_vec(),
             rounds: answer.rounds,
             decided: answer.decided,
-            explanations: listed.map(|setting| self.named(&causes, u64::from(*setting))).collect(),
+            explanations: listed.map(|setting| self.named(&bases, u64::from(*setting))).collect(),
             cost: answer.cost,
-            cheapest: (answer.minimal > 0).then(|| self.named(&causes, answer.cheapest)),
+            cheapest: (answer.minimal > 0).then(|| self.named(&bases, answer.cheapest)),
         }
     }
 
@@ -134,9 +162,10 @@ impl Case {
         }
     }
 
-    /// The case written back: a file that reads as the same case, a line `(atom N)` for each atom in front. No body is
-    /// too long to be read again, for a case that was read has at most 11 literals in each. Refuses with 18 a case with
-    /// a line that would be over 200 bytes, or with a text over 32,768.
+    /// The case written back: a file that reads as the same case, with a line `(atom N)` for each atom in front, and in
+    /// edition 2 `(edition 2)` behind these. No body is too long to be read again, for a case that was read has at
+    /// most 11 literals in each. Refuses with 18 a case with a line that would be over 200 bytes, or with a text over
+    /// 32,768.
     ///
     /// ```
     /// let case = causes::Case::read(b"(if low (not ab) shut)\n(query shut)\n")?;
@@ -153,21 +182,20 @@ impl Case {
 
     /// What the setting `setting` adds, by name. Refuses with 14 one that the case doesn't have.
     pub fn explanation(&self, setting: u64) -> Result<Explanation<'_>, Refusal> {
-        let causes = self.causes();
-        if setting < 3u64.pow(causes.len() as u32) {
-            Ok(self.named(&causes, setting))
+        if setting < self.settings() {
+            Ok(self.named(&self.bases(), setting))
         } else {
             Err(Refusal::NoSetting)
         }
     }
 
-    /// What `setting` adds for `causes`: the digits to base three, lowest first.
-    fn named(&self, causes: &[usize], setting: u64) -> Explanation<'_> {
+    /// What `setting` adds for the causes with their `bases`.
+    fn named(&self, bases: &[(usize, u64)], setting: u64) -> Explanation<'_> {
         let mut rest = setting;
         let mut added = Vec::new();
-        for atom in causes {
-            let digit = rest % 3;
-            rest /= 3;
+        for (atom, choices) in bases {
+            let digit = rest % choices;
+            rest /= choices;
             if digit > 0 {
                 added
                     .push(Cause { name: self.name(*atom).expect("a cause is an atom of the case"), value: digit == 1 });

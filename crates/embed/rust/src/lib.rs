@@ -40,6 +40,17 @@
 //! # Ok::<(), causes::Refusal>(())
 //! ```
 //!
+//! With a line `(edition 2)` an assumption may be overridden: an atom whose clauses are all assumptions is a cause too,
+//! with two choices, nothing or a fact.
+//!
+//! ```
+//! let file = b"(if low shut (not ab))\n(false ab)\n(seen (not low))\n(query shut)\n(edition 2)\n";
+//! let case = causes::Case::read(file)?;
+//! let lines: Vec<String> = case.question().explanations.iter().map(|e| e.to_string()).collect();
+//! assert_eq!(lines, ["(cause (false shut))", "(cause (true ab))"]);
+//! # Ok::<(), causes::Refusal>(())
+//! ```
+//!
 //! A file that is not lawful is refused, with a number, the line and what the number means:
 //!
 //! ```

@@ -8,7 +8,7 @@
 
 #[allow(clippy::too_many_arguments)]
 extern "C" {
-    /// Reads a case file into five tables; answer: line, then the 22 words of the case record.
+    /// Reads a case file into five tables; answer: line, then the 23 words of the case record.
     pub fn causes_read(
         file: *const u8,
         file_bytes: usize,

@@ -1,6 +1,6 @@
 //! Refusals.
 //!
-//! From: document 01, What each operation refuses; document 02, `[7]` to `[9]`; docs/MANUAL.md, Refusals.
+//! From: document 01, What each operation refuses; document 02, `[7]` to `[10]`; docs/MANUAL.md, Refusals.
 
 use std::error::Error;
 use std::fmt;
@@ -52,6 +52,9 @@ pub enum Refusal {
     ManyLiterals {
         line: u64,
     },
+    SecondEdition {
+        line: u64,
+    },
     /// A number that this module doesn't know: the archive is a later one.
     Other {
         number: u32,
@@ -83,6 +86,7 @@ impl Refusal {
             18 => Refusal::LongText,
             19 => Refusal::ShortOutput,
             20 => Refusal::ManyLiterals { line },
+            21 => Refusal::SecondEdition { line },
             _ => Refusal::Other { number, line },
         }
     }
@@ -103,7 +107,7 @@ impl Refusal {
             Refusal::ManyClauses { line } => (9, Some(line), "the line is the 257th clause, or the 33rd constraint"),
             Refusal::ManyQueries { line } => (10, Some(line), "the line is a 17th query"),
             Refusal::NoQuery => (11, None, "the file has no query"),
-            Refusal::ManyCauses => (12, None, "the file has more than 10 causes"),
+            Refusal::ManyCauses => (12, None, "the file has more than 59,049 settings"),
             Refusal::Unsound => (13, None, "the case handed in is not sound"),
             Refusal::NoSetting => (14, None, "the setting's number is not below the number of settings"),
             Refusal::ShortWork => (15, None, "the work area is shorter than one byte for each setting"),
@@ -114,6 +118,7 @@ impl Refusal {
             Refusal::LongText => (18, None, "a line of the text would be over 200 bytes, or the text over 32,768"),
             Refusal::ShortOutput => (19, None, "the lent output is too short for the text"),
             Refusal::ManyLiterals { line } => (20, Some(line), "the line's body has a 12th literal"),
+            Refusal::SecondEdition { line } => (21, Some(line), "the line is a second edition line"),
             Refusal::Other { number, line } => (number, (line > 0).then_some(line), "the library's header says why"),
         }
     }

@@ -1,6 +1,6 @@
 //! The sizes of lent memory, in elements.
 //!
-//! From: document 01, Case tables and sound cases; What each operation refuses; document 02, `[1]`, `[5]` to `[9]`.
+//! From: document 01, Case tables and sound cases; What each operation refuses; document 02, `[1]`, `[5]` to `[10]`.
 
 /// Words of the clause table, three a clause.
 pub const CLAUSE_WORDS: usize = 768;
@@ -27,7 +27,7 @@ pub const PRICES: usize = 64;
 pub const ATOMS: usize = NAMES_BYTES / NAME_BYTES;
 
 /// Words of a case record.
-pub const RECORD_WORDS: usize = 6 + QUERIES;
+pub const RECORD_WORDS: usize = 7 + QUERIES;
 
 /// The most queries of a file, and formulas of a case.
 pub const QUERIES: usize = 16;
@@ -46,4 +46,4 @@ pub const SETTINGS: usize = 59_049;
 pub const MINIMAL: usize = 15_360;
 
 /// The longest report: an output of so many bytes is long enough for each.
-pub const REPORT_BYTES: usize = 264_640;
+pub const REPORT_BYTES: usize = 392_640;

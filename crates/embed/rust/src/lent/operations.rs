@@ -90,8 +90,8 @@ fn accepted(number: u32, line: u64) -> Result<(), Refusal> {
     }
 }
 
-/// Reads a case file into `tables`. Refuses with 2 to 12, 16, 17 and 20; 2 leaves the tables as they were, the others
-/// zero them.
+/// Reads a case file into `tables`. Refuses with 2 to 12, 16, 17, 20 and 21; 2 leaves the tables as they were, the
+/// others zero them.
 pub fn read(file: &[u8], tables: &mut Tables) -> Result<Record, Refusal> {
     let mut words = [0; 1 + RECORD_WORDS];
     // SAFETY: each pointer comes with the length of its slice, and the tables are borrowed for writing.
@@ -117,7 +117,8 @@ pub fn read(file: &[u8], tables: &mut Tables) -> Result<Record, Refusal> {
     accepted(number, line).map(|()| Record::from_words(record))
 }
 
-/// Settles the setting `setting` of a case. Refuses with 13 and 14.
+/// Settles the setting `setting` of a case, a number in mixed base: a digit for each cause in atom order, lowest first,
+/// below 3 or, for a cause of assumptions alone, below 2. Refuses with 13 and 14.
 pub fn settle(record: &Record, tables: &Tables, setting: u64) -> Result<Settled, Refusal> {
     let record = record.words();
     let mut words = [0; 4];
@@ -142,9 +143,9 @@ pub fn settle(record: &Record, tables: &Tables, setting: u64) -> Result<Settled,
 }
 
 /// Answers the question of a case. `list` gets the minimal settings in rising order, as many as it has slots for;
-/// byte s of `work` becomes 0 (setting s doesn't explain), 1 (explains, not minimal) or 2 (minimal). A setting costs the
-/// sum of the prices of the causes for which it adds a fact or an assumption. Refuses with 13 and 15, and then touches
-/// neither.
+/// byte s of `work` becomes 0 (setting s doesn't explain), 1 (explains, not minimal) or 2 (minimal: no proper subset
+/// explains). A setting costs the sum of the prices of the causes for which it adds a fact or an assumption. Refuses
+/// with 13 and 15, and then touches neither.
 pub fn question(record: &Record, tables: &Tables, list: &mut [u16], work: &mut [u8]) -> Result<Answer, Refusal> {
     let formulas = record.formulas as usize;
     let record = record.words();

@@ -1,6 +1,6 @@
 //! The case record and the lent tables.
 //!
-//! From: document 01, Case tables and sound cases; document 02, [1], [5] and [7].
+//! From: document 01, Case tables and sound cases; document 02, [1], [5], [7] and [10].
 
 use crate::sizes::{CLAUSE_WORDS, CONSTRAINT_WORDS, FORMULA_BYTES, NAMES_BYTES, NAME_BYTES};
 use crate::sizes::{PRICES, QUERIES, RECORD_WORDS};
@@ -63,8 +63,8 @@ impl Default for Tables {
     }
 }
 
-/// A case record: how many entries of the tables are in use, and the observed atoms, bit i for atom i. The node counts
-/// of parts past the formulas are zero when read, and not looked at when lent.
+/// A case record: how many entries of the tables are in use, the observed atoms, bit i for atom i, and the edition. The
+/// node counts of parts past the formulas are zero when read, and not looked at when lent.
 #[derive(Clone, Copy, Debug, Default, PartialEq, Eq)]
 #[non_exhaustive]
 pub struct Record {
@@ -82,21 +82,23 @@ pub struct Record {
     pub negated: u64,
     /// The nodes of each formula.
     pub nodes: [u64; QUERIES],
+    /// The edition, 1 or 2; any other is unsound. In edition 2 atoms whose clauses are all assumptions are causes too.
+    pub edition: u64,
 }
 
 impl Record {
     /// The record's words.
     pub fn words(&self) -> [u64; RECORD_WORDS] {
         let mut words = [0; RECORD_WORDS];
-        let (counts, nodes) = words.split_at_mut(RECORD_WORDS - QUERIES);
-        counts.copy_from_slice(&[self.atoms, self.clauses, self.constraints, self.formulas, self.plain, self.negated]);
-        nodes.copy_from_slice(&self.nodes);
+        let [atoms, clauses, constraints, formulas, plain, negated, nodes @ .., edition] = &mut words;
+        (*atoms, *clauses, *constraints, *formulas) = (self.atoms, self.clauses, self.constraints, self.formulas);
+        (*plain, *negated, *nodes, *edition) = (self.plain, self.negated, self.nodes, self.edition);
         words
     }
 
     /// The record in these words.
     pub fn from_words(words: [u64; RECORD_WORDS]) -> Record {
-        let [atoms, clauses, constraints, formulas, plain, negated, nodes @ ..] = words;
-        Record { atoms, clauses, constraints, formulas, plain, negated, nodes }
+        let [atoms, clauses, constraints, formulas, plain, negated, nodes @ .., edition] = words;
+        Record { atoms, clauses, constraints, formulas, plain, negated, nodes, edition }
     }
 }
