@@ -7,7 +7,7 @@
 //! | input | the bytes of a file or of standard input |
 //! | refusal | the words on a refused file |
 //! | mend | how to mend each refusal |
-//! | names | the causes of a file that has too many |
+//! | names | the causes of a file that has too many settings |
 
 mod arguments;
 mod input;

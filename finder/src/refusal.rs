@@ -16,9 +16,18 @@ pub fn words(name: &str, file: &[u8], refusal: Refusal) -> String {
     }
     if refusal == Refusal::ManyCauses {
         let causes = names::causes(file);
-        text += &format!("  {} causes: {}\n", causes.len(), causes.join(" "));
+        text += &listed("causes", &causes.three);
+        text += &listed("causes of two choices", &causes.two);
     }
     text + &format!("  mend: {}\n", mend(refusal))
+}
+
+/// The line that lists `names`, with how many and `what` they are; nothing where there are none.
+fn listed(what: &str, names: &[&str]) -> String {
+    match names {
+        [] => String::new(),
+        _ => format!("  {} {what}: {}\n", names.len(), names.join(" ")),
+    }
 }
 
 /// The line `line` of `file`, counted from 1, with bytes that don't show written out, cut where it is long.
