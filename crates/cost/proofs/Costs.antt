@@ -91,7 +91,8 @@ module _ {pr x y : List ℕ} {j cost left : ℕ} (p : Paying pr x y j cost left)
         low true h = omega arith
         low false h = omega arith
 
-  pub paying-end : left ≡ 0 → j < 64 → (causes : Causes) (s : ℕ) → Filled causes s x y → cost ≡ costUnder pr causes (s + j)
+  pub paying-end : left ≡ 0 → j < 64 → (causes : Causes) (s : ℕ) → Filled causes s x y
+      → cost ≡ costUnder pr causes (s + j)
   unfolding costOf
   paying-end e h causes s f =
       let none = rw e at (p .total-is) in

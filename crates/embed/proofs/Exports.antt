@@ -1,6 +1,6 @@
 -- Laws of what an operation answers to a case record in words, and of its answer put to words. Assumes nothing.
 use mathlib.Core.Path.{_≡_, refl}
-use mathlib.Core.List.{List, [], _∷_}
+use mathlib.Core.List.{List, [], _∷_, _++_}
 use Prim.Native.Nat.{ℕ, _-_, _≤_}
 use borrow.Rule.Slice.PartMut.{midOf, putMid}
 use lib.ListN.{length}
@@ -29,9 +29,14 @@ frontWords a =
 
 -- the words of an answer, put in two parts
 pub found-put : (a : found.Answer) (old : List ℕ) {mid back : List ℕ} → mid ≡ over (frontWords a) old
-    → back ≡ over (a .found .nodes) (midOf 7 (length mid - 7) mid)
+    → back ≡ over (a .found .nodes ++ (a .found .edition ∷ [])) (midOf 7 (length mid - 7) mid)
     → putMid 7 (length mid - 7) mid back ≡ over (a .line ∷ caseWords (a .found)) old
-found-put a old = over-behind (frontWords a) (a .found .nodes) old refl
+found-put a old = over-behind (frontWords a) _ old refl
+
+pub nodes-put : (c : Case) (old : List ℕ) {mid back : List ℕ} → 16 ≡ length (c .nodes) → mid ≡ over (c .nodes) old
+    → back ≡ over (c .edition ∷ []) (midOf 16 (length mid - 16) mid)
+    → putMid 16 (length mid - 16) mid back ≡ over (c .nodes ++ (c .edition ∷ [])) old
+nodes-put c old = over-behind (c .nodes) _ old
 
 pub asked-put : (a : asked.Answer) (old : List ℕ) {mid back : List ℕ} → 16 ≡ length (a .verdicts)
     → mid ≡ over (a .verdicts) old
@@ -46,7 +51,7 @@ pub layers-put : (a : layered.Answer) (old : List ℕ) {mid back : List ℕ}
 layers-put a old = over-behind (digit (a .layered) ∷ a .count ∷ []) (a .entries) old refl
 
 -- k is the case record in the words c
-module _ {c : List ℕ} {k : Case} (e : k ≡ caseIn c) (l : 22 ≤ length c) {words wordsAfter : List ℕ} where
+module _ {c : List ℕ} {k : Case} (e : k ≡ caseIn c) (l : 23 ≤ length c) {words wordsAfter : List ℕ} where
   pub settle-done : {cl co fo : List ℕ} {s : ℕ} {a : settled.Answer} → 4 ≤ length words → SettledOne k cl co fo s a
       → wordsAfter ≡ over (settledWords a) words
       → SettleOut c cl co fo s words (a .refusal) wordsAfter

@@ -2,7 +2,7 @@
 // and writes the rest of its answer to lent words. A lent record or answer with too few words is refused with 1, and
 // nothing is touched.
 ghost use mathlib.Core.Path.{_≡_};
-ghost use mathlib.Core.List.{[], _∷_};
+ghost use mathlib.Core.List.{[], _∷_, _++_};
 ghost use Prim.Native.Nat.{_≤_};
 ghost use lib.ListN.{length};
 ghost use Rattle.words.specs.Bits.{digit};
@@ -30,9 +30,9 @@ fn counts_in(words: &[u64]) -> [usize; 16]
     counts
 }
 
-// The case record in 22 words.
+// The case record in 23 words.
 fn case_in(fields: &[u64]) -> Case
-    requires { ⌜ 22 ≤ length (now fields) ⌝ }
+    requires { ⌜ 23 ≤ length (now fields) ⌝ }
     ensures { λ r. ⌜ r ≡ caseIn (now (fields .entry)) ⌝ }
 {
     let nodes = counts_in(&fields[6..22]);
@@ -44,6 +44,7 @@ fn case_in(fields: &[u64]) -> Case
         plain: fields[4],
         negated: fields[5],
         nodes,
+        edition: fields[22] as usize,
     }
 }
 
@@ -71,9 +72,20 @@ fn put_counts(answer: &mut [u64], counts: &[usize])
     }
 }
 
-// Puts what reading answers to words: the line of a refusal, then the 22 words of the case record.
+// Puts the last words of a case record: the node counts of its formulas, and its edition.
+fn put_nodes(answer: &mut [u64], c: Case)
+    requires { ⌜ 17 ≤ length (now answer) ⌝ }
+    ensures { λ _. ⌜ now (answer .exit) ≡ over (c .nodes ++ (c .edition ∷ [])) (now (answer .entry)) ⌝ }
+{
+    let nodes = c.nodes;
+    let edition = [c.edition as u64];
+    put_counts(answer, &nodes);
+    put_words(&mut answer[16..], &edition);
+}
+
+// Puts what reading answers to words: the line of a refusal, then the 23 words of the case record.
 fn put_found(answer: &mut [u64], a: reader::read::Answer)
-    requires { ⌜ 23 ≤ length (now answer) ⌝ }
+    requires { ⌜ 24 ≤ length (now answer) ⌝ }
     ensures { λ _. ⌜ now (answer .exit) ≡ over (a .line ∷ caseWords (a .found)) (now (answer .entry)) ⌝ }
 {
     let c = a.found;
@@ -86,9 +98,8 @@ fn put_found(answer: &mut [u64], a: reader::read::Answer)
         c.plain,
         c.negated,
     ];
-    let nodes = c.nodes;
     put_words(answer, &words);
-    put_counts(&mut answer[7..], &nodes);
+    put_nodes(&mut answer[7..], c);
 }
 
 // Puts what settling answers to words: the true atoms, the false atoms, the rounds, the number of decided atoms.
@@ -139,7 +150,7 @@ fn put_length(answer: &mut [u64], a: output::Answer)
     put_words(answer, &words);
 }
 
-// Reads a case file into five lent tables. Answer: the line of a refusal, then the 22 words of the case record.
+// Reads a case file into five lent tables. Answer: the line of a refusal, then the 23 words of the case record.
 #[no_mangle]
 pub extern "C" fn causes_read(
     file: &[u8],
@@ -157,7 +168,7 @@ pub extern "C" fn causes_read(
         (now (prices .exit)))
         (now (answer .entry)) r (now (answer .exit)) ⌝ }
 {
-    if answer.len() < 23 {
+    if answer.len() < 24 {
         return 1;
     }
     let a = reader::read::read(file, clauses, constraints, formula, names, prices);
@@ -179,7 +190,7 @@ pub extern "C" fn causes_settle(
         (now (formula .entry))
         setting (now (answer .entry)) r (now (answer .exit)) ⌝ }
 {
-    if fields.len() < 22 {
+    if fields.len() < 23 {
         return 1;
     }
     if answer.len() < 4 {
@@ -210,7 +221,7 @@ pub extern "C" fn causes_question(
         (now (list .entry)) (now (work .entry)) (now (answer .entry)) r (now (list .exit)) (now (work .exit))
         (now (answer .exit)) ⌝ }
 {
-    if fields.len() < 22 {
+    if fields.len() < 23 {
         return 1;
     }
     if answer.len() < 22 {
@@ -236,7 +247,7 @@ pub extern "C" fn causes_layers(
         (now (formula .entry))
         (now (answer .entry)) r (now (answer .exit)) ⌝ }
 {
-    if fields.len() < 22 {
+    if fields.len() < 23 {
         return 1;
     }
     if answer.len() < 66 {
@@ -265,7 +276,7 @@ pub extern "C" fn causes_write(
         (now (prices .entry)))
         (now (out .entry)) (now (answer .entry)) r (now (out .exit)) (now (answer .exit)) ⌝ }
 {
-    if fields.len() < 22 {
+    if fields.len() < 23 {
         return 1;
     }
     if answer.len() < LENGTH_WORDS {

@@ -209,7 +209,8 @@ module _ (w : Causes) (s d y : ℕ) (table : List ℕ) (g : Weights w table)
       let e = eqb-true (digitIn (w .twofold) (atomsIn (w .all)) s a) d (sym (bits a (b .small)) ∙ b .there) in
       omega (arith, digit-counts (w .twofold) (atomsIn (w .all)) s a, ap₂ _*_ e (sym (weight-is a b)))
 
-  weight-any : (q : ℕ → Bool) → any 64 (λ a. has y a && q (s - d * getD table a 0)) ≡ someDrop q (w .twofold) (atomsIn (w .all)) s d
+  weight-any : (q : ℕ → Bool) → any 64 (λ a. has y a && q (s - d * getD table a 0))
+      ≡ someDrop q (w .twofold) (atomsIn (w .all)) s d
   weight-any q =
       any-ext 64 _ _
       (λ a l. and-ext (has y a)
@@ -228,7 +229,8 @@ module _ (w : Causes) (s : ℕ) (x : Additions) (f : Decodes w s x) where
   facts-bits : (a : ℕ) → a < 64 → has (x .facts) a ≡ eqb (digitIn (w .twofold) (atomsIn (w .all)) s a) 1
   unfolding additionsOf
   facts-bits a l =
-      ap (λ (y : Additions). has (y .facts) a) (f .adds) ∙ has-word 64 (λ b. eqb (digitIn (w .twofold) (atomsIn (w .all)) s b) 1) a l
+      ap (λ (y : Additions). has (y .facts) a) (f .adds)
+      ∙ has-word 64 (λ b. eqb (digitIn (w .twofold) (atomsIn (w .all)) s b) 1) a l
 
   assumptions-bits : (a : ℕ) → a < 64 → has (x .assumptions) a ≡ eqb (digitIn (w .twofold) (atomsIn (w .all)) s a) 2
   unfolding additionsOf

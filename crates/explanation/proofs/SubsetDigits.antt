@@ -39,23 +39,27 @@ subset-digit-of tw (a ∷ l) t s b h =
     own false p q = q
 
 module _ (w : Causes) (t s : ℕ) (h : subsetOf (choicesOf w) t s ≡ true) (a : ℕ) (l : a < 64) where
+  -- the digit of an atom in setting r
+  abbrev digitAt : ℕ → ℕ → ℕ
+  digitAt r b = digitIn (w .twofold) (atomsIn (w .all)) r b
+
   -- the atoms that have digit d in setting r
   abbrev digitWord : ℕ → ℕ → ℕ
-  digitWord d r = word 64 (λ b. eqb (digitIn (w .twofold) (atomsIn (w .all)) r b) d)
+  digitWord d r = word 64 (λ b. eqb (digitAt r b) d)
 
   -- a digit d other than 0
   same-digit : (d : ℕ) → eqb 0 d ≡ false
-      → Gives (eqb (digitIn (w .twofold) (atomsIn (w .all)) t a) d) (eqb (digitIn (w .twofold) (atomsIn (w .all)) s a) d)
+      → Gives (eqb (digitAt t a) d) (eqb (digitAt s a) d)
   same-digit d z e =
       ⊎-elim
-      (λ (q : digitIn (w .twofold) (atomsIn (w .all)) t a ≡ 0). absurd (false≢true (sym z ∙ ap (λ (n : ℕ). eqb n d) (sym q) ∙ e)))
-      (λ (q : digitIn (w .twofold) (atomsIn (w .all)) t a ≡ digitIn (w .twofold) (atomsIn (w .all)) s a). ap (λ (n : ℕ). eqb n d) (sym q) ∙ e)
+      (λ (q : digitAt t a ≡ 0). absurd (false≢true (sym z ∙ ap (λ (n : ℕ). eqb n d) (sym q) ∙ e)))
+      (λ (q : digitAt t a ≡ digitAt s a). ap (λ (n : ℕ). eqb n d) (sym q) ∙ e)
       (subset-digit-of (w .twofold) (atomsIn (w .all)) t s a h)
 
   same-word : (d : ℕ) → eqb 0 d ≡ false → Gives (has (digitWord d t) a) (has (digitWord d s) a)
   same-word d z e =
-      has-word 64 (λ b. eqb (digitIn (w .twofold) (atomsIn (w .all)) s b) d) a l
-      ∙ same-digit d z (sym (has-word 64 (λ b. eqb (digitIn (w .twofold) (atomsIn (w .all)) t b) d) a l) ∙ e)
+      has-word 64 (λ b. eqb (digitAt s b) d) a l
+      ∙ same-digit d z (sym (has-word 64 (λ b. eqb (digitAt t b) d) a l) ∙ e)
 
   pub subset-facts : Gives (has (additionsOf w t .facts) a) (has (additionsOf w s .facts) a)
   unfolding additionsOf

@@ -3,7 +3,8 @@
 --
 --   covers p cs s         s or a proper subset of s passes the test p
 --   someDropped q cs s    some setting that lacks one digit of s passes the test q
---   weightIn tw l a       what the digit of the cause a counts, where l are the causes in rising order, tw of them twofold
+--   weightIn tw l a       what the digit of the cause a counts, where l are the causes in rising order and those of
+--                         tw have two choices
 --   Weights w t           the table t has the weight of each cause of w
 --   Decodes w s x         s is a setting of the causes w, and adds x
 use mathlib.Core.Path.{_≡_}

@@ -26,6 +26,7 @@ caseOf r = record {
   plain = 0;
   negated = 0;
   nodes = 1 ∷ [];
+  edition = 1;
 }
 
 abbrev numbers : Row → List ℕ

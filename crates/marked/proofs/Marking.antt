@@ -46,7 +46,8 @@ low = m1 ∷ m1Overridden ∷ bothOrNeither ∷ m2 ∷ m3 ∷ []
 
 low-rows : results low ≡ expected low
 unfolding ones onesIn has word valueOf literalsBelow nodes withNode spelled formulaOf clauseAt clausesOf addedBelow
-    headsOf causesAmong assumedOnly causesIn causesOf atomsFrom choicesFor product digits digitOf settingsOf additionsOf fewSettings bodiesOf
+    headsOf causesAmong assumedOnly causesIn causesOf atomsFrom choicesFor product digits digitOf settingsOf additionsOf
+    fewSettings bodiesOf
     someTrue allFalse nextValue step rounds roundCount settled observedTrue allMet explainsUnder setExplains subsetOf
     properOf someProper minimal minimalsBelow sum trueInAll falseInAll verdictOf verdictsOf listOf
     nodesOf isWordByte isAllowed allOf sameBytes linesFrom isComment tokensFrom padded namesFrom someLong placeOf
@@ -61,7 +62,8 @@ middle = m4 ∷ m4Priced ∷ m5 ∷ []
 
 middle-rows : results middle ≡ expected middle
 unfolding ones onesIn has word valueOf literalsBelow nodes withNode spelled formulaOf clauseAt clausesOf addedBelow
-    headsOf causesAmong assumedOnly causesIn causesOf atomsFrom choicesFor product digits digitOf settingsOf additionsOf fewSettings bodiesOf
+    headsOf causesAmong assumedOnly causesIn causesOf atomsFrom choicesFor product digits digitOf settingsOf additionsOf
+    fewSettings bodiesOf
     someTrue allFalse nextValue step rounds roundCount settled observedTrue allMet explainsUnder setExplains subsetOf
     properOf someProper minimal minimalsBelow sum trueInAll falseInAll verdictOf verdictsOf listOf
     nodesOf isWordByte isAllowed allOf sameBytes linesFrom isComment tokensFrom padded namesFrom someLong placeOf
@@ -76,7 +78,8 @@ high = m6 ∷ m6Avoid ∷ m7 ∷ m8 ∷ m9 ∷ m10 ∷ []
 
 high-rows : results high ≡ expected high
 unfolding ones onesIn has word valueOf literalsBelow nodes withNode spelled formulaOf clauseAt clausesOf addedBelow
-    headsOf causesAmong assumedOnly causesIn causesOf atomsFrom choicesFor product digits digitOf settingsOf additionsOf fewSettings bodiesOf
+    headsOf causesAmong assumedOnly causesIn causesOf atomsFrom choicesFor product digits digitOf settingsOf additionsOf
+    fewSettings bodiesOf
     someTrue allFalse nextValue step rounds roundCount settled observedTrue allMet explainsUnder setExplains subsetOf
     properOf someProper minimal minimalsBelow sum trueInAll falseInAll verdictOf verdictsOf listOf
     nodesOf isWordByte isAllowed allOf sameBytes linesFrom isComment tokensFrom padded namesFrom someLong placeOf

@@ -1,6 +1,6 @@
 -- The ten marked files of document 01, M6 with `avoid`, M4 with prices, M1 and two assumed atoms with edition 2, from
--- their bytes to list, rounds, decided atoms, lowest cost and verdicts: claim 7 of the design, one table of rows and one
--- statement. Proved in proofs/Marking.antt by computation.
+-- their bytes to list, rounds, decided atoms, lowest cost and verdicts: claim 7 of the design, one table of rows and
+-- one statement. Proved in proofs/Marking.antt by computation.
 -- From: document 01, "Ten marked files"; document 02, [5] (M6), [6] (the decided total), [7] (the lowest cost) and [10]
 -- ("M1 with edition 2"; "With x and y assumed, rules o if x and y, o if neither, and o seen, only the empty set is
 -- minimal").

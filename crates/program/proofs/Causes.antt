@@ -1,16 +1,15 @@
 -- Laws of the causes of a case: the atoms that are no head, and in edition 2 the heads of assumptions alone. Assumes
 -- nothing.
 use mathlib.Core.Path.{_≡_, refl, sym, ap, ap₂, _∙_}
-use mathlib.Core.Bool.{Bool, true, false, not, _&&_, _||_, and-true, and-false}
+use mathlib.Core.Bool.{Bool, true, false, not, _&&_, _||_}
 use mathlib.Core.List.{List}
-use mathlib.Core.Logic.{⊎-elim}
 use Prim.Native.Nat.{ℕ, _+_, _-_, _^_, _≤_, _<_}
-use native.Mathlib.Nat.{lt-of-le-of-lt, lt-of-lt-of-le, lt-irrefl}
+use native.Mathlib.Nat.{lt-of-le-of-lt, lt-of-lt-of-le}
 use native.Mathlib.Omega.{arith}
 use lib.Bits.{bitAnd, bitOr, and-le-l, or-lt, or-zero-r}
 use lib.Dec.{eqb, ltb}
 use lib.Pow.{pow-mono, pow-pos}
-use borrow.Author.Tests.{le-ltb, eqb-true, eq-eqb, ne-eqb, eqb-false, not-true}
+use borrow.Author.Tests.{le-ltb, eqb-true, eq-eqb, ne-eqb, not-true}
 use Rattle.words.specs.Choice.{pick}
 use Rattle.words.specs.Bits.{has}
 use Rattle.words.proofs.Tests.{and-true-l, and-true-r}

@@ -5,7 +5,7 @@
 -- Assumes nothing.
 use mathlib.Core.Path.{_≡_, refl, sym, ap, _∙_}
 use mathlib.Core.Bool.{Bool, true, false}
-use Prim.Native.Nat.{ℕ, _+_, _*_, _≤_, _<_, min}
+use Prim.Native.Nat.{ℕ, _*_, _≤_, _<_, min}
 use native.Mathlib.Nat.{mul-one, one-mul, mul-assoc, le-mul-of-pos-right}
 use native.Mathlib.Omega.{arith}
 use lib.Dec.{leb}
@@ -23,10 +23,6 @@ pub record Multiplied (tw w p left : ℕ) : Type 0 where
 
 pub multiplied-start : (tw w : ℕ) → Multiplied tw w 1 w
 multiplied-start tw w = record { few = omega arith; product-is = one-mul (settingsOf (causesBy tw w)) }
-
-choice-few : (t : Bool) → pick t 2 3 ≤ 3
-choice-few true = omega arith
-choice-few false = omega arith
 
 -- one cause more fits a word
 pub multiplied-room : (tw a p r : ℕ) → p ≤ 59049 → r ≡ choiceOf tw a → p * r ≤ 177147

@@ -15,8 +15,8 @@ use Rattle.logic.specs.Nodes.{oneFormula}
 use Rattle.program.specs.Case.{clauseSize, constraintSize, formulaSize, partSize, tablesFull, nodesOf}
 use Rattle.program.specs.Program.{headsOf}
 use Rattle.program.specs.Cause.{firmlyHeaded, assumedOnly, causesIn}
-use Rattle.program.specs.Sound.{isEdition, limitsHold, within, bare, shaped, soundClause, soundClauses, soundConstraint}
-use Rattle.program.specs.Sound.{soundConstraints, fewSettings, soundFormula, soundFormulas}
+use Rattle.program.specs.Sound.{isEdition, limitsHold, within, bare, shaped, soundClause, soundClauses}
+use Rattle.program.specs.Sound.{soundConstraint, soundConstraints, fewSettings, soundFormula, soundFormulas}
 use Rattle.program.proofs.Soundness.{clauseTest, constraintTest, formula-fits}
 
 pub tables-full : (cl co fo : List ℕ) → clauseSize ≤ length cl → constraintSize ≤ length co → formulaSize ≤ length fo
@@ -77,7 +77,8 @@ module _ (cl dl : List ℕ) (m : ℕ) (e : (k : ℕ) → k < m → getD cl (3 * 
   unfolding assumedOnly
   assumed-ext =
       word-ext 64 _ _
-      (λ a _. ap₂ (λ (b d : Bool). b && not d) (any-ext m _ _ (λ k h. ap (λ (x : ℕ). eqb a (x % 64)) (e k h))) (firmly-ext a))
+      (λ a _. ap₂ (λ (b d : Bool). b && not d) (any-ext m _ _ (λ k h. ap (λ (x : ℕ). eqb a (x % 64)) (e k h)))
+      (firmly-ext a))
 
   pub few-settings-ext : (i n : ℕ) → fewSettings i n cl m ≡ fewSettings i n dl m
   unfolding fewSettings causesIn

@@ -39,7 +39,8 @@ abbrev digitWord : ℕ → ℕ → ℕ → ℕ → ℕ
 digitWord tw w s d = word 64 (hasDigit tw w s d)
 
 module _ (tw w a : ℕ) (h : LowestOf w a) (d : ℕ) (z : eqb 0 d ≡ false) where
-  word-lowest : (s : ℕ) → digitWord tw w s d ≡ withBit (eqb (s % choiceOf tw a) d) (digitWord tw (withoutBit w a) (s / choiceOf tw a) d) a
+  word-lowest : (s : ℕ) → digitWord tw w s d
+      ≡ withBit (eqb (s % choiceOf tw a) d) (digitWord tw (withoutBit w a) (s / choiceOf tw a) d) a
   word-lowest s =
       sym (is-word 64 (withBit t y a) (hasDigit tw w s d) (with-lt t 64 y a (word-lt 64 p) (h .bit .small))
       (λ b l. has-with t y a b ∙ ap (λ (u : Bool). u || t && eqb b a) (has-word 64 p b l)
@@ -60,7 +61,8 @@ module _ (tw w a : ℕ) (h : LowestOf w a) (d : ℕ) (z : eqb 0 d ≡ false) whe
   word-here s =
       has-word 64 (hasDigit tw w s d) a (h .bit .small)
       ∙ ap (λ (n : ℕ). eqb n d) (digit-lowest tw w a s a h
-      ∙ ap (λ (t : Bool). pick t (s % choiceOf tw a) (digitFrom tw (withoutBit w a) 0 64 (s / choiceOf tw a) a)) (eq-eqb a a refl))
+      ∙ ap (λ (t : Bool). pick t (s % choiceOf tw a) (digitFrom tw (withoutBit w a) 0 64 (s / choiceOf tw a) a))
+      (eq-eqb a a refl))
 
   word-later : (t : ℕ) → has (digitWord tw (withoutBit w a) t d) a ≡ false
   word-later t =
@@ -73,12 +75,14 @@ module _ (tw w a : ℕ) (h : LowestOf w a) (d : ℕ) (z : eqb 0 d ≡ false) whe
       ∙ without-with (eqb (s % choiceOf tw a) d) (digitWord tw (withoutBit w a) (s / choiceOf tw a) d) a
       (word-lt 64 (hasDigit tw (withoutBit w a) (s / choiceOf tw a) d)) (h .bit .small) (word-later (s / choiceOf tw a))
 
-  word-kept : (s : ℕ) → eqb (s % choiceOf tw a) d ≡ false → digitWord tw w s d ≡ digitWord tw (withoutBit w a) (s / choiceOf tw a) d
+  word-kept : (s : ℕ) → eqb (s % choiceOf tw a) d ≡ false
+      → digitWord tw w s d ≡ digitWord tw (withoutBit w a) (s / choiceOf tw a) d
   word-kept s e = word-lowest s ∙ ap (λ (t : Bool). withBit t (digitWord tw (withoutBit w a) (s / choiceOf tw a) d) a) e
 
 -- ---- what a setting adds, where a is the lowest cause
 additions-lowest : (tw w a s : ℕ) → LowestOf w a
-    → additionsOf (causesBy tw w) s ≡ withDigit (additionsOf (causesBy tw (withoutBit w a)) (s / choiceOf tw a)) a (s % choiceOf tw a)
+    → let c = choiceOf tw a in
+    additionsOf (causesBy tw w) s ≡ withDigit (additionsOf (causesBy tw (withoutBit w a)) (s / c)) a (s % c)
 unfolding additionsOf
 additions-lowest tw w a s h =
     let x = additionsOf (causesBy tw (withoutBit w a)) (s / choiceOf tw a) in
@@ -87,6 +91,10 @@ additions-lowest tw w a s h =
     λ i. record { facts = p i; assumptions = q i }
 
 module _ (tw w a s : ℕ) (h : LowestOf w a) where
+  -- what the setting of the other causes adds
+  abbrev rest : Additions
+  rest = additionsOf (causesBy tw (withoutBit w a)) (s / choiceOf tw a)
+
   facts-lowest : has (additionsOf (causesBy tw w) s .facts) a ≡ eqb (s % choiceOf tw a) 1
   unfolding additionsOf
   facts-lowest = word-here tw w a h 1 refl s
@@ -96,21 +104,21 @@ module _ (tw w a s : ℕ) (h : LowestOf w a) where
   assumptions-lowest = word-here tw w a h 2 refl s
 
   -- without the lowest cause, whatever its digit
-  facts-without : withoutBit (additionsOf (causesBy tw w) s .facts) a ≡ additionsOf (causesBy tw (withoutBit w a)) (s / choiceOf tw a) .facts
+  facts-without : withoutBit (additionsOf (causesBy tw w) s .facts) a ≡ rest .facts
   unfolding additionsOf
   facts-without = word-dropped tw w a h 1 refl s
 
-  assumptions-without : withoutBit (additionsOf (causesBy tw w) s .assumptions) a ≡ additionsOf (causesBy tw (withoutBit w a)) (s / choiceOf tw a) .assumptions
+  assumptions-without : withoutBit (additionsOf (causesBy tw w) s .assumptions) a ≡ rest .assumptions
   unfolding additionsOf
   assumptions-without = word-dropped tw w a h 2 refl s
 
   -- where its digit is another
-  facts-others : eqb (s % choiceOf tw a) 1 ≡ false → additionsOf (causesBy tw w) s .facts ≡ additionsOf (causesBy tw (withoutBit w a)) (s / choiceOf tw a) .facts
+  facts-others : eqb (s % choiceOf tw a) 1 ≡ false → additionsOf (causesBy tw w) s .facts ≡ rest .facts
   unfolding additionsOf
   facts-others = word-kept tw w a h 1 refl s
 
   assumptions-others : eqb (s % choiceOf tw a) 2 ≡ false
-      → additionsOf (causesBy tw w) s .assumptions ≡ additionsOf (causesBy tw (withoutBit w a)) (s / choiceOf tw a) .assumptions
+      → additionsOf (causesBy tw w) s .assumptions ≡ rest .assumptions
   unfolding additionsOf
   assumptions-others = word-kept tw w a h 2 refl s
 
@@ -136,7 +144,8 @@ pub record Carried (tw w s : ℕ) (x : Additions) (left : ℕ) : Type 0 where
 pub carried-start : (tw w s : ℕ) (x : Additions) → x ≡ additionsOf (causesBy tw w) s → Carried tw w s x w
 carried-start tw w s x e = record { at = s; is-at = e; next-is = refl }
 
-pub carried-end : (tw w s : ℕ) (x : Additions) (left : ℕ) → left ≡ 0 → Carried tw w s x left → x ≡ additionsOf (causesBy tw w) (s + 1)
+pub carried-end : (tw w s : ℕ) (x : Additions) (left : ℕ) → left ≡ 0 → Carried tw w s x left
+    → x ≡ additionsOf (causesBy tw w) (s + 1)
 carried-end tw w s x left z c =
     let g : Carried tw w s x 0 = rw z at c in
     g .is-at ∙ additions-none tw (g .at) (g .at + 1) ∙ sym (g .next-is)
@@ -156,6 +165,10 @@ module _ (tw w s : ℕ) (x : Additions) (left a : ℕ) (c : Carried tw w s x lef
   abbrev base : ℕ
   base = choiceOf tw a
 
+  -- x with nothing added for a
+  abbrev fallen : Additions
+  fallen = record { facts = withoutBit (x .facts) a; assumptions = withoutBit (x .assumptions) a }
+
   fact-digit : (t : Bool) → has (x .facts) a ≡ t → eqb (c .at % base) 1 ≡ t
   fact-digit t e = sym (ap (λ (y : Additions). has (y .facts) a) (c .is-at) ∙ facts-lowest tw left a (c .at) h) ∙ e
 
@@ -165,11 +178,12 @@ module _ (tw w s : ℕ) (x : Additions) (left a : ℕ) (c : Carried tw w s x lef
 
   -- the highest digit falls to 0, and the next cause's digit rises
   carried-down : c .at % base + 1 ≡ base
-      → Carried tw w s (record { facts = withoutBit (x .facts) a; assumptions = withoutBit (x .assumptions) a }) (withoutBit left a)
+      → Carried tw w s fallen (withoutBit left a)
   carried-down e =
       let k = carry (has tw a) (c .at) e in
       let p = ap (λ (y : Additions). withoutBit (y .facts) a) (c .is-at) ∙ facts-without tw left a (c .at) h in
-      let r = ap (λ (y : Additions). withoutBit (y .assumptions) a) (c .is-at) ∙ assumptions-without tw left a (c .at) h in
+      let q = assumptions-without tw left a (c .at) h in
+      let r = ap (λ (y : Additions). withoutBit (y .assumptions) a) (c .is-at) ∙ q in
       record {
         at = c .at / base;
         is-at = λ i. record { facts = p i; assumptions = r i };
@@ -178,9 +192,10 @@ module _ (tw w s : ℕ) (x : Additions) (left a : ℕ) (c : Carried tw w s x lef
 
   -- the digit isn't 0, and 1 is the highest
   pub carried-next : (has (x .facts) a || has (x .assumptions) a) ≡ true → (has (x .facts) a && not (has tw a)) ≡ false
-      → Carried tw w s (record { facts = withoutBit (x .facts) a; assumptions = withoutBit (x .assumptions) a }) (withoutBit left a)
+      → Carried tw w s fallen (withoutBit left a)
   carried-next e f =
-      carried-down (go (has tw a) (has (x .facts) a) (has (x .assumptions) a) (λ (t : has (x .facts) a ≡ true). eqb-true (c .at % base) 1 (fact-digit true t))
+      carried-down (go (has tw a) (has (x .facts) a) (has (x .assumptions) a)
+      (λ (t : has (x .facts) a ≡ true). eqb-true (c .at % base) 1 (fact-digit true t))
       (λ (t : has (x .assumptions) a ≡ true). eqb-true (c .at % base) 2 (assumption-digit true t)) e f)
     where
       go : (t u v : Bool) → (u ≡ true → c .at % pick t 2 3 ≡ 1) → (v ≡ true → c .at % pick t 2 3 ≡ 2)
@@ -193,7 +208,8 @@ module _ (tw w s : ℕ) (x : Additions) (left a : ℕ) (c : Carried tw w s x lef
 
   -- digit 1, of three choices, rises to 2
   pub carried-fact : has tw a ≡ false → has (x .facts) a ≡ true
-      → record { facts = withoutBit (x .facts) a; assumptions = bitOr (x .assumptions) (2 ^ a) } ≡ additionsOf (causesBy tw w) (s + 1)
+      → record { facts = withoutBit (x .facts) a; assumptions = bitOr (x .assumptions) (2 ^ a) }
+      ≡ additionsOf (causesBy tw w) (s + 1)
   carried-fact b e =
       let q = eqb-true (c .at % base) 1 (fact-digit true e) in
       let m : base ≡ 3 = ap (λ (t : Bool). pick t 2 3) b in

@@ -19,7 +19,8 @@ use Rattle.words.proofs.BitWalks.{has-with, with-lt, without-here}
 use Rattle.program.specs.declared.cause.Additions.{Additions}
 use Rattle.program.specs.declared.cause.Causes.{Causes}
 use Rattle.program.specs.Cause.{causesBy, atomsFrom, atomsIn}
-use Rattle.program.specs.Setting.{choiceOf, choicesFor, choicesOf, product, digits, digitOf, settingsOf, additionsOf}
+use Rattle.program.specs.Setting.{choiceOf, choicesFor, choicesOf, product, digits, digitOf, settingsOf}
+use Rattle.program.specs.Setting.{additionsOf}
 use Rattle.program.specs.Digit.{withDigit}
 use Rattle.program.proofs.Atoms.{atoms-zero, atoms-lowest}
 
@@ -86,7 +87,8 @@ digit-none tw w b (suc n) a s h = go (has w a) refl (λ t. digit-none tw w b n (
     go : (t : Bool) → has w a ≡ t → ((r : ℕ) → digitFrom tw w (suc a) n r b ≡ 0) → digitFrom tw w a (suc n) s b ≡ 0
     go true e ih =
         digit-cause tw w a n s b e
-        ∙ ap (λ (t : Bool). pick t (s % choiceOf tw a) (digitFrom tw w (suc a) n (s / choiceOf tw a) b)) (ne-eqb b a (h a (le-refl a) e))
+        ∙ ap (λ (t : Bool). pick t (s % choiceOf tw a) (digitFrom tw w (suc a) n (s / choiceOf tw a) b))
+        (ne-eqb b a (h a (le-refl a) e))
         ∙ ih (s / choiceOf tw a)
     go false e ih = digit-other tw w a n s b e ∙ ih s
 
@@ -163,7 +165,8 @@ taken-out false false x r d h = ap (λ (t : Bool). t || eqb r d) (and-false (eqb
 
 -- the digit of atom b, where a is the lowest cause
 pub digit-lowest : (tw w a s b : ℕ) → LowestOf w a
-    → digitFrom tw w 0 64 s b ≡ pick (eqb b a) (s % choiceOf tw a) (digitFrom tw (withoutBit w a) 0 64 (s / choiceOf tw a) b)
+    → let c = choiceOf tw a in
+    digitFrom tw w 0 64 s b ≡ pick (eqb b a) (s % c) (digitFrom tw (withoutBit w a) 0 64 (s / c) b)
 unfolding choicesFor digits digitOf
 digit-lowest tw w a s b h = ap (λ (l : List ℕ). digitIn tw l s b) (atoms-lowest w a h)
 
@@ -177,8 +180,10 @@ pub gathered-next : (tw w s d y rest left a : ℕ) → eqb 0 d ≡ false → Gat
     → Gathered tw w s d (withBit (eqb (rest % choiceOf tw a) d) y a) (rest / choiceOf tw a) (withoutBit left a)
 gathered-next tw w s d y rest left a z g h = record {
   fits = with-lt (eqb (rest % choiceOf tw a) d) 64 y a (g .fits) (h .bit .small);
-  bits = λ b. ap (λ (t : Bool). t || hasDigit tw (withoutBit left a) (rest / choiceOf tw a) d b) (has-with (eqb (rest % choiceOf tw a) d) y a b)
-      ∙ taken-out (has y b) (eqb b a) (rest % choiceOf tw a) (digitFrom tw (withoutBit left a) 0 64 (rest / choiceOf tw a) b) d (later b)
+  bits = λ b. ap (λ (t : Bool). t || hasDigit tw (withoutBit left a) (rest / choiceOf tw a) d b)
+      (has-with (eqb (rest % choiceOf tw a) d) y a b)
+      ∙ taken-out (has y b) (eqb b a) (rest % choiceOf tw a)
+      (digitFrom tw (withoutBit left a) 0 64 (rest / choiceOf tw a) b) d (later b)
       ∙ ap (λ (n : ℕ). has y b || eqb n d) (sym (digit-lowest tw left a rest b h)) ∙ g .bits b;
 }
   where
@@ -192,7 +197,8 @@ unfolding choicesFor digits digitOf
 gathered-end tw w s d y rest z g =
     is-word 64 y (hasDigit tw w s d) (g .fits)
     (λ b l. sym (or-false (has y b))
-    ∙ ap (λ (t : Bool). has y b || t) (sym (ap (λ (l : List ℕ). eqb (digitIn tw l rest b) d) atoms-zero ∙ z)) ∙ g .bits b)
+    ∙ ap (λ (t : Bool). has y b || t) (sym (ap (λ (l : List ℕ). eqb (digitIn tw l rest b) d) atoms-zero ∙ z))
+    ∙ g .bits b)
 
 -- ---- the walk over the causes: x is added so far, rest is left of setting s, and left of the causes
 pub record Walked (tw w s : ℕ) (x : Additions) (rest left : ℕ) : Type 0 where
@@ -209,10 +215,12 @@ pub walked-next : (tw w s : ℕ) (x z : Additions) (rest left a : ℕ) → Walke
     → z ≡ withDigit x a (rest % choiceOf tw a) → Walked tw w s z (rest / choiceOf tw a) (withoutBit left a)
 walked-next tw w s x z rest left a h l q = rw q (record {
   facts-are = rw with-facts (gathered-next tw w s 1 (x .facts) rest left a refl (h .facts-are) l);
-  assumptions-are = rw with-assumptions (gathered-next tw w s 2 (x .assumptions) rest left a refl (h .assumptions-are) l);
+  assumptions-are = rw with-assumptions
+      (gathered-next tw w s 2 (x .assumptions) rest left a refl (h .assumptions-are) l);
 })
 
-pub walked-end : (tw w s : ℕ) (x : Additions) (rest left : ℕ) → left ≡ 0 → Walked tw w s x rest left → x ≡ additionsOf (causesBy tw w) s
+pub walked-end : (tw w s : ℕ) (x : Additions) (rest left : ℕ) → left ≡ 0 → Walked tw w s x rest left
+    → x ≡ additionsOf (causesBy tw w) s
 unfolding additionsOf
 walked-end tw w s x rest left z h =
     let g : Walked tw w s x rest 0 = rw z at h in

@@ -16,8 +16,9 @@ use Rattle.program.specs.Case.{clauseSize, constraintSize, formulaSize, 
 use Rattle.program.specs.Case.{negatedAt, forbidden, forbiddenNot, constraintKind, nodesOf}
 use Rattle.program.specs.Cause.{causesOf}
 use Rattle.program.specs.Setting.{settingsOf}
-use Rattle.program.specs.Sound.{isEdition, limitsHold, within, bare, shaped, soundClause, soundClauses, soundConstraint}
-use Rattle.program.specs.Sound.{soundConstraints, fewSettings, soundFormula, soundFormulas, sound}
+use Rattle.program.specs.Sound.{isEdition, limitsHold, within, bare, shaped, soundClause, soundClauses}
+use Rattle.program.specs.Sound.{soundConstraint, soundConstraints, fewSettings, soundFormula}
+use Rattle.program.specs.Sound.{soundFormulas, sound}
 
 -- ---- at most the number below m by one is below m
 pub leb-below : (a t m : ℕ) → t + 1 ≡ m → leb a t ≡ ltb a m
@@ -79,7 +80,8 @@ module _ (c : Case) where
             limits-past-formulas l =
                 let one = le-leb 1 (c .formulas) formulas in
                 let past = lt-leb (c .formulas) 16 l in
-                rw (le-leb 1 (c .atoms) some, le-leb (c .atoms) 64 atoms, le-leb (c .clauses) 256 clauses, few, one, past)
+                let held = le-leb (c .clauses) 256 clauses in
+                rw (le-leb 1 (c .atoms) some, le-leb (c .atoms) 64 atoms, held, few, one, past)
 
             module _ (most : c .formulas ≤ 16) where
               edition-decides : isEdition (c .edition) ≡ limitsHold c
@@ -87,13 +89,16 @@ module _ (c : Case) where
               edition-decides =
                   let one = le-leb 1 (c .formulas) formulas in
                   let top = le-leb (c .formulas) 16 most in
-                  rw (le-leb 1 (c .atoms) some, le-leb (c .atoms) 64 atoms, le-leb (c .clauses) 256 clauses, few, one, top)
+                  let held = le-leb (c .clauses) 256 clauses in
+                  rw (le-leb 1 (c .atoms) some, le-leb (c .atoms) 64 atoms, held, few, one, top)
 
               pub limits-editionless : c .edition < 1 → false ≡ limitsHold c
-              limits-editionless l = ap (λ (b : Bool). b && leb (c .edition) 2) (sym (lt-leb 1 (c .edition) l)) ∙ edition-decides
+              limits-editionless l =
+                  ap (λ (b : Bool). b && leb (c .edition) 2) (sym (lt-leb 1 (c .edition) l)) ∙ edition-decides
 
               pub limits-last : 1 ≤ c .edition → leb (c .edition) 2 ≡ limitsHold c
-              limits-last l = ap (λ (b : Bool). b && leb (c .edition) 2) (sym (le-leb 1 (c .edition) l)) ∙ edition-decides
+              limits-last l =
+                  ap (λ (b : Bool). b && leb (c .edition) 2) (sym (le-leb 1 (c .edition) l)) ∙ edition-decides
 
 -- ---- a clause: the first test that fails, or the last
 module _ (n first p q : ℕ) where

@@ -2,7 +2,8 @@
 -- From: document 01, "Causes, settings, explanations"; document 02, [10] ("A setting's number is read in mixed base,
 -- three or two for each cause in atom order, lowest first").
 --
---   choiceOf tw a        the choice count of the cause a: two among tw (nothing, a fact), otherwise three (or an assumption)
+--   choiceOf tw a        the choice count of the cause a: two among tw (nothing, a fact), otherwise three (also an
+--                        assumption)
 --   choicesFor tw l      a choice count for each cause of l
 --   choicesOf w          those of the causes w, in atom order
 --   product cs           the number of settings with these choice counts

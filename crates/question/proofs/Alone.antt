@@ -111,7 +111,8 @@ module _ (c : Case) (cl co fo : List ℕ) (h : sound c cl co fo ≡ true) (q : �
   same-sum : (h : Settled → ℕ) → sum (settingsIn (alone c q) cl) (λ s. h (settled (programOf (alone c q) cl s)))
       ≡ sum (settingsIn c cl) (λ s. h (settled (programOf c cl s)))
   same-sum h =
-      ap (λ (w : Causes). sum (settingsOf w) (λ s. h (settled (programWith cl (c .clauses) (additionsOf w s))))) same-causes
+      ap (λ (w : Causes). sum (settingsOf w) (λ s. h (settled (programWith cl (c .clauses) (additionsOf w s)))))
+      same-causes
 
   same-value : (s : ℕ) → K .value 0 s ≡ J .value q s
   same-value s =

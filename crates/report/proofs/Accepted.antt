@@ -15,7 +15,6 @@ use Rattle.logic.specs.Nodes.{formulaOf}
 use Rattle.table.specs.Filled.{padded}
 use Rattle.table.proofs.Filled.{filled-exact, padded-length, padded-split}
 use Rattle.program.specs.Case.{clauseSize, constraintSize, formulaSize, nameSize, priceSize, tablesFull, nodesOf}
-use Rattle.program.specs.Cause.{atomsIn}
 use Rattle.program.specs.Sound.{sound}
 use Rattle.program.specs.declared.cause.Causes.{Causes}
 use Rattle.program.proofs.Soundness.{sound-full, sound-atoms, sound-formulas, sound-settings}
@@ -155,7 +154,8 @@ module _ (f : List ℕ) (st : Said) (e : readFile f ≡ Outcome.case st) where
   said-length =
       let l = minimalsOf st in
       let few = length-take listLength l in
-      answer-length (nameOf st) (λ a. said-named a .short) (causesSaid st) said-settings (verdictNumbers st) (totalsOf st)
+      answer-length (nameOf st) (λ a. said-named a .short) (causesSaid st) said-settings (verdictNumbers st)
+      (totalsOf st)
       (take listLength l) (omega (arith, numbers-length st, said-queries)) said-short (omega arith)
 
 -- What is answered for it, with a list of 1,024 slots and a work area of 59,049 bytes
@@ -202,7 +202,8 @@ module _ (f : List ℕ) (st : Said) (e : readFile f ≡ Outcome.case st) (list w
     pub asked-fits : r .written ≤ length listAfter
     asked-fits = rw (answer-is, list-is) (front-fits (minimalsOf st) list 1024 full)
 
-    pub asked-text : (names : List ℕ) (causes : Causes) → names ≡ padded nameSize (rowsOf (st .names)) → causes ≡ causesSaid st
+    pub asked-text : (names : List ℕ) (causes : Causes) → names ≡ padded nameSize (rowsOf (st .names))
+        → causes ≡ causesSaid st
         → answerText (nameIn names) causes (take (length (st .queries)) (r .verdicts)) (shownOf r)
         (take (r .written) listAfter) ≡ saidText st
     unfolding saidText

@@ -12,7 +12,6 @@ use Rattle.words.proofs.Tests.{lt-or-le}
 use Rattle.table.specs.Filled.{padded}
 use Rattle.table.proofs.Filled.{filled-exact, padded-length}
 use Rattle.program.specs.Case.{clauseSize, constraintSize, formulaSize, nameSize, priceSize}
-use Rattle.program.specs.Program.{headsOf}
 use Rattle.program.specs.declared.cause.Causes.{Causes}
 use Rattle.program.specs.Cause.{causesIn}
 use Rattle.program.specs.Sound.{sound}
@@ -134,7 +133,8 @@ textOf r u causes q list =
     (take (q .written) list)
 
 -- what the report shows of the answer q and its list, with the record of the answer r and the tables u
-pub record Answered (f : List ℕ) (r : Answer) (u : Lent) (causes : Causes) (q : question.Answer) (list : List ℕ) : Type 0
+pub record Answered (f : List ℕ) (r : Answer) (u : Lent) (causes : Causes) (q : question.Answer) (list : List ℕ)
+    : Type 0
   where
     pub names-fit : nameSize ≤ length (u .names)
     pub queries-fit : r .found .formulas ≤ length (q .verdicts)

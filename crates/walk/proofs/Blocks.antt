@@ -65,7 +65,8 @@ abbrev pub noneFound : ℕ → Found
 noneFound n = record { counts = noCounts n; written = 0 }
 
 -- the walk before setting s, whose bit is the first of word b of the row
-pub record Walking (c : Case) (cl co fo pr : List ℕ) (causes : Causes) (end : ℕ) (list₀ work₀ list work row : List ℕ) (f : Found)
+pub record Walking (c : Case) (cl co fo pr : List ℕ) (causes : Causes) (end : ℕ)
+    (list₀ work₀ list work row : List ℕ) (f : Found)
     (r : Sums) (k : Cheapest) (added : Additions) (b s : ℕ) : Type 0 where
   pub place-is : 59072 + s ≡ 64 * b
   pub added-is : added ≡ additionsOf causes s

@@ -39,7 +39,8 @@ pub record Bounded (c : Case) (cl co fo : List ℕ) (causes : Causes) (end : ℕ
   pub work-long : end ≤ length work
 
 -- ot, of and oh have the opening's words in each lane
-pub record Tabled (c : Case) (cl : List ℕ) (causes : Causes) (o : Opening) (dependents last prev weights ot of oh : List ℕ)
+pub record Tabled (c : Case) (cl : List ℕ) (causes : Causes) (o : Opening)
+    (dependents last prev weights ot of oh : List ℕ)
     : Type 0 where
   pub tables : prepared.Prepared cl (c .clauses) o dependents last prev
   pub weights-are : Weights causes weights

@@ -55,7 +55,8 @@ left-none name w s = spaced-nil
 -- ---- the walk over the atoms
 -- setting s of the causes w is written to out from place at on; what is left of it from atom a on is rest, and comes
 -- to out₁ from place m on
-pub record AtAtom (name : ℕ → List ℕ) (w : Causes) (s : ℕ) (out : List ℕ) (at a rest m : ℕ) (out₁ : List ℕ) : Type 0 where
+pub record AtAtom (name : ℕ → List ℕ) (w : Causes) (s : ℕ) (out : List ℕ) (at a rest m : ℕ) (out₁ : List ℕ)
+    : Type 0 where
   pub within : a ≤ 64
   pub underway : Underway (settingText name (w .twofold) (atomsIn (w .all)) s) out at (leftText name w a rest) m out₁
 

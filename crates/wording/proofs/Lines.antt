@@ -50,8 +50,8 @@ number-room opening n h = pieces-room opening (decimal n) lineEnd h
 pub cause-room : (name : ℕ → List ℕ) (w : Causes) (s : ℕ) {at : ℕ} → Room (causeLine name w s) at
     → at + (8 + length (spaced (abducibles name (atomsIn (w .all)) (digitsOf w s)))) ≤ textLimit
 cause-room name w s h =
-    omega
-    (arith, pieces-room causeOpening (spaced (abducibles name (atomsIn (w .all)) (digitsOf w s))) lineEnd (rw cause-text at h))
+    let text = spaced (abducibles name (atomsIn (w .all)) (digitsOf w s)) in
+    omega (arith, pieces-room causeOpening text lineEnd (rw cause-text at h))
 
 pub form-room : (opening w : List ℕ) {at : ℕ} → Room (opening ++ (w ++ bytes ")")) at
     → at + (length opening + length w + 1) ≤ textLimit

@@ -48,7 +48,8 @@ module _ (f g : ℕ → List ℕ) (agree : (a : ℕ) → a < 64 → f a ≡ g a)
   unfolding causeLine
   cause-line-alike w s = rw (abducibles-alike (atomsIn (w .all)) (digitsOf w s) (atoms-below (w .all)))
 
-  pub answer-alike : (w : Causes) (vs : List ℕ) (t : Totals) (l : List ℕ) → answerText f w vs t l ≡ answerText g w vs t l
+  pub answer-alike : (w : Causes) (vs : List ℕ) (t : Totals) (l : List ℕ)
+      → answerText f w vs t l ≡ answerText g w vs t l
   unfolding answerText
   answer-alike w vs t l =
       rw (lines-alike (causeLine f w) (causeLine g w) l (λ i k. cause-line-alike w (getD l i 0)))

@@ -1,4 +1,4 @@
--- `embed::case_in` meets its contract: six words, and the counts in the 16 behind them. Assumes nothing.
+-- `embed::case_in` meets its contract: six words, the counts in the 16 behind them, and the edition. Assumes nothing.
 use borrow.Author.Needs.{needs}
 use Rattle.embed.proofs.case_in.Statement.{statement}
 use Rattle.embed.proofs.case_in.Tie as tie

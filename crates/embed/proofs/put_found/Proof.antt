@@ -1,7 +1,6 @@
--- `embed::put_found` meets its contract: the line and six words of the record, and the node counts behind them.
+-- `embed::put_found` meets its contract: the line and six words of the record, and the others behind them.
 -- Assumes nothing.
 use borrow.Author.Needs.{needs}
-use native.Mathlib.Omega.{arith}
 use Rattle.embed.proofs.Exports.{found-put}
 use Rattle.embed.proofs.put_found.Statement.{statement}
 use Rattle.embed.proofs.put_found.Tie as tie
@@ -15,20 +14,17 @@ slice-aggregate-put-words c = search needs
 put-words-requires : tie.Need-put-words-requires
 put-words-requires c κs = search needs
 
-sub-put-counts : tie.Need-sub-put-counts
-sub-put-counts c = search needs
+sub-put-nodes : tie.Need-sub-put-nodes
+sub-put-nodes c = search needs
 
-part-put-counts-start : tie.Need-part-put-counts-start
-part-put-counts-start c = search needs
+part-put-nodes-start : tie.Need-part-put-nodes-start
+part-put-nodes-start c = search needs
 
-part-put-counts-end : tie.Need-part-put-counts-end
-part-put-counts-end c = search needs
+part-put-nodes-end : tie.Need-part-put-nodes-end
+part-put-nodes-end c = search needs
 
-slice-aggregate-put-counts : tie.Need-slice-aggregate-put-counts
-slice-aggregate-put-counts c = search needs
-
-put-counts-requires : tie.Need-put-counts-requires
-put-counts-requires c κs = omega (arith, slice-aggregate-put-counts c)
+put-nodes-requires : tie.Need-put-nodes-requires
+put-nodes-requires c κs = search needs
 
 same-length : tie.Need-same-length
 same-length c = search needs
@@ -43,10 +39,9 @@ put-found-spec =
     cast-t6
     slice-aggregate-put-words
     put-words-requires
-    sub-put-counts
-    part-put-counts-start
-    part-put-counts-end
-    slice-aggregate-put-counts
-    put-counts-requires
+    sub-put-nodes
+    part-put-nodes-start
+    part-put-nodes-end
+    put-nodes-requires
     same-length
     returns)

@@ -1,8 +1,7 @@
 -- `program::cause::added` meets its contract. The loop's invariant: what is added so far and what is left of the
 -- setting make up the whole setting. The measure is the word of the causes left. Assumes nothing.
-use mathlib.Core.Path.{refl, sym, ap, _∙_}
-use Prim.Native.Nat.{ℕ, _%_, _/_}
-use native.Mathlib.Omega.{arith}
+use mathlib.Core.Path.{refl, ap, _∙_}
+use Prim.Native.Nat.{ℕ, _%_}
 use borrow.Author.Needs.{needs}
 use Rattle.words.proofs.BitWalks.{without-less}
 use Rattle.program.specs.Digit.{withDigit}

@@ -1,6 +1,6 @@
--- `program::cause::causes_in` meets its contract: edition 1 has the atoms that are no head, and edition 2 also the heads
--- of assumptions alone. Assumes nothing.
-use mathlib.Core.Path.{_≡_, ap, ap₂, _∙_}
+-- `program::cause::causes_in` meets its contract: edition 1 has the atoms that are no head, and edition 2 also the
+-- heads of assumptions alone. Assumes nothing.
+use mathlib.Core.Path.{ap, ap₂, _∙_}
 use Prim.Native.Nat.{ℕ, _-_, _^_}
 use lib.Bits.{bitAnd}
 use borrow.Author.Needs.{needs}

@@ -1,7 +1,5 @@
 -- `program::cause::settings` meets its contract. The loop's invariant: the product so far times the settings of the
 -- causes left are all settings. The measure is the word of the causes left. Assumes nothing.
-use mathlib.Core.Path.{_≡_, refl, sym, ap, _∙_}
-use Prim.Native.Nat.{ℕ, _*_, _≤_, _<_}
 use native.Mathlib.Omega.{arith}
 use borrow.Author.Needs.{needs}
 use Rattle.words.proofs.BitWalks.{without-less}
@@ -38,7 +36,8 @@ mul-product c =
 returns : tie.Need-returns Inv-loop μ-loop
 returns c =
     let t = c .before in
-    multiplied-over _ _ _ _ _ _ (looped t .loop .inv) (t .before .lowest-bit .ensures) (t .choice .ensures) (omega arith)
+    multiplied-over _ _ _ _ _ _ (looped t .loop .inv) (t .before .lowest-bit .ensures) (t .choice .ensures)
+    (omega arith)
 
 without-lowest-requires : tie.Need-without-lowest-requires Inv-loop μ-loop
 without-lowest-requires c κs = search needs
@@ -52,7 +51,8 @@ loop-again : tie.Need-loop-again Inv-loop μ-loop
 loop-again c =
     let t = c .before .before in
     let l = t .before .lowest-bit .ensures in
-    rw (c .without-lowest .ensures _ l) (multiplied-next _ _ _ _ _ _ (looped t .loop .inv) l (t .choice .ensures) (omega arith))
+    rw (c .without-lowest .ensures _ l)
+    (multiplied-next _ _ _ _ _ _ (looped t .loop .inv) l (t .choice .ensures) (omega arith))
 
 returns-2 : tie.Need-returns-2 Inv-loop μ-loop
 returns-2 c = multiplied-end _ _ _ _ (c .before .loop .inv) (c .loop-test .left)

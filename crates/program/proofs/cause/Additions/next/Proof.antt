@@ -47,7 +47,7 @@ returns c =
     let t = c .before .before .before in
     let l = t .before .before .lowest-bit .ensures in
     let n =
-    neither _ _ 0 _ (l .bit .small) (search needs) (failed (t .test .ensures) (c .before .before .if1 .taken)) in
+    neither _ _ _ (failed (t .test .ensures) (c .before .before .if1 .taken)) in
     rw (c .before .single .ensures)
     (λ s e. carried-nothing _ _ s _ _ _ (looped t .loop .inv s e) l (n .0) (n .1))
 
@@ -66,7 +66,7 @@ returns-2 c =
     let t = tested u in
     let l = t .before .before .lowest-bit .ensures in
     let n =
-    rises _ 0 _ _ (l .bit .small) (fits u) (sym (u .test2 .ensures) ∙ c .before .before .before .if2 .taken) in
+    rises _ _ _ (l .bit .small) (fits u) (sym (u .test2 .ensures) ∙ c .before .before .before .if2 .taken) in
     rw (c .before .before .without .ensures, c .before .single2 .ensures)
     (λ s e. carried-fact _ _ s _ _ _ (looped t .loop .inv s e) l (n .1) (n .0))
 
@@ -91,8 +91,8 @@ loop-again c =
     let l = t .before .before .lowest-bit .ensures in
     rw (c .without-lowest .ensures _ l, c .before .before .without2 .ensures, c .before .without3 .ensures)
     (λ s e. carried-next _ _ s _ _ _ (looped t .loop .inv s e) l
-    (either _ _ 0 _ (l .bit .small) (search needs) (passed (t .test .ensures) (u .before .before .before .if1 .left)))
-    (falls _ 0 _ _ (l .bit .small) (fits u) (sym (u .test2 .ensures) ∙ c .before .before .before .if2 .left)))
+    (either _ _ _ (passed (t .test .ensures) (u .before .before .before .if1 .left)))
+    (falls _ _ _ (l .bit .small) (fits u) (sym (u .test2 .ensures) ∙ c .before .before .before .if2 .left)))
 
 returns-3 : tie.Need-returns-3 Inv-loop μ-loop
 returns-3 c = λ s e. carried-end _ _ s _ _ (c .loop-test .left) (c .before .loop .inv s e)
