@@ -49,9 +49,6 @@ use Rattle.writing.specs.Operation.{writable}
 abbrev pub atomTexts : List ℕ → ℕ → List (List ℕ)
 atomTexts na n = listOf n (λ a. lineText (Line.atom (nameIn na a)))
 
-abbrev pub editionTexts : ℕ → List (List ℕ)
-editionTexts e = consIf (eqb e 2) (lineText (Line.edition 2)) []
-
 abbrev pub clauseTexts : List ℕ → List ℕ → ℕ → List (List ℕ)
 clauseTexts na cl n = listOf n (λ k. lineText (clauseLine (nameIn na) (clauseIn cl k)))
 
@@ -60,6 +57,10 @@ constraintTexts na co n = listOf n (λ k. lineText (constraintLine (nameIn na) (
 
 abbrev pub queryTexts : List ℕ → List ℕ → List ℕ → ℕ → List (List ℕ)
 queryTexts na ns fo n = listOf n (λ q. lineText (queryLine (nameIn na) (nodes.formulaOf (nodesOf ns fo q))))
+
+-- a line in edition 2 alone
+abbrev pub editionTexts : ℕ → List (List ℕ)
+editionTexts e = consIf (eqb e 2) (lineText (Line.edition 2)) []
 
 -- a line for each atom of the word w, negated where b holds
 abbrev pub seenTexts : List ℕ → Bool → ℕ → List (List ℕ)
