@@ -1,10 +1,11 @@
 //! The text that `causes` should write for a file.
 //!
-//! From: document 01, The program `causes`; document 02, [1], [6], [7].
+//! From: document 01, The program `causes`; document 02, [1], [6], [7], [10].
 
 use crate::case::Case;
+use crate::cause::{digits, Choice};
 use crate::file::{read, Refusal};
-use crate::question::{ask, ask_unheld, digits, Findings, Verdict};
+use crate::question::{ask, ask_unheld, Findings, Verdict};
 
 /// The slots of the program's list.
 pub const LIST_SLOTS: usize = 1_024;
@@ -52,11 +53,11 @@ pub fn text(findings: &Findings, names: &[String]) -> String {
     text.push_str(&format!("(minimal {found} {listed})\n"));
     for setting in &findings.minimal[..listed] {
         text.push_str("(cause");
-        for (cause, digit) in findings.causes.iter().zip(digits(*setting, 3, findings.causes.len())) {
-            match digit {
-                1 => text.push_str(&format!(" (true {})", names[*cause])),
-                2 => text.push_str(&format!(" (false {})", names[*cause])),
-                _ => (),
+        for (cause, digit) in findings.causes.iter().zip(digits(*setting, &findings.causes)) {
+            match cause.choices[digit] {
+                Choice::Fact => text.push_str(&format!(" (true {})", names[cause.atom])),
+                Choice::Assumption => text.push_str(&format!(" (false {})", names[cause.atom])),
+                Choice::Nothing | Choice::Both => (),
             }
         }
         text.push_str(")\n");

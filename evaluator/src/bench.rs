@@ -7,6 +7,7 @@ use crate::cheapest_tally;
 use crate::compare::{differing, shown, unmeant};
 use crate::costs_tally;
 use crate::decided_tally;
+use crate::editions_tally;
 use crate::kinds_tally;
 use crate::run::{bad_end, run, Fault, Input};
 use crate::sample::sample;
@@ -30,7 +31,7 @@ pub enum Test {
 }
 
 /// What a test gave: the evaluator's answer, what is counted of a generated file by its kinds of constraints, by its
-/// decided total, by its costs and by its bodies, and the complaint if it failed.
+/// decided total, by its costs, by its bodies and by its edition, and the complaint if it failed.
 pub struct Outcome {
     pub own: Option<Answer>,
     pub met: Option<Vec<bool>>,
@@ -146,6 +147,7 @@ impl Bench {
                 costs_tally::met(&made.bytes, &asked),
                 cheapest_tally::met(&asked),
                 bodies_tally::met(&made.bytes, &asked),
+                editions_tally::met(&made.bytes, &asked),
             ]
             .concat();
             (own, met)

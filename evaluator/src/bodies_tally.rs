@@ -5,8 +5,9 @@
 
 use crate::answer::Asked;
 use crate::constraint::Kind;
-use crate::file::{read_by, Reading, Refusal, Rules, LITERALS};
+use crate::file::{read_by, Refusal, Rules, LITERALS};
 use crate::form::Form;
+use crate::reading::Reading;
 use crate::tree::tokens;
 use std::collections::BTreeSet;
 
@@ -33,9 +34,9 @@ const MISREAD: [Misread; 20] = [
     ("other without the limit for never lines", Rules::checked(20, |_, said| is_long_but(said, Kind::Never))),
     ("other without the limit for avoid lines", Rules::checked(20, |_, said| is_long_but(said, Kind::Avoid))),
     ("other with the limit for if lines only", Rules::checked(20, |_, said| is_long(said) && kind(said).is_none())),
-    ("other with 20 before 6", Rules::in_order([20, 6, 7, 8, 9, 16, 17, 10])),
-    ("other with 20 behind 8", Rules::in_order([6, 7, 8, 20, 9, 16, 17, 10])),
-    ("other with 20 behind 9", Rules::in_order([6, 7, 8, 9, 20, 16, 17, 10])),
+    ("other with 20 before 6", Rules::in_order([20, 6, 7, 8, 9, 16, 17, 10, 21])),
+    ("other with 20 behind 8", Rules::in_order([6, 7, 8, 20, 9, 16, 17, 10, 21])),
+    ("other with 20 behind 9", Rules::in_order([6, 7, 8, 9, 20, 16, 17, 10, 21])),
 ];
 
 /// The wrong readings that look at literals before the checks 3 to 5: the words, and the check.

@@ -1,7 +1,8 @@
 //! What a case file says, with atoms as numbers.
 //!
-//! From: document 01, Interpretations and the step; Causes, settings, explanations; document 02, [7].
+//! From: document 01, Interpretations and the step; document 02, [7], [10].
 
+use crate::cause::{causes, Cause, Edition};
 use crate::constraint::Constraint;
 use crate::formula::{Formula, Literal};
 
@@ -20,7 +21,7 @@ pub struct Clause {
     pub body: Body,
 }
 
-/// A case: names and prices by atom number; clauses, constraints, observations and queries in file order.
+/// A case: names and prices by atom number; clauses, constraints, observations and queries in file order; its edition.
 #[derive(Clone)]
 pub struct Case {
     pub names: Vec<String>,
@@ -29,9 +30,12 @@ pub struct Case {
     pub observations: Vec<Literal<usize>>,
     pub queries: Vec<Formula<usize>>,
     pub prices: Vec<u32>,
+    pub edition: Edition,
 }
 
-/// The atoms among the first `atoms` that head none of `clauses`, in atom order.
-pub fn causes(atoms: usize, clauses: &[Clause]) -> Vec<usize> {
-    (0..atoms).filter(|a| clauses.iter().all(|c| c.head != *a)).collect()
+impl Case {
+    /// The causes of this case.
+    pub fn causes(&self) -> Vec<Cause> {
+        causes(self.edition, self.names.len(), &self.clauses)
+    }
 }

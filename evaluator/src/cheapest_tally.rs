@@ -5,9 +5,10 @@
 
 use crate::answer::{Asked, LIST_SLOTS};
 use crate::case::Case;
+use crate::cause::{digits, Choice};
 use crate::cost::{cost, Cheapest};
 use crate::formula::UNKNOWN;
-use crate::question::{digits, Findings};
+use crate::question::Findings;
 use std::cmp::Reverse;
 
 /// What holds of a file: the words, and whether it does where this is found.
@@ -56,20 +57,20 @@ const MISREADINGS: [Misreading; 21] = [
     ("other cheapest with all settings", |case, found| lowest(&every(found), |s| cost_by(case, found, s))),
     ("other cheapest with settings above 0", |case, found| lowest(&every(found)[1..], |s| cost_by(case, found, s))),
     ("other cheapest with causes that have a price only", |case, found| {
-        let has_prices = |s: &usize| chosen(found, *s).iter().all(|(cause, _)| case.prices[*cause] > 0);
+        let has_prices = |s: &usize| chosen(found, *s).iter().all(|atom| case.prices[*atom] > 0);
         lowest(&found.minimal.iter().copied().filter(has_prices).collect::<Vec<_>>(), |s| cost_by(case, found, s))
     }),
     ("other cheapest with assumptions for nothing", |case, found| {
-        lowest(&found.minimal, |s| weighed(case, found, s, |digit| u64::from(digit == 1)))
+        lowest(&found.minimal, |s| weighed(case, found, s, |choice| u64::from(choice == Choice::Fact)))
     }),
     ("other cheapest with facts for nothing", |case, found| {
-        lowest(&found.minimal, |s| weighed(case, found, s, |digit| u64::from(digit == 2)))
+        lowest(&found.minimal, |s| weighed(case, found, s, |choice| u64::from(choice == Choice::Assumption)))
     }),
     ("other cheapest with assumptions twice", |case, found| {
-        lowest(&found.minimal, |s| weighed(case, found, s, |d| d as u64))
+        lowest(&found.minimal, |s| weighed(case, found, s, |choice| choice as u64))
     }),
     ("other cheapest with causes that are not chosen", |case, found| {
-        lowest(&found.minimal, |s| weighed(case, found, s, |d| u64::from(d == 0)))
+        lowest(&found.minimal, |s| weighed(case, found, s, |choice| u64::from(choice == Choice::Nothing)))
     }),
     ("other cheapest with all decided atoms", |case, found| {
         let decided = |s: usize| (0..case.names.len()).filter(move |a| found.settled[s].model[*a] != UNKNOWN);
@@ -77,7 +78,7 @@ const MISREADINGS: [Misreading; 21] = [
     }),
     ("other cheapest with prices by the causes' places", |case, found| {
         let prices: Vec<u64> = case.prices[..found.causes.len()].iter().map(|p| u64::from(*p)).collect();
-        lowest(&found.minimal, |s| cost(s, &prices))
+        lowest(&found.minimal, |s| cost(s, &found.causes, &prices))
     }),
     ("other cheapest with the dearest cause only", |case, found| {
         lowest(&found.minimal, |s| prices(case, found, s).into_iter().max().unwrap_or(0))
@@ -91,15 +92,19 @@ const MISREADINGS: [Misreading; 21] = [
     }),
 ];
 
-/// The causes that the setting `s` gives something, with their digits.
-fn chosen(found: &Findings, s: usize) -> Vec<(usize, usize)> {
-    let all = found.causes.iter().copied().zip(digits(s, 3, found.causes.len()));
-    all.filter(|(_, digit)| *digit > 0).collect()
+/// The atoms of all causes, with what the setting `s` gives them.
+fn given(found: &Findings, s: usize) -> impl Iterator<Item = (usize, Choice)> + '_ {
+    found.causes.iter().zip(digits(s, &found.causes)).map(|(cause, digit)| (cause.atom, cause.choices[digit]))
+}
+
+/// The atoms of the causes that the setting `s` gives something.
+fn chosen(found: &Findings, s: usize) -> Vec<usize> {
+    given(found, s).filter(|(_, choice)| *choice != Choice::Nothing).map(|(atom, _)| atom).collect()
 }
 
 /// The prices of the causes that the setting `s` gives something.
 fn prices(case: &Case, found: &Findings, s: usize) -> Vec<u64> {
-    chosen(found, s).iter().map(|(cause, _)| u64::from(case.prices[*cause])).collect()
+    chosen(found, s).iter().map(|atom| u64::from(case.prices[*atom])).collect()
 }
 
 /// What the setting `s` costs by the prices of `case`.
@@ -107,10 +112,9 @@ pub fn cost_by(case: &Case, found: &Findings, s: usize) -> u64 {
     prices(case, found, s).iter().sum()
 }
 
-/// What the setting `s` costs where a cause counts as often as `times` says of its digit.
-fn weighed(case: &Case, found: &Findings, s: usize, times: impl Fn(usize) -> u64) -> u64 {
-    let all = found.causes.iter().zip(digits(s, 3, found.causes.len()));
-    all.map(|(cause, digit)| times(digit) * u64::from(case.prices[*cause])).sum()
+/// What the setting `s` costs where a cause counts as often as `times` says of what it is given.
+fn weighed(case: &Case, found: &Findings, s: usize, times: impl Fn(Choice) -> u64) -> u64 {
+    given(found, s).map(|(atom, choice)| times(choice) * u64::from(case.prices[atom])).sum()
 }
 
 /// Every setting, by number.

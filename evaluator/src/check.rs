@@ -5,9 +5,10 @@ use crate::bodies_tally;
 use crate::cheapest_tally;
 use crate::costs_tally;
 use crate::decided_tally;
+use crate::editions_tally;
 use crate::kinds_tally;
 use crate::row_tally::RowTally;
-use crate::sample::{bodies, sample, BODIES, SAMPLES};
+use crate::sample::{bodies, editions, sample, BODIES, OVERRIDES, SAMPLES};
 use crate::tally::Tally;
 use std::collections::BTreeMap;
 use std::path::{Path, PathBuf};
@@ -113,11 +114,11 @@ pub fn check(program: &Path, folders: &[&Path], limit: Duration) -> bool {
     for line in by_folder(&tests) {
         println!("{line}");
     }
-    tests.extend((0..SAMPLES).chain(bodies()).map(Test::Generated));
+    tests.extend((0..SAMPLES).chain(bodies()).chain(editions()).map(Test::Generated));
     let mut tally = Tally::default();
     let costs = costs_tally::words().chain(cheapest_tally::words());
     let others = kinds_tally::words().chain(decided_tally::words()).chain(costs);
-    let mut rows = RowTally::new(others.chain(bodies_tally::words()));
+    let mut rows = RowTally::new(others.chain(bodies_tally::words()).chain(editions_tally::words()));
     let mut counts = Counts::default();
     let bench = Bench::new(program, limit);
     for (test, outcome) in tests.iter().zip(outcomes(&tests, |test| bench.outcome(test))) {
@@ -137,7 +138,7 @@ pub fn check(program: &Path, folders: &[&Path], limit: Duration) -> bool {
     let missing = tally.missing().into_iter().chain(rows.missing().into_iter().map(String::from));
     failures.extend(missing.map(|what| format!("never occurred: {what}")));
     let mut lines = vec![
-        format!("generated: {} files; {}", SAMPLES + BODIES, tally.summary()),
+        format!("generated: {} files; {}", SAMPLES + BODIES + OVERRIDES, tally.summary()),
         format!("every model gone through: {} settings of {}", counts.searched, counts.settings),
     ];
     lines.extend(rows.lines());

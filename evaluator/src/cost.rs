@@ -1,6 +1,6 @@
 //! What an inspection costs: the price that a cost line gives, what each setting costs, the cheapest explanation.
 //!
-//! From: document 02, [7].
+//! From: document 02, [7], [10].
 //!
 //! | name | meaning |
 //! |---|---|
@@ -10,7 +10,7 @@
 //! | `Cheapest` | a cost and the setting that has it |
 //! | `cheapest` | the lowest cost among the minimal explanations, and the lowest-numbered one that has it |
 
-use crate::question::digits;
+use crate::cause::{digits, Cause};
 
 /// The price of `cents` with a supplement of `per_cent`, which is rounded to the nearest cent, half a cent upwards.
 ///
@@ -24,17 +24,17 @@ pub fn price(cents: u64, per_cent: u64) -> u64 {
     cents + supplement
 }
 
-/// What the setting `s` costs where `prices` are those of the causes: the sum for all that it gives something.
-pub fn cost(s: usize, prices: &[u64]) -> u64 {
-    prices.iter().zip(digits(s, 3, prices.len())).filter(|(_, digit)| *digit > 0).map(|(price, _)| price).sum()
+/// What the setting `s` of `causes` costs where `prices` are theirs: the sum for all that it gives something.
+pub fn cost(s: usize, causes: &[Cause], prices: &[u64]) -> u64 {
+    prices.iter().zip(digits(s, causes)).filter(|(_, digit)| *digit > 0).map(|(price, _)| price).sum()
 }
 
-/// What every setting costs where `prices` are those of the causes: with each further cause the settings before it,
-/// then twice the same with its price added.
-fn costs(prices: &[u64]) -> Vec<u64> {
-    prices.iter().fold(vec![0], |lower, price| {
+/// What every setting of `causes` costs where `prices` are theirs: with each further cause the settings before it, then
+/// for each further choice the same with its price added.
+fn costs(causes: &[Cause], prices: &[u64]) -> Vec<u64> {
+    causes.iter().zip(prices).fold(vec![0], |lower, (cause, price)| {
         let dearer: Vec<u64> = lower.iter().map(|cost| cost + price).collect();
-        [lower, dearer.clone(), dearer].concat()
+        [lower, dearer.repeat(cause.choices.len() - 1)].concat()
     })
 }
 
@@ -45,16 +45,16 @@ pub struct Cheapest {
     pub setting: usize,
 }
 
-/// The lowest cost among the settings `minimal` and the lowest-numbered of them that has it, both 0 if there is none;
-/// `prices` are those of the causes.
+/// The lowest cost among the settings `minimal` of `causes`, whose prices are `prices`, and the lowest-numbered of them
+/// that has it, both 0 if there is none.
 ///
 /// Panics if some setting in `explains` costs less, or is not the first of those that cost as little.
-pub fn cheapest(minimal: &[usize], explains: &[bool], prices: &[u64]) -> Cheapest {
-    let mut ranked: Vec<(u64, usize)> = minimal.iter().map(|s| (cost(*s, prices), *s)).collect();
+pub fn cheapest(minimal: &[usize], explains: &[bool], causes: &[Cause], prices: &[u64]) -> Cheapest {
+    let mut ranked: Vec<(u64, usize)> = minimal.iter().map(|s| (cost(*s, causes, prices), *s)).collect();
     ranked.sort();
     let found =
         ranked.first().map_or(Cheapest::default(), |(cost, setting)| Cheapest { cost: *cost, setting: *setting });
-    let all = costs(prices);
+    let all = costs(causes, prices);
     let explaining = || (0..all.len()).filter(|s| explains[*s]);
     assert!(explaining().all(|s| all[s] >= found.cost), "an explanation costs less than the cheapest minimal one");
     let first = explaining().find(|s| all[*s] == found.cost);

@@ -6,9 +6,10 @@
 use crate::answer::{text, Asked};
 use crate::cheapest_tally::{cost_by, lowest};
 use crate::cost::price;
-use crate::file::{read_by, Numbered, Reading, Rules, CENTS, PER_CENT, RULES};
-use crate::form::{decimal, Form, DIGITS};
+use crate::file::{read_by, Numbered, Rules, CENTS, PER_CENT, RULES};
+use crate::form::{decimal, Form, Spelling, DIGITS, SPELLING};
 use crate::question::ask_unheld;
+use crate::reading::Reading;
 use crate::tree::tokens;
 
 /// A wrong reading: the words, and the rules by which it reads.
@@ -28,9 +29,9 @@ const MISREAD: [Misread; 30] = [
     ("other with at most six digits", numbered(|word| decimal(word).filter(|_| word.len() < DIGITS))),
     ("other with eight digits", numbered(eight_digits)),
     ("other without leading zeros", numbered(|word| decimal(word).filter(|n| n.to_string() == word))),
-    ("other with 16 behind 17", Rules::in_order([6, 7, 20, 8, 9, 17, 16, 10])),
-    ("other with 16 before 8", Rules::in_order([6, 7, 20, 16, 8, 9, 17, 10])),
-    ("other with 16 before 6", Rules::in_order([16, 6, 7, 20, 8, 9, 17, 10])),
+    ("other with 16 behind 17", Rules::in_order([6, 7, 20, 8, 9, 17, 16, 10, 21])),
+    ("other with 16 before 8", Rules::in_order([6, 7, 20, 16, 8, 9, 17, 10, 21])),
+    ("other with 16 before 6", Rules::in_order([16, 6, 7, 20, 8, 9, 17, 10, 21])),
     ("other with 16 at 2,000,000", Rules::checked(16, |_, said| is_over(said, CENTS - 1, PER_CENT))),
     ("other with 16 from 2,000,002 on", Rules::checked(16, |_, said| is_over(said, CENTS + 1, PER_CENT))),
     ("other with 16 at 100 per cent", Rules::checked(16, |_, said| is_over(said, CENTS, PER_CENT - 1))),
@@ -55,7 +56,7 @@ const fn priced(price: fn(u64, u64) -> u64) -> Rules {
 
 /// The rules with the numbers of `number`.
 const fn numbered(number: fn(&str) -> Option<u64>) -> Rules {
-    Rules { number, ..RULES }
+    Rules { spelling: Spelling { number, ..SPELLING }, ..RULES }
 }
 
 /// The rules with the atoms of those forms alone that `names_atoms` takes.

@@ -4,9 +4,10 @@
 
 use crate::answer::{Asked, LIST_SLOTS};
 use crate::case::{Body, Case};
+use crate::cause::has_explaining_subset;
 use crate::formula::{Value, FALSE, TRUE, UNKNOWN};
 use crate::model::Settled;
-use crate::question::{has_explaining_subset, Findings};
+use crate::question::Findings;
 
 /// A wrong reading: the words, and the total that it gives a case of which this is found.
 type Misreading = (&'static str, fn(&Case, &Findings) -> u64);
@@ -61,7 +62,7 @@ fn last_setting(found: &Findings) -> u64 {
 
 /// Whether some proper subset of the setting `s` in `found` explains.
 fn is_above(found: &Findings, s: usize) -> bool {
-    has_explaining_subset(s, found.causes.len(), &found.explains)
+    has_explaining_subset(s, &found.causes, &found.explains)
 }
 
 /// For each round the atoms that are decided after it, added up.

@@ -16,7 +16,8 @@ use crate::sample::{Due, Sample};
 /// The files at one limit: within it, or one past it.
 pub type Edge = fn(&mut Random, usize) -> Sample;
 
-/// Every limit but those of cost lines and of bodies, and the length of comments, which have none of their own.
+/// Every limit but those of cost lines, of bodies and of editions, and the length of comments, which have none of their
+/// own.
 pub const EDGES: [Edge; 10] = [
     atom_count,
     name_length,

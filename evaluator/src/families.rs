@@ -197,7 +197,7 @@ fn some_names(random: &mut Random, names: &[String]) -> Vec<String> {
 
 /// `lines`, one of them repeated now and then, with atom lines of some of `atoms` before them and cost lines and
 /// `queries` behind them or, in half of the draws, in a drawn order.
-fn finished(random: &mut Random, mut lines: Vec<String>, queries: Vec<String>, atoms: &[String]) -> Vec<String> {
+pub fn finished(random: &mut Random, mut lines: Vec<String>, queries: Vec<String>, atoms: &[String]) -> Vec<String> {
     if !lines.is_empty() && random.chance(25) {
         let again = random.pick(&lines).clone();
         lines.insert(0, again);

@@ -1,7 +1,8 @@
 //! The form that a tree of words is.
 //!
-//! From: document 01, The file; document 02, [5], [7], [8], [9].
+//! From: document 01, The file; document 02, [5], [7] to [10].
 
+use crate::cause::{Edition, EDITIONS};
 use crate::constraint::Kind;
 use crate::formula::{Connective, Formula, Literal};
 use crate::tree::Tree;
@@ -18,6 +19,21 @@ pub fn decimal(word: &str) -> Option<u64> {
     word.parse().ok().filter(|_| is_number)
 }
 
+/// The edition that `word` is: its one digit.
+pub fn edition(word: &str) -> Option<Edition> {
+    EDITIONS.into_iter().find(|edition| edition.number().to_string() == word)
+}
+
+/// How the words of a form that are no names are spelled: numbers and editions.
+#[derive(Clone, Copy)]
+pub struct Spelling {
+    pub number: Number,
+    pub edition: fn(&str) -> Option<Edition>,
+}
+
+/// The spelling of the documents.
+pub const SPELLING: Spelling = Spelling { number: decimal, edition };
+
 /// What a line says, with atoms by their names; of a cost line the price in cents and the supplement in per cent.
 pub enum Form {
     Atom(String),
@@ -28,6 +44,7 @@ pub enum Form {
     Seen(Literal<String>),
     Query(Formula<String>),
     Cost(String, u64, u64),
+    Edition(Edition),
 }
 
 /// The form's word of `tree` and the trees behind it.
@@ -49,10 +66,10 @@ fn name(tree: &Tree) -> Option<String> {
     }
 }
 
-/// The number that `tree` is, by `number`.
-fn number(tree: &Tree, number: Number) -> Option<u64> {
+/// What `spelled` makes of the word that `tree` is.
+fn spelled<T>(tree: &Tree, spelled: fn(&str) -> Option<T>) -> Option<T> {
     match tree {
-        Tree::Word(word) => number(word),
+        Tree::Word(word) => spelled(word),
         Tree::List(_) => None,
     }
 }
@@ -91,8 +108,9 @@ fn formula(tree: &Tree) -> Option<Formula<String>> {
     }
 }
 
-/// The form that `tree` is, with length of names and depth left aside, and with numbers by `digits`.
-pub fn form(tree: &Tree, digits: Number) -> Option<Form> {
+/// The form that `tree` is, with length of names and depth left aside, and with numbers and editions by `spelling`.
+pub fn form(tree: &Tree, spelling: &Spelling) -> Option<Form> {
+    let number = |tree| spelled(tree, spelling.number);
     match parts(tree)? {
         ("atom", [n]) => Some(Form::Atom(name(n)?)),
         ("true", [n]) => Some(Form::Fact(name(n)?)),
@@ -102,7 +120,8 @@ pub fn form(tree: &Tree, digits: Number) -> Option<Form> {
         ("avoid", body) => Some(Form::Constraint(Kind::Avoid, literals(body)?)),
         ("seen", [l]) => Some(Form::Seen(literal(l)?)),
         ("query", [f]) => Some(Form::Query(formula(f)?)),
-        ("cost", [n, p, s]) => Some(Form::Cost(name(n)?, number(p, digits)?, number(s, digits)?)),
+        ("cost", [n, p, s]) => Some(Form::Cost(name(n)?, number(p)?, number(s)?)),
+        ("edition", [e]) => Some(Form::Edition(spelled(e, spelling.edition)?)),
         _ => None,
     }
 }
@@ -116,6 +135,7 @@ impl Form {
             Form::Constraint(_, body) => body.iter().map(|l| &l.atom).collect(),
             Form::Seen(l) => vec![&l.atom],
             Form::Query(f) => f.atoms(),
+            Form::Edition(_) => vec![],
         }
     }
 

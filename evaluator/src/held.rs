@@ -1,6 +1,6 @@
 //! The record and the tables that hold a case, made from it and read back.
 //!
-//! From: document 01, Case tables and sound cases; document 02, [1], [5], [7], [8].
+//! From: document 01, Case tables and sound cases; document 02, [1], [5], [7], [8], [10].
 //!
 //! | name | meaning |
 //! |---|---|
@@ -10,9 +10,10 @@
 //! | `Held::is_full` | whether no table is shorter than its size |
 //! | `Held::used` | the same in its used entries, with zeros in the others |
 
-use crate::case::{causes, Body, Case, Clause};
+use crate::case::{Body, Case, Clause};
+use crate::cause::{settings, Edition, SETTINGS};
 use crate::constraint::{Constraint, Kind};
-use crate::file::{ATOMS, CAUSES, CLAUSES, CONSTRAINTS, DEPTH, NAME_BYTES, QUERIES};
+use crate::file::{ATOMS, CLAUSES, CONSTRAINTS, DEPTH, NAME_BYTES, QUERIES};
 use crate::formula::{Connective, Formula, Literal};
 
 /// The bytes of a part of the formula table, one for each query.
@@ -23,7 +24,7 @@ const CONNECTIVES: [Connective; 4] = [Connective::And, Connective::Or, Connectiv
 const NOT: u8 = 64;
 const AND: u8 = 65;
 
-/// A case record: the counts, the nodes of each formula, and the plain and the negated observed atoms.
+/// A case record: the counts, the nodes of each formula, the plain and the negated observed atoms, and the edition.
 #[derive(Clone, PartialEq, Default)]
 pub struct Record {
     pub atoms: u64,
@@ -33,6 +34,7 @@ pub struct Record {
     pub nodes: [u64; QUERIES],
     pub plain: u64,
     pub negated: u64,
+    pub edition: u64,
 }
 
 /// A case record, and tables of their full sizes.
@@ -150,6 +152,7 @@ impl Held {
         record.constraints = case.constraints.len() as u64;
         record.formulas = case.queries.len() as u64;
         [record.plain, record.negated] = masks(&case.observations);
+        record.edition = case.edition.number();
         fill(&mut held.clauses, &case.clauses.iter().flat_map(clause_words).collect::<Vec<_>>());
         fill(&mut held.constraints, &case.constraints.iter().flat_map(constraint_words).collect::<Vec<_>>());
         for (at, query) in case.queries.iter().enumerate() {
@@ -218,7 +221,8 @@ impl Held {
             observations: literals(self.record.plain, self.record.negated, atoms)?,
             queries: (0..formulas).map(|at| self.formula(at, atoms)).collect::<Option<_>>()?,
             prices: self.prices[..atoms].to_vec(),
+            edition: Edition::of(self.record.edition)?,
         };
-        (causes(atoms, &case.clauses).len() <= CAUSES).then_some(case)
+        (settings(&case.causes()) <= SETTINGS).then_some(case)
     }
 }

@@ -8,7 +8,7 @@ use crate::layers_answer::{layering, told, Layering};
 use crate::layers_tally::{met, words};
 use crate::plain::Operation;
 use crate::run::Input;
-use crate::sample::{bodies, sample, shape, SAMPLES, SHAPES};
+use crate::sample::{bodies, editions, sample, shape, SAMPLES, SHAPES};
 use crate::vectors::Vector;
 use std::path::Path;
 use std::time::Duration;
@@ -56,7 +56,7 @@ fn generated(bench: &Bench, seed: u64) -> Result<Judged, String> {
 /// Runs `program` on all case files under `folders` and on the generated files, each for at most `limit`; answers
 /// whether all passed.
 pub fn check(program: &Path, folders: &[&Path], limit: Duration) -> bool {
-    let seeds = (0..SAMPLES + SHAPES).chain(bodies()).collect();
+    let seeds = (0..SAMPLES + SHAPES).chain(bodies()).chain(editions()).collect();
     let drive = Drive { stored, generated, seeds, words: words().collect() };
     drive.check(program, folders, limit)
 }

@@ -2,6 +2,7 @@
 //! reading of the rules.
 
 use crate::case::{Body, Case, Clause};
+use crate::cause::Edition;
 use crate::constraint::Constraint;
 use crate::file::Refusal;
 use crate::formula::Literal;
@@ -15,12 +16,14 @@ const HIGH: u64 = 54;
 type Row = (&'static str, fn(&Result<Layering, Refusal>) -> bool);
 
 /// Everything that is counted; each must occur.
-const ROWS: [Row; 11] = [
+const ROWS: [Row; 13] = [
     ("layered", |own| own.as_ref().is_ok_and(|l| l.numbers.is_some())),
     ("a ring", |own| own.as_ref().is_ok_and(|l| l.numbers.is_none())),
     ("refused", |own| own.is_err()),
     ("refused with 16 or 17", |own| own.as_ref().is_err_and(|refusal| [16, 17].contains(&refusal.number))),
     ("refused with 20", |own| own.as_ref().is_err_and(|refusal| refusal.number == 20)),
+    ("refused with 21", |own| own.as_ref().is_err_and(|refusal| refusal.number == 21)),
+    ("edition 2", |own| own.as_ref().is_ok_and(|l| l.case.edition == Edition::Second)),
     ("a number of 54 and more", |own| own.as_ref().is_ok_and(is_high)),
     ("an atom in its own body", |own| own.as_ref().is_ok_and(names_itself)),
     ("an atom of a cost or an atom line alone", |own| own.as_ref().is_ok_and(|l| has_only_priced(&l.case))),

@@ -7,6 +7,7 @@
 //! | `Answered` | what an operation answers |
 //! | `Answered::text` | its text |
 
+use crate::cause::Edition;
 use crate::cost::Cheapest;
 use crate::file::{Refusal, NAME_BYTES};
 use crate::held::{Held, Record, PART_BYTES};
@@ -14,7 +15,7 @@ use crate::layers::turned;
 use crate::lookup::{Outcome, Pair};
 
 /// The labels of the lines that list a record and tables.
-const LABELS: [&str; 12] = [
+const LABELS: [&str; 13] = [
     "atoms",
     "clauses",
     "constraints",
@@ -22,6 +23,7 @@ const LABELS: [&str; 12] = [
     "nodes",
     "obs_plain",
     "obs_neg",
+    "edition",
     "clause",
     "constraint",
     "formula",
@@ -98,13 +100,15 @@ fn put<T: Copy>(table: &mut [T], width: usize, rows: &[Vec<T>]) -> Result<(), St
     Ok(())
 }
 
-/// The record and the tables that `text` lists; entries that it doesn't list are zero.
+/// The record and the tables that `text` lists; entries that it doesn't list are zero, and without its line the edition
+/// is 1.
 pub fn tables(text: &str) -> Result<Held, String> {
     if let Some(line) = text.lines().find(|line| !LABELS.iter().any(|l| line.split(' ').next() == Some(l))) {
         return Err(format!("{line} has no label"));
     }
     let count = |label| one(text, label, decimal::<u64>).map(|[n]| n);
     let word = |label| one(text, label, hexadecimal).map(|[w]| w);
+    let edition = rows(text, "edition", decimal)?.concat().first().copied();
     let mut held = Held::zeros();
     held.record = Record {
         atoms: count("atoms")?,
@@ -114,6 +118,7 @@ pub fn tables(text: &str) -> Result<Held, String> {
         nodes: one(text, "nodes", decimal)?,
         plain: word("obs_plain")?,
         negated: word("obs_neg")?,
+        edition: edition.unwrap_or(Edition::First.number()),
     };
     let names: Vec<Vec<Vec<u8>>> = rows(text, "name", |name| Ok(name.as_bytes().to_vec()))?;
     put(&mut held.clauses, 3, &rows(text, "clause", hexadecimal)?)?;
@@ -137,10 +142,10 @@ fn entry_lines<T>(label: &str, table: &[T], width: usize, count: u64, show: impl
 
 /// The text of the record and the used entries of `held`.
 fn tables_text(held: &Held) -> String {
-    let Record { atoms, clauses, constraints, formulas, nodes, plain, negated } = &held.record;
+    let Record { atoms, clauses, constraints, formulas, nodes, plain, negated, edition } = &held.record;
     let mut text = format!("atoms {atoms}\nclauses {clauses}\nconstraints {constraints}\nformulas {formulas}\n");
     text.push_str(&format!("nodes {}\n", joined(nodes, " ", |n| n.to_string())));
-    text.push_str(&format!("obs_plain {plain:016x}\nobs_neg {negated:016x}\n"));
+    text.push_str(&format!("obs_plain {plain:016x}\nobs_neg {negated:016x}\nedition {edition}\n"));
     text.push_str(&entry_lines("clause", &held.clauses, 3, *clauses, |w| format!("{w:016x}")));
     text.push_str(&entry_lines("constraint", &held.constraints, 3, *constraints, |w| format!("{w:016x}")));
     for (part, count) in held.formulas.chunks_exact(PART_BYTES).zip(nodes).take(*formulas as usize) {

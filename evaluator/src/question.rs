@@ -1,21 +1,22 @@
 //! The question: which settings explain, which of these are minimal, the verdict on each query, what settling adds up
 //! to, and the cheapest explanation.
 //!
-//! From: document 01, Causes, settings, explanations; The question; document 02, [1], [5], [6], [7].
+//! From: document 01, Causes, settings, explanations; The question; document 02, [1], [5], [6], [7], [10].
 //!
 //! | name | meaning |
 //! |---|---|
-//! | `Choice` | what a set gives a cause |
 //! | `Judged` | what is found of a set |
 //! | `Engine` | a case ready to have sets added |
 //! | `Findings` | the question's answer |
 //! | `ask` | the answer, by one walk for all queries and by one for each |
+//! | `ask_with` | the same with other causes |
 
-use crate::case::{causes, Body, Case};
+use crate::case::{Body, Case};
+use crate::cause::{digits, every_setting, minimal, settings, Cause, Choice};
 use crate::completion::{search_order, Completion, SearchOrder};
 use crate::constraint::Constraint;
 use crate::cost::{cheapest, Cheapest};
-use crate::formula::{Formula, Literal, Value, TRUE, UNKNOWN};
+use crate::formula::{Formula, Literal, Value, FALSE, TRUE, UNKNOWN};
 use crate::model::{Program, Settled};
 pub use crate::verdict::Verdict;
 
@@ -24,20 +25,8 @@ pub use crate::verdict::Verdict;
 const TRIES: usize = 100_000;
 const LEAST_TRIES: usize = 500;
 
-/// The most causes for which every set is judged where nothing explains.
-const TRIED_CAUSES: usize = 5;
-
-/// What a set gives a cause.
-#[derive(Clone, Copy)]
-enum Choice {
-    Nothing,
-    Fact,
-    Assumption,
-    Both,
-}
-
-/// The choices by digit: the first three are those of a setting.
-const CHOICES: [Choice; 4] = [Choice::Nothing, Choice::Fact, Choice::Assumption, Choice::Both];
+/// The most sets that are all judged where nothing explains: those of 5 causes without clauses.
+const TRIED_SETS: u128 = 1_024;
 
 /// What is found of a set: whether it explains, the value of each query and what it settles to.
 struct Judged {
@@ -50,7 +39,7 @@ struct Judged {
 /// atoms over all settings, the verdict on each query, and the cheapest of the minimal ones; what each setting settles
 /// to, and in how many of them every model was gone through.
 pub struct Findings {
-    pub causes: Vec<usize>,
+    pub causes: Vec<Cause>,
     pub explains: Vec<bool>,
     pub minimal: Vec<usize>,
     pub rounds: u64,
@@ -61,9 +50,10 @@ pub struct Findings {
     pub searched: usize,
 }
 
-/// A case taken apart: its program, its weak completion, its causes and their prices, what is asked of it, and in how
-/// many of the settled sets every model was gone through. A cap on the rounds is for showing what goes wrong with one;
-/// what is settled is not held to the definition where another walk has done so.
+/// A case taken apart: its program, its weak completion, its causes with the bodies that they have without a set and
+/// with their prices, what is asked of it, and in how many of the settled sets every model was gone through. A cap on
+/// the rounds is for showing what goes wrong with one; what is settled is not held to the definition where another walk
+/// has done so.
 pub struct Engine {
     program: Program,
     completion: Completion,
@@ -72,47 +62,31 @@ pub struct Engine {
     cap: Option<u64>,
     held: bool,
     pub searched: usize,
-    pub causes: Vec<usize>,
+    pub causes: Vec<Cause>,
+    bodies: Vec<Vec<Body>>,
     constraints: Vec<Constraint>,
     observations: Vec<Literal<usize>>,
     queries: Vec<Formula<usize>>,
     prices: Vec<u64>,
 }
 
-impl Choice {
-    /// The bodies that this choice gives its cause.
-    fn bodies(self) -> Vec<Body> {
-        match self {
-            Choice::Nothing => vec![],
-            Choice::Fact => vec![Body::True],
-            Choice::Assumption => vec![Body::False],
-            Choice::Both => vec![Body::True, Body::False],
-        }
-    }
-}
-
-/// The digits of `n` to base `base`, lowest first, `count` of them.
-pub fn digits(n: usize, base: usize, count: usize) -> Vec<usize> {
-    (0..count)
-        .scan(n, |rest, _| {
-            let digit = *rest % base;
-            *rest /= base;
-            Some(digit)
-        })
-        .collect()
-}
-
 impl Engine {
     /// The engine of `case`.
     pub fn new(case: Case) -> Engine {
+        let causes = case.causes();
+        Engine::with(case, causes)
+    }
+
+    /// The engine of `case` with `causes` for its causes.
+    fn with(case: Case, causes: Vec<Cause>) -> Engine {
         let atoms = case.names.len();
-        let causes = causes(atoms, &case.clauses);
         let program = Program::new(atoms, case.clauses);
         let equivalences: Vec<_> = (0..atoms).map(|a| program.equivalence(a)).collect();
         let order = search_order(&equivalences);
         let completion = Completion { equivalences };
-        let tries = LEAST_TRIES.max(TRIES / 3usize.pow(causes.len() as u32));
-        let prices = causes.iter().map(|cause| u64::from(case.prices[*cause])).collect();
+        let tries = LEAST_TRIES.max(TRIES / settings(&causes) as usize);
+        let bodies = causes.iter().map(|cause| program.bodies[cause.atom].clone()).collect();
+        let prices = causes.iter().map(|cause| u64::from(case.prices[cause.atom])).collect();
         let Case { constraints, observations, queries, .. } = case;
         Engine {
             program,
@@ -123,6 +97,7 @@ impl Engine {
             held: true,
             searched: 0,
             causes,
+            bodies,
             constraints,
             observations,
             queries,
@@ -132,9 +107,9 @@ impl Engine {
 
     /// What the program with the choices `set` added settles to: its least model.
     fn settle(&mut self, set: &[Choice]) -> Settled {
-        for (cause, choice) in self.causes.iter().zip(set) {
-            self.program.bodies[*cause] = choice.bodies();
-            self.completion.equivalences[*cause] = self.program.equivalence(*cause);
+        for ((cause, bodies), choice) in self.causes.iter().zip(&self.bodies).zip(set) {
+            self.program.bodies[cause.atom] = [bodies.as_slice(), &choice.bodies()].concat();
+            self.completion.equivalences[cause.atom] = self.program.equivalence(cause.atom);
         }
         if let Some(cap) = self.cap {
             return self.program.settle_within(cap);
@@ -160,7 +135,7 @@ impl Engine {
 
     /// What the setting `s` settles to.
     pub fn settle_setting(&mut self, s: usize) -> Settled {
-        let set: Vec<Choice> = digits(s, 3, self.causes.len()).into_iter().map(|d| CHOICES[d]).collect();
+        let set: Vec<Choice> = self.causes.iter().zip(digits(s, &self.causes)).map(|(c, d)| c.choices[d]).collect();
         self.settle(&set)
     }
 
@@ -174,26 +149,11 @@ impl Engine {
         Judged { explains: observed && met, queries, settled }
     }
 
-    /// What is found of every set made of the first `base` choices, by number.
-    fn judge_all(&mut self, base: usize) -> Vec<Judged> {
-        let count = self.causes.len();
-        let set = |n| digits(n, base, count).into_iter().map(|d| CHOICES[d]).collect::<Vec<_>>();
-        (0..base.pow(count as u32)).map(|n| self.judge(&set(n))).collect()
+    /// What is found of every set that gives each of the causes one of its choices in `causes`, by number.
+    fn judge_all(&mut self, causes: &[Cause]) -> Vec<Judged> {
+        let set = |digits: Vec<usize>| causes.iter().zip(digits).map(|(c, d)| c.choices[d]).collect::<Vec<_>>();
+        every_setting(causes).into_iter().map(|digits| self.judge(&set(digits))).collect()
     }
-}
-
-/// Whether some proper subset of the setting `s` of `count` causes explains, by trying each of them.
-pub fn has_explaining_subset(s: usize, count: usize, explains: &[bool]) -> bool {
-    let parts: Vec<usize> = digits(s, 3, count)
-        .into_iter()
-        .enumerate()
-        .map(|(i, d)| d * 3usize.pow(i as u32))
-        .filter(|part| *part > 0)
-        .collect();
-    (1usize..1 << parts.len()).any(|dropped| {
-        let without: usize = parts.iter().enumerate().filter(|(i, _)| dropped >> i & 1 == 1).map(|(_, p)| p).sum();
-        explains[s - without]
-    })
 }
 
 /// The answer to the question on `case`.
@@ -220,6 +180,11 @@ pub fn ask_unheld(case: Case) -> Findings {
     findings(Engine { held: false, ..Engine::new(case) })
 }
 
+/// The answer of a walk that takes `causes` for the causes of `case`.
+pub fn ask_with(case: Case, causes: Vec<Cause>) -> Findings {
+    findings(Engine { held: false, ..Engine::with(case, causes) })
+}
+
 /// The answer to the question on `case` with `query` as its one query, all atoms kept.
 fn ask_alone(case: &Case, query: &Formula<usize>) -> Findings {
     ask_unheld(Case { queries: vec![query.clone()], ..case.clone() })
@@ -232,34 +197,46 @@ pub fn ask_capped(case: Case, cap: u64) -> Findings {
 
 /// The decided atoms over all settings, by what each round of each of them newly decided.
 ///
-/// Panics if they are others by atom, that is, by the settings in which each is decided; or if a cause is not decided
-/// in two of three settings.
-fn decided_total(settled: &[Settled], causes: &[usize]) -> u64 {
+/// Panics if they are others by atom, that is, by the settings in which each is decided.
+fn decided_total(settled: &[Settled]) -> u64 {
     let total = settled.iter().map(|s| s.decided()).sum();
     let times = |atom: usize| settled.iter().filter(|s| s.model[atom] != UNKNOWN).count();
     let by_atom: usize = (0..settled[0].model.len()).map(times).sum();
     assert!(by_atom as u64 == total, "the decided atoms are others by round and by atom");
-    let in_two_of_three = |cause: &usize| 3 * times(*cause) == 2 * settled.len();
-    assert!(causes.iter().all(in_two_of_three), "a cause is not decided in two of three settings");
     total
+}
+
+/// Holds what the settings of `causes` settle to: each cause is true in its share of them, one of as many as it has
+/// choices, and false in as many.
+///
+/// Panics if one is not.
+fn hold_shares(settled: &[Settled], causes: &[Cause]) {
+    for Cause { atom, choices } in causes {
+        let times = |value: Value| settled.iter().filter(|s| s.model[*atom] == value).count();
+        let has_share = |value: Value| choices.len() * times(value) == settled.len();
+        assert!(has_share(TRUE) && has_share(FALSE), "a cause is not decided in its share of the settings");
+    }
 }
 
 /// What `engine` finds over all settings.
 fn findings(mut engine: Engine) -> Findings {
-    let count = engine.causes.len();
-    let judged = engine.judge_all(3);
+    let causes = engine.causes.clone();
+    let judged = engine.judge_all(&causes);
     let searched = engine.searched;
     let explains: Vec<bool> = judged.iter().map(|j| j.explains).collect();
-    let minimal: Vec<usize> =
-        (0..judged.len()).filter(|s| explains[*s] && !has_explaining_subset(*s, count, &explains)).collect();
-    if minimal.is_empty() && count <= TRIED_CAUSES {
-        assert!(engine.judge_all(4).iter().all(|j| !j.explains), "a set explains and no setting does");
+    let minimal = minimal(&causes, &explains);
+    let sets: Vec<Cause> = causes.iter().map(|cause| cause.in_sets()).collect();
+    if engine.held && minimal.is_empty() && settings(&sets) <= TRIED_SETS {
+        assert!(engine.judge_all(&sets).iter().all(|j| !j.explains), "a set explains and no setting does");
     }
     let values = |query: usize| minimal.iter().map(|s| judged[*s].queries[query]).collect::<Vec<_>>();
     let verdicts = (0..engine.queries.len()).map(|query| Verdict::of(&values(query))).collect();
     let settled: Vec<Settled> = judged.into_iter().map(|j| j.settled).collect();
+    if engine.held {
+        hold_shares(&settled, &causes);
+    }
     let rounds = settled.iter().map(|s| s.rounds()).sum();
-    let decided = decided_total(&settled, &engine.causes);
-    let cheapest = cheapest(&minimal, &explains, &engine.prices);
-    Findings { causes: engine.causes, explains, minimal, rounds, decided, verdicts, cheapest, settled, searched }
+    let decided = decided_total(&settled);
+    let cheapest = cheapest(&minimal, &explains, &causes, &engine.prices);
+    Findings { causes, explains, minimal, rounds, decided, verdicts, cheapest, settled, searched }
 }

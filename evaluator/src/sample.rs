@@ -4,11 +4,13 @@ use crate::body_edges::BODY_EDGES;
 use crate::cost_edges::COST_EDGES;
 use crate::damage::damaged;
 use crate::edges::EDGES;
+use crate::edition_edges::{with_odd_line, EDITION_EDGES};
 use crate::families::{chain, diagnosis, program, wide};
 use crate::file::LITERALS;
 use crate::layout::file;
 use crate::lists::{list_edge, KINDS};
 use crate::long_bodies::lengthened;
+use crate::overrides::{edition_line, overrides, placed};
 use crate::random::Random;
 use crate::shapes::{shaped, Shaped};
 use crate::text_edges::{line_edge, text_edge, Edged};
@@ -25,6 +27,9 @@ pub const TEXTS: u64 = 400;
 
 /// The number of generated files with long bodies; their seeds are the numbers from `SAMPLES` + `SHAPES` + `TEXTS` on.
 pub const BODIES: u64 = 1_200;
+
+/// The number of generated files with edition lines; their seeds are the numbers behind those with long bodies.
+pub const OVERRIDES: u64 = 1_600;
 
 /// What the generator knows of a file's answer.
 #[derive(Clone, Copy)]
@@ -57,6 +62,11 @@ pub fn bodies() -> Range<u64> {
     start..start + BODIES
 }
 
+/// The seeds of the files with edition lines.
+pub fn editions() -> Range<u64> {
+    bodies().end..bodies().end + OVERRIDES
+}
+
 /// The file of `seed`: below `SAMPLES` one of 20 stands at a limit, one of 100 at one of cost lines, half are damaged,
 /// the others are whole.
 pub fn sample(seed: u64) -> Sample {
@@ -69,6 +79,9 @@ pub fn sample(seed: u64) -> Sample {
     let mut random = Random::new(seed);
     if bodies().contains(&seed) {
         return long_bodies(&mut random, (seed - bodies().start) as usize);
+    }
+    if editions().contains(&seed) {
+        return edition(&mut random, (seed - editions().start) as usize);
     }
     match seed % 100 {
         n if n % 20 == 0 => edge(&mut random, seed as usize / 20),
@@ -121,6 +134,37 @@ fn long_bodies(random: &mut Random, at: usize) -> Sample {
         return Sample { bytes, due: Due::Read };
     }
     Sample { bytes: damaged(random, bytes), due: Due::Unknown }
+}
+
+/// The file number `at` of those with edition lines: a quarter stands at a limit, the kinds in turn, each from both
+/// sides in turn; half has atoms that are assumed alone, one of ten of these no edition line; the others are of the
+/// families, damaged or with an edition line more in two of three draws.
+fn edition(random: &mut Random, at: usize) -> Sample {
+    if at % 4 == 0 {
+        return EDITION_EDGES[at / 4 % EDITION_EDGES.len()](random, at / 4 / EDITION_EDGES.len() % 2);
+    }
+    let line = edition_line(random);
+    if at % 4 != 3 {
+        let (threes, twos) = *random.pick(&[(0, 2), (0, 3), (1, 1), (1, 2), (1, 3), (2, 1), (2, 2), (3, 2), (1, 4)]);
+        let lines = overrides(random, threes, twos);
+        let lines = if random.chance(90) { placed(random, lines, line) } else { lines };
+        return Sample { bytes: file(random, &lines), due: Due::Read };
+    }
+    let causes = random.between(0, 3);
+    let lines = family(random, causes);
+    let lines = placed(random, lines, line);
+    let bytes = match random.below(3) {
+        0 => file(random, &lines),
+        1 => {
+            let lines = with_odd_line(random, lines);
+            file(random, &lines)
+        }
+        _ => {
+            let bytes = file(random, &lines);
+            damaged(random, bytes)
+        }
+    };
+    Sample { bytes, due: Due::Unknown }
 }
 
 /// A lawful file with at most `causes` causes, or one if that is 0 and the family needs one.

@@ -3,17 +3,19 @@
 use crate::answer::{answer, LIST_SLOTS};
 use crate::body_edges::BODY_EDGES;
 use crate::case::Case;
+use crate::cause::{digits, Cause, SETTINGS};
 use crate::edges::{Edge, EDGES};
+use crate::edition_edges::EDITION_EDGES;
 use crate::file::{
     ATOMS, CAUSES, CENTS, CLAUSES, CONSTRAINTS, DEPTH, FILE_BYTES, LINE_BYTES, LITERALS, NAME_BYTES, PER_CENT, QUERIES,
 };
 use crate::form::DIGITS;
 use crate::formula::{Value, FALSE, TRUE};
-use crate::question::{ask, ask_capped, digits, Engine, Findings};
+use crate::question::{ask, ask_capped, Engine, Findings};
 use crate::random::Random;
 
 /// The limits in the manual's order: the words, the number, and the files at it.
-const LIMITS: [(&str, usize, Edge); 9] = [
+const LIMITS: [(&str, usize, Edge); 8] = [
     ("names in a file", ATOMS, EDGES[0]),
     ("bytes of a name", NAME_BYTES, EDGES[1]),
     ("clauses, that is `true`, `false` and `if` lines", CLAUSES, EDGES[5]),
@@ -22,7 +24,13 @@ const LIMITS: [(&str, usize, Edge); 9] = [
     ("bytes of a line that is no comment, without its LF", LINE_BYTES, EDGES[4]),
     ("bytes of a file", FILE_BYTES, EDGES[7]),
     ("depth of a query's formula", DEPTH, EDGES[3]),
-    ("causes", CAUSES, EDGES[2]),
+];
+
+/// The limits of causes and editions, behind that of queries.
+const CAUSE_LIMITS: [(&str, usize, Edge); 3] = [
+    ("causes without a clause", CAUSES, EDGES[2]),
+    ("settings, that is the product of the causes' choices", SETTINGS as usize, EDITION_EDGES[0]),
+    ("`edition` lines", 1, EDITION_EDGES[1]),
 ];
 
 /// The limits of cost lines in the manual's order: the words, the number, and a line one past it, behind a first one.
@@ -51,15 +59,15 @@ fn word(v: Value) -> &'static str {
     }
 }
 
-/// Whether the setting `t` is a proper subset of `s`, for `count` causes.
-fn is_smaller(t: usize, s: usize, count: usize) -> bool {
-    t != s && digits(t, 3, count).iter().zip(digits(s, 3, count)).all(|(d, e)| *d == 0 || *d == e)
+/// Whether the setting `t` of `causes` is a proper subset of `s`.
+fn is_smaller(t: usize, s: usize, causes: &[Cause]) -> bool {
+    t != s && digits(t, causes).iter().zip(digits(s, causes)).all(|(d, e)| *d == 0 || *d == e)
 }
 
 /// What the manual says of the setting `s`.
 fn remark(found: &Findings, s: usize) -> String {
     let smaller: Vec<String> =
-        (0..s).filter(|t| found.explains[*t] && is_smaller(*t, s, found.causes.len())).map(|t| t.to_string()).collect();
+        (0..s).filter(|t| found.explains[*t] && is_smaller(*t, s, &found.causes)).map(|t| t.to_string()).collect();
     match (found.explains[s], smaller.as_slice()) {
         (false, _) => String::from("no"),
         (true, []) => String::from("yes, minimal"),
@@ -88,8 +96,8 @@ pub fn settings(case: Case, shown: &[&str]) -> Vec<String> {
 pub fn caps(case: Case) -> Vec<String> {
     let line = |cap: &str, found: Findings| {
         let explanation = |s: &usize| {
-            let chosen = found.causes.iter().zip(digits(*s, 3, found.causes.len())).filter(|(_, d)| *d > 0);
-            chosen.map(|(c, _)| case.names[*c].as_str()).collect::<Vec<_>>().join("+")
+            let chosen = found.causes.iter().zip(digits(*s, &found.causes)).filter(|(_, d)| *d > 0);
+            chosen.map(|(c, _)| case.names[c.atom].as_str()).collect::<Vec<_>>().join("+")
         };
         let explanations: Vec<String> = found.minimal.iter().map(explanation).collect();
         let verdicts: Vec<&str> = found.verdicts.iter().map(|v| v.word()).collect();
@@ -112,8 +120,8 @@ pub fn limits() -> Vec<String> {
     };
     let queries = [refusal(&b"(query a)\n".repeat(QUERIES + 1)), refusal(b"")];
     let mut rows: Vec<String> = LIMITS.iter().map(row).collect();
-    let asked = format!("| queries | {QUERIES}, and no fewer than 1 | {}, {} |", queries[0], queries[1]);
-    rows.insert(LIMITS.len() - 1, asked);
+    rows.push(format!("| queries | {QUERIES}, and no fewer than 1 | {}, {} |", queries[0], queries[1]));
+    rows.extend(CAUSE_LIMITS.iter().map(row));
     rows.extend(COST_LIMITS.iter().map(|(what, most, line)| {
         let file = format!("(query a)\n(cost a 0 0)\n{line}\n");
         format!("| {what} | {} | {} |", grouped(*most), refusal(file.as_bytes()))

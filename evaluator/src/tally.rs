@@ -5,13 +5,13 @@ use crate::file::{LINE_BYTES, QUERIES};
 use crate::verdict::VERDICTS;
 
 /// The refusals that a file can meet.
-const REFUSALS: [usize; 14] = [2, 3, 4, 5, 6, 7, 8, 9, 10, 11, 12, 16, 17, 20];
+const REFUSALS: [usize; 15] = [2, 3, 4, 5, 6, 7, 8, 9, 10, 11, 12, 16, 17, 20, 21];
 
 /// Counts of answers by refusal number, by verdict, of several queries, of long lists, and of long comments in files
 /// that are read, or before the line that is refused.
 #[derive(Default)]
 pub struct Tally {
-    refusals: [usize; 21],
+    refusals: [usize; 22],
     verdicts: [usize; 4],
     several_queries: usize,
     most_queries: usize,

@@ -5,7 +5,7 @@ use crate::compare::differing;
 use crate::drive::{Drive, Judged};
 use crate::plain::Operation;
 use crate::run::Input;
-use crate::sample::{bodies, edged, sample};
+use crate::sample::{edged, editions, sample};
 use crate::tidy_tally::{met, words, Tidied};
 use crate::vectors::Vector;
 use crate::writing::{tidied, tidy_text};
@@ -58,6 +58,6 @@ fn generated(bench: &Bench, seed: u64) -> Result<Judged, String> {
 /// Runs `program` on all case files under `folders` and on the generated files, each for at most `limit`; answers
 /// whether all passed.
 pub fn check(program: &Path, folders: &[&Path], limit: Duration) -> bool {
-    let drive = Drive { stored, generated, seeds: (0..bodies().end).collect(), words: words().collect() };
+    let drive = Drive { stored, generated, seeds: (0..editions().end).collect(), words: words().collect() };
     drive.check(program, folders, limit)
 }

@@ -1,9 +1,10 @@
 //! How many files were written or refused, at which limits their texts stood, and how many would be written otherwise
 //! under a wrong reading of the rules.
 //!
-//! From: document 02, [8], [9].
+//! From: document 02, [8], [9], [10].
 
 use crate::case::{Body, Case};
+use crate::cause::Edition;
 use crate::file::{Refusal, FILE_BYTES, LINE_BYTES, LITERALS};
 use crate::formula::Literal;
 use crate::writing::{joined, lines, Sections, Way, WAY};
@@ -18,20 +19,22 @@ type Row = (&'static str, fn(&[u8], &Tidied) -> bool);
 type Miswritten = (&'static str, Way);
 
 /// What is counted of a file; each must occur.
-const ROWS: [Row; 9] = [
+const ROWS: [Row; 11] = [
     ("written", |_, own| own.is_ok()),
     ("written with more bytes", |file, own| own.as_ref().is_ok_and(|(_, text)| text.len() > file.len())),
     ("refused by reading", |_, own| own.as_ref().is_err_and(|refusal| refusal.number != 18)),
     ("refused with 20", |_, own| own.as_ref().is_err_and(|refusal| refusal.number == 20)),
+    ("refused with 21", |_, own| own.as_ref().is_err_and(|refusal| refusal.number == 21)),
     ("refused with 18", |_, own| own.as_ref().is_err_and(|refusal| refusal.number == 18)),
     ("a line of 200 bytes", |_, own| own.as_ref().is_ok_and(|(_, text)| text.lines().any(|l| l.len() == LINE_BYTES))),
     ("a text of 32,768 bytes", |_, own| own.as_ref().is_ok_and(|(_, text)| text.len() == FILE_BYTES)),
     ("an atom plain and negated in a body", |_, own| own.as_ref().is_ok_and(|(case, _)| has_both(case))),
     ("a body of 11 literals", |_, own| own.as_ref().is_ok_and(|(case, _)| has_longest(case))),
+    ("edition 2", |_, own| own.as_ref().is_ok_and(|(case, _)| case.edition == Edition::Second)),
 ];
 
-/// The wrong ways: of literals, of observations, of prices, of the order of lines, of spaces.
-const MISWRITTEN: [Miswritten; 16] = [
+/// The wrong ways: of literals, of observations, of prices, of the edition, of the order of lines, of spaces.
+const MISWRITTEN: [Miswritten; 21] = [
     ("other with literals as in the file", Way { body: <[_]>::to_vec, ..WAY }),
     ("other with negated literals before plain ones", Way { body: negated_first, ..WAY }),
     ("other with literals by their atoms alone", Way { body: by_atom, ..WAY }),
@@ -40,12 +43,17 @@ const MISWRITTEN: [Miswritten; 16] = [
     ("other with observations by their atoms alone", Way { observations: by_atom, ..WAY }),
     ("other with a line for a price of 0", Way { has_line: |_| true, ..WAY }),
     ("other without cost lines", Way { has_line: |_| false, ..WAY }),
+    ("other without the line of edition 2", Way { has_edition: |_| false, ..WAY }),
+    ("other with a line of edition 1", Way { has_edition: |_| true, ..WAY }),
+    ("other with the edition before atoms", Way { order: |s| swapped(s, 0, 1), ..WAY }),
+    ("other with the edition behind clauses", Way { order: |s| swapped(s, 1, 2), ..WAY }),
+    ("other with the edition at the end", Way { order: |s| last(s, 1), ..WAY }),
     ("other without atom lines", Way { order: without_atoms, ..WAY }),
-    ("other with facts and assumptions before rules", Way { order: |s| sorted(s, 1, "(if "), ..WAY }),
-    ("other with never lines before avoid lines", Way { order: |s| sorted(s, 2, "(avoid "), ..WAY }),
-    ("other with constraints before clauses", Way { order: |s| swapped(s, 1, 2), ..WAY }),
-    ("other with queries before observations", Way { order: |s| swapped(s, 3, 4), ..WAY }),
-    ("other with costs before queries", Way { order: |s| swapped(s, 4, 5), ..WAY }),
+    ("other with facts and assumptions before rules", Way { order: |s| sorted(s, 2, "(if "), ..WAY }),
+    ("other with never lines before avoid lines", Way { order: |s| sorted(s, 3, "(avoid "), ..WAY }),
+    ("other with constraints before clauses", Way { order: |s| swapped(s, 2, 3), ..WAY }),
+    ("other with queries before observations", Way { order: |s| swapped(s, 4, 5), ..WAY }),
+    ("other with costs before queries", Way { order: |s| swapped(s, 5, 6), ..WAY }),
     ("other with a space before an inner bracket", Way { spaces: |line| String::from(line), ..WAY }),
     ("other with a space behind an inner bracket", Way { spaces: spaced_behind, ..WAY }),
 ];
@@ -97,6 +105,12 @@ fn sorted(mut sections: Sections, at: usize, front: &str) -> Sections {
 /// `sections` with two exchanged.
 fn swapped(mut sections: Sections, one: usize, other: usize) -> Sections {
     sections.swap(one, other);
+    sections
+}
+
+/// `sections` with one of them behind the others.
+fn last(mut sections: Sections, at: usize) -> Sections {
+    sections[at..].rotate_left(1);
     sections
 }
 

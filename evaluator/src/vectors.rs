@@ -1,7 +1,8 @@
 //! The vectors of document 02's requests that call an operation: `NAME.args` gives it, `NAME.case` or `NAME.tables`
 //! what it runs on if it takes a case, `NAME.out` its answer.
 
-use crate::case::{causes, Case};
+use crate::case::Case;
+use crate::cause::settings;
 use crate::file;
 use crate::formula::{FALSE, TRUE};
 use crate::held::Held;
@@ -26,14 +27,9 @@ pub struct Vector {
     pub expected: String,
 }
 
-/// The number of settings of `case`.
-fn settings(case: &Case) -> usize {
-    3usize.pow(causes(case.names.len(), &case.clauses).len() as u32)
-}
-
 /// What settling the setting `setting` of `case` answers.
 fn settled(case: Case, setting: u64) -> Answered {
-    if setting >= settings(&case) as u64 {
+    if u128::from(setting) >= settings(&case.causes()) {
         return Answered::Refused(14);
     }
     let settled = Engine::new(case).settle_setting(setting as usize);
@@ -43,7 +39,7 @@ fn settled(case: Case, setting: u64) -> Answered {
 
 /// What the question on `case` answers with a list of `slots` slots and a work area of `bytes` zeros.
 fn asked(case: Case, slots: usize, bytes: usize) -> Answered {
-    if bytes < settings(&case) {
+    if (bytes as u128) < settings(&case.causes()) {
         return Answered::Refused(15);
     }
     let found = ask(case);

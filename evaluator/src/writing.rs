@@ -1,6 +1,6 @@
 //! Writing a case back: the text of a record and tables, and what is refused.
 //!
-//! From: document 02, [8], [9].
+//! From: document 02, [8], [9], [10].
 //!
 //! | name | meaning |
 //! |---|---|
@@ -10,20 +10,22 @@
 //! | `tidied` | what the program `tidy` should write for a file |
 
 use crate::case::{Body, Case, Clause};
+use crate::cause::Edition;
 use crate::file::{read, read_by, Refusal, Rules, CENTS, FILE_BYTES, LINE_BYTES, LITERALS, NAME_BYTES};
 use crate::formula::{Connective, Formula, Literal};
 use crate::held::Held;
 use std::collections::BTreeSet;
 
-/// The lines of a case by what they say: atoms, clauses, constraints, observations, queries, costs.
-pub type Sections = [Vec<String>; 6];
+/// The lines of a case by what they say: atoms, edition, clauses, constraints, observations, queries, costs.
+pub type Sections = [Vec<String>; 7];
 
-/// How a case is written: the literals of a body, the observations, whether a price has a line, the order of the
-/// sections, and the spaces of a line that has one between any two words and brackets but for those before `)` and
-/// behind `(`.
+/// How a case is written: the literals of a body, the observations, whether an edition has a line, whether a price has
+/// one, the order of the sections, and the spaces of a line that has one between any two words and brackets but for
+/// those before `)` and behind `(`.
 pub struct Way {
     pub body: fn(&[Literal<usize>]) -> Vec<Literal<usize>>,
     pub observations: fn(&[Literal<usize>]) -> Vec<Literal<usize>>,
+    pub has_edition: fn(Edition) -> bool,
     pub has_line: fn(u32) -> bool,
     pub order: fn(Sections) -> Sections,
     pub spaces: fn(&str) -> String,
@@ -33,6 +35,7 @@ pub struct Way {
 pub const WAY: Way = Way {
     body: plain_first,
     observations: plain_first,
+    has_edition: |edition| edition == Edition::Second,
     has_line: |price| price > 0,
     order: |sections| sections,
     spaces: squeezed,
@@ -93,8 +96,10 @@ pub fn lines(way: &Way, case: &Case) -> Vec<String> {
     let seen = (way.observations)(&case.observations);
     let costs = names.iter().zip(&case.prices).filter(|(_, price)| (way.has_line)(**price));
     let constraints = case.constraints.iter();
+    let edition = Some(case.edition).filter(|edition| (way.has_edition)(*edition));
     let sections = [
         names.iter().map(|name| format!("(atom {name})")).collect(),
+        edition.iter().map(|edition| format!("(edition {})", edition.number())).collect(),
         case.clauses.iter().map(|clause| clause_line(way, names, clause)).collect(),
         constraints.map(|c| format!("({} {})", c.kind.word(), body_text(names, &(way.body)(&c.body)))).collect(),
         seen.iter().map(|l| format!("(seen {})", body_text(names, std::slice::from_ref(l)))).collect(),
@@ -137,7 +142,8 @@ fn long_body(case: &Case) -> Option<Refusal> {
         Body::All(body) => count(body),
     });
     let mut bodies = clauses.chain(case.constraints.iter().map(|c| count(&c.body)));
-    bodies.position(|n| n > LITERALS).map(|at| Refusal { number: 20, line: case.names.len() + at + 1 })
+    let before = case.names.len() + usize::from(case.edition == Edition::Second);
+    bodies.position(|n| n > LITERALS).map(|at| Refusal { number: 20, line: before + at + 1 })
 }
 
 /// Holds `text`, that of `held`, which holds `case`, to the way back: read, it gives the same record and tables in their
