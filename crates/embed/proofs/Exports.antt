@@ -31,12 +31,12 @@ frontWords a =
 pub found-put : (a : found.Answer) (old : List ℕ) {mid back : List ℕ} → mid ≡ over (frontWords a) old
     → back ≡ over (a .found .nodes ++ (a .found .edition ∷ [])) (midOf 7 (length mid - 7) mid)
     → putMid 7 (length mid - 7) mid back ≡ over (a .line ∷ caseWords (a .found)) old
-found-put a old = over-behind (frontWords a) _ old refl
+found-put a old = over-behind (frontWords a) (a .found .nodes ++ (a .found .edition ∷ [])) old refl
 
 pub nodes-put : (c : Case) (old : List ℕ) {mid back : List ℕ} → 16 ≡ length (c .nodes) → mid ≡ over (c .nodes) old
     → back ≡ over (c .edition ∷ []) (midOf 16 (length mid - 16) mid)
     → putMid 16 (length mid - 16) mid back ≡ over (c .nodes ++ (c .edition ∷ [])) old
-nodes-put c old = over-behind (c .nodes) _ old
+nodes-put c old = over-behind (c .nodes) (c .edition ∷ []) old
 
 pub asked-put : (a : asked.Answer) (old : List ℕ) {mid back : List ℕ} → 16 ≡ length (a .verdicts)
     → mid ≡ over (a .verdicts) old

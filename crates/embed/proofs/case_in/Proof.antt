@@ -3,8 +3,8 @@ use borrow.Author.Needs.{needs}
 use Rattle.embed.proofs.case_in.Statement.{statement}
 use Rattle.embed.proofs.case_in.Tie as tie
 
-abbrev counted : tie.After-shared-slice-known7 → tie.After-counts-in
-counted c = c .before .before .before .before .before .before
+abbrev counted : tie.After-shared-slice-known8 → tie.After-counts-in
+counted c = c .before .before .before .before .before .before .before
 
 sub-counts-in : tie.Need-sub-counts-in
 sub-counts-in c = search needs
@@ -36,6 +36,9 @@ shared-slice-read-t19 c = search needs
 shared-slice-read-t21 : tie.Need-shared-slice-read-t21
 shared-slice-read-t21 c = search needs
 
+shared-slice-read-t23 : tie.Need-shared-slice-read-t23
+shared-slice-read-t23 c = search needs
+
 returns : tie.Need-returns
 returns c = rw (counted c .counts-in .ensures)
 
@@ -53,4 +56,5 @@ case-in-spec =
     shared-slice-read-t16
     shared-slice-read-t19
     shared-slice-read-t21
+    shared-slice-read-t23
     returns)

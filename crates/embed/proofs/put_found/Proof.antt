@@ -5,8 +5,8 @@ use Rattle.embed.proofs.Exports.{found-put}
 use Rattle.embed.proofs.put_found.Statement.{statement}
 use Rattle.embed.proofs.put_found.Tie as tie
 
-cast-t6 : tie.Need-cast-t6
-cast-t6 c = search needs
+cast-t5 : tie.Need-cast-t5
+cast-t5 c = search needs
 
 slice-aggregate-put-words : tie.Need-slice-aggregate-put-words
 slice-aggregate-put-words c = search needs
@@ -36,7 +36,7 @@ pub put-found-spec : {M : Type 1} → statement M
 put-found-spec =
     tie.close
     (tie.spec
-    cast-t6
+    cast-t5
     slice-aggregate-put-words
     put-words-requires
     sub-put-nodes
