@@ -4,7 +4,6 @@
 -- Settings: how many settings there are, the digits of a setting, and what it adds.
 -- Counting: how many settings there are, cause by cause.
 -- NextSetting: the digit of a setting's lowest cause, and the walk that carries a setting to the next.
--- NextTests: what the tests of that walk say of an atom.
 -- Sets: the sets of causes that settings are.
 -- Entries: the entries of a table, tested one by one.
 -- Soundness: the kinds of clauses, and what a sound case is sound of.
@@ -18,7 +17,6 @@ pub mod Atoms
 pub mod Settings
 pub mod Counting
 pub mod NextSetting
-pub mod NextTests
 pub mod Sets
 pub mod Entries
 pub mod Soundness

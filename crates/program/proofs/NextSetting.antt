@@ -165,10 +165,6 @@ module _ (tw w s : ℕ) (x : Additions) (left a : ℕ) (c : Carried tw w s x lef
   abbrev base : ℕ
   base = choiceOf tw a
 
-  -- x with nothing added for a
-  abbrev fallen : Additions
-  fallen = record { facts = withoutBit (x .facts) a; assumptions = withoutBit (x .assumptions) a }
-
   fact-digit : (t : Bool) → has (x .facts) a ≡ t → eqb (c .at % base) 1 ≡ t
   fact-digit t e = sym (ap (λ (y : Additions). has (y .facts) a) (c .is-at) ∙ facts-lowest tw left a (c .at) h) ∙ e
 
@@ -177,34 +173,39 @@ module _ (tw w s : ℕ) (x : Additions) (left a : ℕ) (c : Carried tw w s x lef
       sym (ap (λ (y : Additions). has (y .assumptions) a) (c .is-at) ∙ assumptions-lowest tw left a (c .at) h) ∙ e
 
   -- the highest digit falls to 0, and the next cause's digit rises
-  carried-down : c .at % base + 1 ≡ base
-      → Carried tw w s fallen (withoutBit left a)
-  carried-down e =
+  carried-down : {f u : ℕ} → f ≡ rest tw left a (c .at) h .facts → u ≡ rest tw left a (c .at) h .assumptions
+      → c .at % base + 1 ≡ base → Carried tw w s (record { facts = f; assumptions = u }) (withoutBit left a)
+  carried-down p r e =
       let k = carry (has tw a) (c .at) e in
-      let p = ap (λ (y : Additions). withoutBit (y .facts) a) (c .is-at) ∙ facts-without tw left a (c .at) h in
-      let q = assumptions-without tw left a (c .at) h in
-      let r = ap (λ (y : Additions). withoutBit (y .assumptions) a) (c .is-at) ∙ q in
       record {
         at = c .at / base;
         is-at = λ i. record { facts = p i; assumptions = r i };
         next-is = c .next-is ∙ additions-next tw left a (c .at) (c .at / base + 1) 0 h (k .0) (k .1);
       }
 
-  -- the digit isn't 0, and 1 is the highest
-  pub carried-next : (has (x .facts) a || has (x .assumptions) a) ≡ true → (has (x .facts) a && not (has tw a)) ≡ false
-      → Carried tw w s fallen (withoutBit left a)
-  carried-next e f =
-      carried-down (go (has tw a) (has (x .facts) a) (has (x .assumptions) a)
-      (λ (t : has (x .facts) a ≡ true). eqb-true (c .at % base) 1 (fact-digit true t))
-      (λ (t : has (x .assumptions) a ≡ true). eqb-true (c .at % base) 2 (assumption-digit true t)) e f)
+  -- digit 1, of two choices
+  pub carried-one : has tw a ≡ true → has (x .facts) a ≡ true
+      → Carried tw w s (record { facts = withoutBit (x .facts) a; assumptions = x .assumptions }) (withoutBit left a)
+  carried-one b e =
+      let q = eqb-true (c .at % base) 1 (fact-digit true e) in
+      let m : base ≡ 2 = ap (λ (t : Bool). pick t 2 3) b in
+      carried-down (ap (λ (y : Additions). withoutBit (y .facts) a) (c .is-at) ∙ facts-without tw left a (c .at) h)
+      (ap (λ (y : Additions). y .assumptions) (c .is-at)
+      ∙ assumptions-others tw left a (c .at) h (ap (λ (n : ℕ). eqb n 2) q)) (omega (arith, q, m))
+
+  -- digit 2
+  pub carried-two : has (x .assumptions) a ≡ true
+      → Carried tw w s (record { facts = x .facts; assumptions = withoutBit (x .assumptions) a }) (withoutBit left a)
+  carried-two e =
+      let q = eqb-true (c .at % base) 2 (assumption-digit true e) in
+      carried-down (ap (λ (y : Additions). y .facts) (c .is-at)
+      ∙ facts-others tw left a (c .at) h (ap (λ (n : ℕ). eqb n 1) q))
+      (ap (λ (y : Additions). withoutBit (y .assumptions) a) (c .is-at) ∙ assumptions-without tw left a (c .at) h)
+      (highest (has tw a) q)
     where
-      go : (t u v : Bool) → (u ≡ true → c .at % pick t 2 3 ≡ 1) → (v ≡ true → c .at % pick t 2 3 ≡ 2)
-          → (u || v) ≡ true → (u && not t) ≡ false → c .at % pick t 2 3 + 1 ≡ pick t 2 3
-      go true true v p q e f = ap (λ (n : ℕ). n + 1) (p refl)
-      go false true v p q e f = absurd (true≢false f)
-      go true false true p q e f = absurd (omega (arith, q refl))
-      go false false true p q e f = ap (λ (n : ℕ). n + 1) (q refl)
-      go t false false p q e f = absurd (true≢false (sym e))
+      highest : (t : Bool) → c .at % pick t 2 3 ≡ 2 → c .at % pick t 2 3 + 1 ≡ pick t 2 3
+      highest true q = absurd (omega (arith, q))
+      highest false q = ap (λ (n : ℕ). n + 1) q
 
   -- digit 1, of three choices, rises to 2
   pub carried-fact : has tw a ≡ false → has (x .facts) a ≡ true

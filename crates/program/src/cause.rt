@@ -135,19 +135,23 @@ impl Additions {
         let mut left = causes.all;
         while left != 0 {
             let atom = words::lowest_bit(left);
-            if !words::test(x.facts | x.assumptions, atom) {
+            if words::test(x.facts, atom) {
+                if !words::test(causes.twofold, atom) {
+                    return Additions {
+                        facts: words::without(x.facts, atom),
+                        assumptions: x.assumptions | words::single(atom),
+                    };
+                }
+                x.facts = words::without(x.facts, atom);
+                left = words::without_lowest(left);
+                continue;
+            }
+            if !words::test(x.assumptions, atom) {
                 return Additions {
                     facts: x.facts | words::single(atom),
                     assumptions: x.assumptions,
                 };
             }
-            if words::test(x.facts & !causes.twofold, atom) {
-                return Additions {
-                    facts: words::without(x.facts, atom),
-                    assumptions: x.assumptions | words::single(atom),
-                };
-            }
-            x.facts = words::without(x.facts, atom);
             x.assumptions = words::without(x.assumptions, atom);
             left = words::without_lowest(left);
         }

@@ -121,8 +121,8 @@ fn put_abducibles(out: &mut [u8], at: usize, names: &[u8], causes: Causes, setti
     let mut rest = setting;
     let mut atom: u32 = 0;
     while atom < 64 {
-        let base = choice(causes.twofold, atom);
         if words::test(causes.all, atom) {
+            let base = choice(causes.twofold, atom);
             place = put_abducible(out, place, names, atom as usize, rest % base);
             rest = rest / base;
         }
