@@ -6,6 +6,7 @@ use native.Mathlib.Omega.{arith}
 use lib.ListN.{length, take}
 use Rattle.io.proofs.Counting.{counts}
 use Rattle.output.specs.declared.Answer.{Answer}
+use Rattle.output.proofs.Showing.{shown-whole}
 use Rattle.report.specs.Report.{reportText}
 use Rattle.report.specs.Operation.{Reported}
 use Rattle.report.specs.Claims.{reportLimit}
@@ -18,6 +19,13 @@ pub answered : {f out u : List ℕ} {r : Answer} → Reported f out r u → repo
 answered {f} {out} {u} {r} s room = record {
   counted = counts (r .length) u (report-within s);
   text-is = report-whole s (omega (arith, report-fits f));
+}
+
+-- where the output is long enough for the report at hand
+pub answered-usual : {f out u : List ℕ} {r : Answer} → Reported f out r u → r .refusal ≡ 0 → Answered f (r .length) u
+answered-usual {f} {out} {u} {r} s e = record {
+  counted = counts (r .length) u (report-within s);
+  text-is = shown-whole (rw (sym (s .refusal-is) ∙ e) at s);
 }
 
 -- n bytes of a buffer were read, and t is their report

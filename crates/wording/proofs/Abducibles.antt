@@ -63,28 +63,30 @@ pub record AtAtom (name : ℕ → List ℕ) (w : Causes) (s : ℕ) (out : List �
 pub atom-start : (name : ℕ → List ℕ) (w : Causes) (s : ℕ) (out : List ℕ) (at : ℕ) → AtAtom name w s out at 0 s at out
 atom-start name w s out at = record { within = omega arith; underway = underway-start _ _ _ }
 
--- the names of the table n; c is the choice count of atom a
-module _ (n : List ℕ) {w : Causes} {s at a rest m c : ℕ} {out out₁ : List ℕ}
-    (h : AtAtom (nameIn n) w s out at a rest m out₁) (l : a < 64) (base : c ≡ choiceOf (w .twofold) a) where
+-- the names of the table n
+module _ (n : List ℕ) {w : Causes} {s at a rest m : ℕ} {out out₁ : List ℕ}
+    (h : AtAtom (nameIn n) w s out at a rest m out₁) (l : a < 64) where
   -- t is the test whether atom a is a cause
   module _ {t : Bool} (test : t ≡ has (w .all) a) where
-    cause-left : t ≡ true → leftText (nameIn n) w a rest
-        ≡ spaced (withAbducible (rest % c) (nameIn n a) []) ++ leftText (nameIn n) w (a + 1) (rest / c)
-    cause-left e = rw base (left-cause (nameIn n) w a rest l (sym test ∙ e))
+    -- c is its choice count
+    module _ {c : ℕ} (base : c ≡ choiceOf (w .twofold) a) where
+      cause-left : t ≡ true → leftText (nameIn n) w a rest
+          ≡ spaced (withAbducible (rest % c) (nameIn n a) []) ++ leftText (nameIn n) w (a + 1) (rest / c)
+      cause-left e = rw base (left-cause (nameIn n) w a rest l (sym test ∙ e))
 
-    pub atom-room : t ≡ true → Room (settingText (nameIn n) (w .twofold) (atomsIn (w .all)) s) at
-        → Room (spaced (withAbducible (rest % c) (nameIn n a) [])) m
-    atom-room e r =
-        underway-room (h .underway) (spaced (withAbducible (rest % c) (nameIn n a) []))
-        (leftText (nameIn n) w (a + 1) (rest / c)) (cause-left e) r
+      pub atom-room : t ≡ true → Room (settingText (nameIn n) (w .twofold) (atomsIn (w .all)) s) at
+          → Room (spaced (withAbducible (rest % c) (nameIn n a) [])) m
+      atom-room e r =
+          underway-room (h .underway) (spaced (withAbducible (rest % c) (nameIn n a) []))
+          (leftText (nameIn n) w (a + 1) (rest / c)) (cause-left e) r
 
-    pub atom-cause : {r : ℕ} {out₂ : List ℕ} → t ≡ true
-        → Writes (spaced (withAbducible (rest % c) (nameIn n a) [])) out₁ m r out₂
-        → AtAtom (nameIn n) w s out at (a + 1) (rest / c) r out₂
-    atom-cause e k = record {
-      within = omega arith;
-      underway = underway-more (h .underway) (cause-left e) k;
-    }
+      pub atom-cause : {r : ℕ} {out₂ : List ℕ} → t ≡ true
+          → Writes (spaced (withAbducible (rest % c) (nameIn n a) [])) out₁ m r out₂
+          → AtAtom (nameIn n) w s out at (a + 1) (rest / c) r out₂
+      atom-cause e k = record {
+        within = omega arith;
+        underway = underway-more (h .underway) (cause-left e) k;
+      }
 
     pub atom-other : t ≡ false → AtAtom (nameIn n) w s out at (a + 1) rest m out₁
     atom-other e = record {

@@ -2,16 +2,26 @@
 -- and write.
 use borrow.Author.Needs.{needs}
 use native.Mathlib.Omega.{arith}
-use Rattle.causes.proofs.Reports.{report-of}
+use lib.ListN.{take}
+use Rattle.causes.specs.Program.{Answered}
+use Rattle.causes.proofs.Reports.{answered-usual, report-of}
 use Rattle.causes.proofs.run.Statement.{statement}
 use Rattle.causes.proofs.run.Tie as tie
 
--- the places before: the end of reading, the end of the answer
+-- the places before: the end of reading, the end of the report, and of reading before it
 abbrev reading : tie.Else1 → tie.After-read-input
 reading c = c .before .before
 
-abbrev answering : tie.After-out2 → tie.After-answer
-answering c = c .before .before
+abbrev reported : tie.After-file5 → tie.After-report
+reported c = c .before .before .before .before
+
+abbrev read : tie.After-report → tie.After-read-input
+read c = c .before .before .before .before .before
+
+-- where the report fits the usual room
+answered : (c : tie.After-file5) → let r = reported c in let q = read r .read-input in
+    Answered (take (q .result .count) (q .last .0)) (r .report .result .length) (r .report .last .1 .0)
+answered c = answered-usual (reported c .report .ensures) (c .before .if2 .left)
 
 slice-aggregate-read-input : tie.Need-slice-aggregate-read-input
 slice-aggregate-read-input c = search needs
@@ -31,26 +41,24 @@ returns c = search needs
 array-share-prefix-file : tie.Need-array-share-prefix-file
 array-share-prefix-file c = omega (arith, reading c .read-input .ensures .counted)
 
-slice-aggregate-answer : tie.Need-slice-aggregate-answer
-slice-aggregate-answer c =
+slice-aggregate-report : tie.Need-slice-aggregate-report
+slice-aggregate-report c =
     let counted = reading (c .before) .read-input .ensures .counted in
     search (needs, counted)
 
-answer-requires : tie.Need-answer-requires
-answer-requires c κs = search needs
+slice-aggregate-report-2 : tie.Need-slice-aggregate-report-2
+slice-aggregate-report-2 c = search needs
 
-array-share-prefix-out : tie.Need-array-share-prefix-out
-array-share-prefix-out c = omega (arith, c .before .answer .ensures .counted)
+report-requires : tie.Need-report-requires
+report-requires c κs = search needs
 
-slice-aggregate-write-report : tie.Need-slice-aggregate-write-report
-slice-aggregate-write-report c =
-    let counted = answering c .answer .ensures .counted in
-    search (needs, counted)
+slice-aggregate-write-long : tie.Need-slice-aggregate-write-long
+slice-aggregate-write-long c = search needs
 
-write-report-requires : tie.Need-write-report-requires
-write-report-requires c κs =
-    let q = reading (answering c .before .before .before) .read-input in
-    report-of (q .result .count) (q .last .0) (answering c .answer .ensures .text-is) (omega arith)
+write-long-requires : tie.Need-write-long-requires
+write-long-requires c κs =
+    let q = read (c .before .before .before .before) .read-input in
+    (q .ensures .counted, omega arith)
 
 slice-aggregate-fail-2 : tie.Need-slice-aggregate-fail-2
 slice-aggregate-fail-2 c = search needs
@@ -64,6 +72,32 @@ returns-2 c = search needs
 returns-3 : tie.Need-returns-3
 returns-3 c = search needs
 
+slice-aggregate-write-report : tie.Need-slice-aggregate-write-report
+slice-aggregate-write-report c = search needs
+
+array-share-prefix-out : tie.Need-array-share-prefix-out
+array-share-prefix-out c = answered c .counted .0
+
+slice-aggregate-write-report-2 : tie.Need-slice-aggregate-write-report-2
+slice-aggregate-write-report-2 c = answered (c .before) .counted .1
+
+write-report-requires : tie.Need-write-report-requires
+write-report-requires c κs =
+    let q = read (reported (c .before)) .read-input in
+    report-of (q .result .count) (q .last .0) (answered (c .before) .text-is) (omega arith)
+
+slice-aggregate-fail-3 : tie.Need-slice-aggregate-fail-3
+slice-aggregate-fail-3 c = search needs
+
+fail-requires-3 : tie.Need-fail-requires-3
+fail-requires-3 c κs = search needs
+
+returns-4 : tie.Need-returns-4
+returns-4 c = search needs
+
+returns-5 : tie.Need-returns-5
+returns-5 c = search needs
+
 pub run-spec : {M : Type 1} → statement M
 run-spec =
     tie.close
@@ -74,12 +108,20 @@ run-spec =
     fail-requires
     returns
     array-share-prefix-file
-    slice-aggregate-answer
-    answer-requires
-    array-share-prefix-out
-    slice-aggregate-write-report
-    write-report-requires
+    slice-aggregate-report
+    slice-aggregate-report-2
+    report-requires
+    slice-aggregate-write-long
+    write-long-requires
     slice-aggregate-fail-2
     fail-requires-2
     returns-2
-    returns-3)
+    returns-3
+    slice-aggregate-write-report
+    array-share-prefix-out
+    slice-aggregate-write-report-2
+    write-report-requires
+    slice-aggregate-fail-3
+    fail-requires-3
+    returns-4
+    returns-5)

@@ -19,17 +19,17 @@ abbrev μ-loop : tie.MeasureT-loop
 μ-loop out₀ at names causes setting place₀ rest₀ atom₀ out place rest atom = 64 - atom
 
 -- the base of a cause is no 0
-base-some : (c : tie.Then1 Inv-loop μ-loop) → 1 ≤ c .before .before .choice .result
-base-some c = rw (c .before .before .choice .ensures) (choice-some _ _)
+base-some : (c : tie.After-choice Inv-loop μ-loop) → 1 ≤ c .choice .result
+base-some c = rw (c .choice .ensures) (choice-some _ _)
 
 loop-holds : tie.Need-loop-holds Inv-loop μ-loop
 loop-holds c = atom-start _ _ _ _ _
 
-choice-requires : tie.Need-choice-requires Inv-loop μ-loop
-choice-requires c κs = search needs
-
 test-requires : tie.Need-test-requires Inv-loop μ-loop
 test-requires c κs = search needs
+
+choice-requires : tie.Need-choice-requires Inv-loop μ-loop
+choice-requires c κs = search needs
 
 cast-put-abducible : tie.Need-cast-put-abducible Inv-loop μ-loop
 cast-put-abducible c = search needs
@@ -51,7 +51,7 @@ loop-less c = search needs
 
 loop-again : tie.Need-loop-again Inv-loop μ-loop
 loop-again c =
-    ⊎-elim (λ w. rw (w .5, w .6, w .7) (search atom-cause))
+    ⊎-elim (λ w. rw (w .6, w .7, w .8) (search atom-cause))
     (λ w. rw (w .1, w .2, w .3) (search atom-other)) (c .if1 .came)
 
 same-length : tie.Need-same-length Inv-loop μ-loop
@@ -67,8 +67,8 @@ put-abducibles-spec =
     Inv-loop
     μ-loop
     loop-holds
-    choice-requires
     test-requires
+    choice-requires
     cast-put-abducible
     rem-put-abducible
     put-abducible-requires
