@@ -119,14 +119,13 @@ fn put_abducibles(out: &mut [u8], at: usize, names: &[u8], causes: Causes, setti
 {
     let mut place = at;
     let mut rest = setting;
-    let mut atom: u32 = 0;
-    while atom < 64 {
-        if words::test(causes.all, atom) {
-            let base = choice(causes.twofold, atom);
-            place = put_abducible(out, place, names, atom as usize, rest % base);
-            rest = rest / base;
-        }
-        atom += 1;
+    let mut left = causes.all;
+    while left != 0 {
+        let atom = words::lowest_bit(left);
+        let base = choice(causes.twofold, atom);
+        place = put_abducible(out, place, names, atom as usize, rest % base);
+        rest = rest / base;
+        left = words::without_lowest(left);
     }
     place
 }
