@@ -1,10 +1,8 @@
 -- `program::cause::Additions::next` meets its contract. The loop's invariant: the causes passed have fallen to digit 0,
 -- and the causes left carry the setting on. The measure is the word of the causes left. Assumes nothing.
 use mathlib.Core.Path.{_≡_, sym, _∙_}
-use mathlib.Core.Bool.{true, false}
 use Prim.Native.Nat.{ℕ}
 use borrow.Author.Needs.{needs}
-use Rattle.words.specs.Bits.{has}
 use Rattle.words.proofs.Tests.{failed, passed}
 use Rattle.words.proofs.BitWalks.{without-less}
 use Rattle.program.specs.Setting.{additionsOf}
