@@ -25,7 +25,7 @@ use Rattle.wording.specs.Text.{verdictLine, roundsLine, decidedLine, minimalLin
 use Rattle.report.specs.Report.{listLength, clauseTable, causesSaid, judgeIn, minimalsOf, roundsOf, decidedOf}
 use Rattle.report.specs.Report.{lowestOf, verdictsIn, nameOf, reportText}
 
--- a bound on the length of any report: 16 verdicts, the three lines behind them, 1,024 settings of ten causes with
+-- a bound on the length of any report: 16 verdicts, the three lines behind them, 1,024 settings of 15 causes with
 -- names of 16 bytes, and the line of the lowest cost
 abbrev pub reportLimit : ℕ
 reportLimit = 392640
