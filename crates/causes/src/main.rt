@@ -36,9 +36,9 @@ fn write_report(file: &[u8], input: Input, text: &[u8]) -> bool
 fn write_long(file: &[u8], input: Input) -> bool
     requires { ⌜ Counts (input .count) (now file) × (32768 < length (now file)) ⌝ }
 {
-    let n = input.count;
+    let read = input.count;
     let mut out = [0u8; REPORT_ROOM];
-    let length = answer(&file[..n], &mut out);
+    let length = answer(&file[..read], &mut out);
     write_report(file, input, &out[..length])
 }
 
