@@ -1,5 +1,7 @@
 // The program `causes`: reads a case file from standard input and writes its report to standard output. Where the input
 // cannot be read or the report cannot be written whole, it says so on standard error. It takes no argument.
+#![tactic(auto)]
+
 ghost use Rattle.std.specs.Prelude.{◌<◌, length, take};
 ghost use Rattle.io.specs.Counts.{IsPrefixLen};
 ghost use Rattle.causes.specs.Program.{Answered, ReportOf};

@@ -4,7 +4,7 @@ ghost use Rattle.checks.specs.Looked.{LookedAs};
 use grammar::line::{Form, form_of};
 
 // What a line is: refused with a number, a comment, or a line with its form.
-#[derive(Drop)]
+#[derive(Clone, Copy)]
 pub enum Looked {
     Refused(u32),
     Comment,

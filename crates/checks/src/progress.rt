@@ -9,7 +9,7 @@ use grammar::line::Form;
 use program::case::Case;
 
 // The record, the atoms with a cost line, bit i for atom i, and how many edition lines were read.
-#[derive(Drop)]
+#[derive(Clone, Copy)]
 pub struct Progress {
     pub found: Case,
     pub costed: u64,

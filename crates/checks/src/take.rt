@@ -20,7 +20,7 @@ use store::masks::with_atom;
 use store::price::price_of;
 
 // What taking a line answers: 0 and what is known after it, or the number of its refusal.
-#[derive(Drop)]
+#[derive(Clone, Copy)]
 pub struct Taken {
     pub refusal: u32,
     pub reached: Progress,

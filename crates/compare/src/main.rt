@@ -1,6 +1,8 @@
 // The program `compare`, for the tests: its arguments are pairs of a word of at most 32 bytes and an entry of at most
 // 16, and it writes for each pair how the word compares with the entry. Where an argument is missing, empty or longer,
 // or a line cannot be written, it says so on standard error and ends.
+#![tactic(auto)]
+
 ghost use Rattle.std.specs.Prelude.{◌≤◌};
 
 use libc::{STDERR_FILENO, STDOUT_FILENO};

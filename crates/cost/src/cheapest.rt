@@ -10,7 +10,7 @@ ghost use Rattle.cost.specs.Block.{MinimalIn, lane_settings};
 use crate::price::cost_in;
 
 // The cheapest setting so far, where there is some, and what it costs; otherwise zeros.
-#[derive(Drop)]
+#[derive(Clone, Copy)]
 pub struct Cheapest {
     pub some: bool,
     pub cost: u64,
@@ -50,7 +50,7 @@ impl Cheapest {
 }
 
 // The minimal settings of a block: those of the lanes, where first is the setting of lane 0.
-#[derive(Drop)]
+#[derive(Clone, Copy)]
 pub struct Minimals {
     pub first: usize,
     pub lanes: u64,

@@ -1,6 +1,8 @@
 // The operations for C and Rust to link: numbers and slices only. Each answers the number of the refusal, 0 for none,
 // and writes the rest of its answer to lent words. A lent record or answer with too few words is refused with 1, and
 // nothing is touched.
+#![tactic(auto)]
+
 ghost use Rattle.std.specs.Prelude.{◌≡◌, [], ◌∷◌, ◌++◌, ◌≤◌, length};
 ghost use Rattle.words.specs.Bits.{digit};
 ghost use Rattle.words.specs.Lists.{over};

@@ -7,7 +7,7 @@ use text::name::is_name;
 use text::tokens::{Next, token};
 
 // What a formula begins with: a name and its ends, or the node of a form and the place behind its word.
-#[derive(Drop)]
+#[derive(Clone, Copy)]
 pub enum Head {
     NoHead,
     Name(usize, usize),
@@ -15,7 +15,7 @@ pub enum Head {
 }
 
 // A formula found in a line: the place behind it, and its depth.
-#[derive(Drop)]
+#[derive(Clone, Copy)]
 pub enum Parse {
     NoFormula,
     Formula(usize, usize),

@@ -1,3 +1,5 @@
 // Formulas in a line of a case file.
+#![tactic(auto)]
+
 pub mod formula;
 pub mod keyword;

@@ -2,7 +2,7 @@
 
 // How many clauses, constraints and queries a line brings, the depth of its formula, 0 without one, the number of its
 // body's literals, 0 without a body, its price and supplement, 0 without them, and how many edition lines it is.
-#[derive(Drop)]
+#[derive(Clone, Copy)]
 pub struct Brings {
     pub clauses: usize,
     pub constraints: usize,

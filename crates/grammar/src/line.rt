@@ -16,7 +16,7 @@ use text::tokens::{Next, token};
 // begin, and their number; a constraint's kind, the place where its literals begin, and their number; the place where
 // a reading's literal or a formula begins, a formula's depth; the ends of a cost's name, its price and supplement; the
 // ends of an atom line's name; and the number of an edition.
-#[derive(Drop)]
+#[derive(Clone, Copy)]
 pub enum Form {
     Skipped,
     NoForm,

@@ -8,7 +8,7 @@ use text::name::is_name;
 use text::tokens::{Next, token};
 
 // A literal found in a line: whether it is negated, the ends of its name, and the place behind it.
-#[derive(Drop)]
+#[derive(Clone, Copy)]
 pub enum Lit {
     NoLiteral,
     BodyEnd,
@@ -16,7 +16,7 @@ pub enum Lit {
 }
 
 // A body found in a line: the number of its literals, or that there is none.
-#[derive(Drop)]
+#[derive(Clone, Copy)]
 pub enum Body {
     NoBody,
     Literals(usize),

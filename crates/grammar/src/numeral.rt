@@ -5,7 +5,7 @@ use text::number::{Number, number_at};
 use text::tokens::{Next, token};
 
 // A number found in a line: its value and the place behind it, or that there is none.
-#[derive(Drop)]
+#[derive(Clone, Copy)]
 pub enum Numeral {
     NoNumeral,
     Numeral(usize, usize),

@@ -1,10 +1,12 @@
 // Reading standard input into a lent buffer, for the programs.
+#![tactic(auto)]
+
 ghost use Rattle.input.specs.Reading.{Stopped};
 
 use libc::STDIN_FILENO;
 
 // What reading the input gave: how many bytes, how many of them by the last call of read, and whether that failed.
-#[derive(Drop)]
+#[derive(Clone, Copy)]
 pub struct Input {
     pub count: usize,
     pub last: usize,

@@ -23,7 +23,7 @@ pub fn lanes_of(n: usize) -> u32
 }
 
 // Two sums over settings: of their round counts, and of the numbers of atoms decided when they have settled.
-#[derive(Drop)]
+#[derive(Clone, Copy)]
 pub struct Sums {
     pub rounds: u64,
     pub decided: u64,

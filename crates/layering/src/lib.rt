@@ -1,4 +1,6 @@
 // Layers or a ring: which heads depend on which atoms.
+#![tactic(auto)]
+
 pub mod numbers;
 pub mod operation;
 pub mod ring;

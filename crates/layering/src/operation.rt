@@ -6,7 +6,7 @@ use program::case::Case;
 
 // What the operation answers: whether the case is layered, how many entries there are, and the number of each atom or
 // the atoms of a ring, zero past the last one; or a refusal's number and zeros.
-#[derive(Drop)]
+#[derive(Clone, Copy)]
 pub struct Answer {
     pub refusal: u32,
     pub layered: bool,

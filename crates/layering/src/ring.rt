@@ -8,7 +8,7 @@ ghost use Rattle.layering.specs.Numbers.{linked_by};
 ghost use Rattle.layering.specs.Path.{Stuck, Followed, Ringed};
 
 // Where a path ends: how many atoms it has, those atoms, and the atom that comes again.
-#[derive(Drop)]
+#[derive(Clone, Copy)]
 pub struct End {
     pub len: usize,
     pub seen: u64,

@@ -1,6 +1,8 @@
 // The program `layers`: reads a case file from standard input and writes the text of its layers, or of a ring, to
 // standard output. Where the input cannot be read or the text cannot be written whole, it says so on standard error. It
 // takes no argument.
+#![tactic(auto)]
+
 ghost use Rattle.std.specs.Prelude.{length, take};
 ghost use Rattle.layers.specs.Program.{Answered, LayersRead};
 

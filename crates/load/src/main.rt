@@ -1,6 +1,8 @@
 // The program `load`: writes to standard output the case file that follows from its three arguments, a seed, a number
 // of atoms and a number of clauses, each of one to 19 digits. Where an argument is no such number or the seed is over
 // 4,294,967,295, or where the text cannot be written whole, it says so on standard error.
+#![tactic(auto)]
+
 ghost use Rattle.std.specs.Prelude.{◌≡◌};
 ghost use Rattle.load.specs.Program.{load_answer, Answered};
 

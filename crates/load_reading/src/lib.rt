@@ -1,1 +1,2 @@
 // What reading a load gives: claims and their theorems alone, no code.
+#![tactic(auto)]

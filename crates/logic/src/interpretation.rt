@@ -9,7 +9,7 @@ ghost use Rattle.logic.specs.Assigned.{assigned};
 use crate::value::Value;
 
 // Bit i of trues: atom i is true; bit i of falses: it is false. Never both.
-#[derive(Drop)]
+#[derive(Clone, Copy)]
 pub struct Interpretation {
     pub trues: u64,
     pub falses: u64,

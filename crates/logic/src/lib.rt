@@ -1,3 +1,5 @@
 // Three-valued logic: values and connectives, interpretations.
+#![tactic(auto)]
+
 pub mod interpretation;
 pub mod value;

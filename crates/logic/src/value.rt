@@ -3,7 +3,7 @@ ghost use Rattle.std.specs.Prelude.{◌≡◌};
 ghost use Rattle.logic.specs.Value.{rank, is_true, negated, lesser, greater, implies, equivalent};
 
 // A truth value, in rising order.
-#[derive(Drop)]
+#[derive(Clone, Copy)]
 pub enum Value {
     False,
     Unknown,

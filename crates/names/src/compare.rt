@@ -9,7 +9,7 @@ use crate::row_is;
 
 // How a word compares with an entry: its first or last byte differs from the entry's at that place, these agree but the
 // entry is another name, or the entry is the word.
-#[derive(Drop)]
+#[derive(Clone, Copy)]
 pub enum Compared {
     EndsDiffer,
     Another,

@@ -1,4 +1,6 @@
 // Names in a table of rows of 16 bytes.
+#![tactic(auto)]
+
 pub mod compare;
 
 ghost use Rattle.std.specs.Prelude.{◌≡◌, ◌+◌, ◌≤◌, ◌<◌, min, length};

@@ -10,7 +10,7 @@ use logic::interpretation::Interpretation;
 use logic::value::Value;
 
 // The value of a formula, and the place of the nodes behind it.
-#[derive(Drop)]
+#[derive(Clone, Copy)]
 pub struct Worth {
     pub value: Value,
     pub next: usize,
@@ -90,7 +90,7 @@ pub fn formula_value(nodes: &[u8], i: Interpretation) -> Value
 }
 
 // The depth of a formula, 17 where there is none of depth at most 16, and the place of the nodes behind it.
-#[derive(Drop)]
+#[derive(Clone, Copy)]
 pub struct Extent {
     pub depth: u8,
     pub next: usize,

@@ -1,12 +1,14 @@
 // Writing bytes, texts, numbers in decimal and names to a lent output, from a place on. Bytes behind the output's end
 // are counted and not written.
+#![tactic(auto)]
+
 ghost use Rattle.std.specs.Prelude.{[], ◌∷◌, ◌+◌, ◌*◌, ◌≤◌, ◌<◌, length};
 ghost use Rattle.names.specs.Row.{name_in};
 ghost use Rattle.output.specs.Decimal.{decimal};
 ghost use Rattle.output.specs.Writing.{Writes, Room};
 
 // What an operation that writes a text answers: 0 and the length of the text, or a refusal's number and 0.
-#[derive(Drop)]
+#[derive(Clone, Copy)]
 pub struct Answer {
     pub refusal: u32,
     pub length: usize,

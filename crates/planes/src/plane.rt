@@ -7,7 +7,7 @@ ghost use Rattle.prepared.specs.Chains.{last_of, rules_value, Linked};
 ghost use Rattle.planes.specs.Planes.{column, Planes, Joined, Worth};
 
 // A value in each lane: bit j of the two words says whether it is true, and whether it is false, in lane j.
-#[derive(Drop)]
+#[derive(Clone, Copy)]
 pub struct Lanes {
     pub trues: u64,
     pub falses: u64,

@@ -7,7 +7,7 @@ use logic::interpretation::Interpretation;
 use program::cause::Additions;
 
 // The first round's true and false atoms where nothing is added, and the clauses' heads, bit i for atom i.
-#[derive(Drop)]
+#[derive(Clone, Copy)]
 pub struct Opening {
     pub trues: u64,
     pub falses: u64,

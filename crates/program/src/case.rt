@@ -4,7 +4,7 @@ ghost use Rattle.program.specs.Case.{tables_full};
 
 // A case: how many entries its lent tables have in use, the observed literals, bit i for atom i, how many nodes each
 // formula has, and the edition of its causes.
-#[derive(Drop)]
+#[derive(Clone, Copy)]
 pub struct Case {
     pub atoms: usize,
     pub clauses: usize,

@@ -44,7 +44,7 @@ fn unheaded(atoms: usize, heads: u64) -> u64
 }
 
 // The causes, and those of them that have two choices, bit i for atom i.
-#[derive(Drop)]
+#[derive(Clone, Copy)]
 pub struct Causes {
     pub all: u64,
     pub twofold: u64,
@@ -99,7 +99,7 @@ pub fn settings(causes: Causes) -> u64
 }
 
 // What a set of causes adds to a program: atoms that get a fact, and atoms that get an assumption, bit i for atom i.
-#[derive(Drop)]
+#[derive(Clone, Copy)]
 pub struct Additions {
     pub facts: u64,
     pub assumptions: u64,

@@ -1,4 +1,6 @@
 // Cases: the record and its lent tables, soundness, causes and settings.
+#![tactic(auto)]
+
 pub mod case;
 pub mod cause;
 pub mod sound;

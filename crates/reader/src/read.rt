@@ -10,7 +10,7 @@ use checks::take::take_line;
 use program::case::Case;
 
 // What reading answers: 0 and the record of the case, or a refusal's number, its line and a record of zeros.
-#[derive(Drop)]
+#[derive(Clone, Copy)]
 pub struct Answer {
     pub refusal: u32,
     pub line: u32,

@@ -9,7 +9,7 @@ use planes::plane::{Lanes, rules};
 use planes::word::undecided;
 
 // What a round has changed: the lanes, and the atoms that changed in some lane.
-#[derive(Drop)]
+#[derive(Clone, Copy)]
 pub struct Changed {
     pub lanes: u64,
     pub atoms: u64,

@@ -7,7 +7,7 @@ use program::case::Case;
 
 // What settling one setting answers: 0, the two words, the rounds and the number of decided atoms, or a refusal's
 // number and zeros.
-#[derive(Drop)]
+#[derive(Clone, Copy)]
 pub struct Answer {
     pub refusal: u32,
     pub trues: u64,

@@ -9,7 +9,7 @@ use program::cause::Additions;
 
 // The settled interpretation, the number of rounds that changed something, and the sum of the atoms that they newly
 // decided.
-#[derive(Drop)]
+#[derive(Clone, Copy)]
 pub struct Settled {
     pub interpretation: Interpretation,
     pub rounds: u32,

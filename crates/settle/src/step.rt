@@ -25,7 +25,7 @@ pub fn body_value(i: Interpretation, kind: u64, plain: u64, negated: u64) -> Val
 }
 
 // What one application answers: the interpretation after, and how many atoms it decides newly.
-#[derive(Drop)]
+#[derive(Clone, Copy)]
 pub struct Stepped {
     pub interpretation: Interpretation,
     pub decided: u32,

@@ -1,4 +1,6 @@
 // Writing the words and brackets of lines, and the ends of lines, to a lent output.
+#![tactic(auto)]
+
 ghost use Rattle.std.specs.Prelude.{[], ◌∷◌, ◌+◌, ◌*◌, ◌≤◌, length};
 ghost use Rattle.text.specs.Tokens.{Token};
 ghost use Rattle.names.specs.Row.{name_in};
@@ -10,14 +12,14 @@ ghost use Rattle.spelling.specs.Page.{Ends};
 use output::{put, put_decimal, put_name, put_text};
 
 // A place of the output, and whether a word stands just before it.
-#[derive(Drop)]
+#[derive(Clone, Copy)]
 pub struct Pen {
     pub at: usize,
     pub behind: bool,
 }
 
 // A place of the output where a line starts, and whether a line before it is over 200 bytes.
-#[derive(Drop)]
+#[derive(Clone, Copy)]
 pub struct Page {
     pub at: usize,
     pub long: bool,

@@ -1,4 +1,6 @@
 // Storing what a line says, by atom numbers.
+#![tactic(auto)]
+
 pub mod form;
 pub mod masks;
 pub mod nodes;

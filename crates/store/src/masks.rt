@@ -11,7 +11,7 @@ ghost use Rattle.store.specs.Masks.{with_atom, with_literal, masks_by};
 use grammar::literal::{Lit, literal};
 
 // The atoms of a body's plain and of its negated literals, bit i for atom i.
-#[derive(Drop)]
+#[derive(Clone, Copy)]
 pub struct Masks {
     pub plain: u64,
     pub negated: u64,

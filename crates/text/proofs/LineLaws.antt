@@ -25,16 +25,16 @@ module _ (f l : List ℕ) (i : ℕ) where
   unfolding lines_from
   lines_stop h e = rw (add-one, drop-cons f i 0 h) (rw (eq-eqb _ _ e))
 
-last_line : (l : List ℕ) → 0 < length l → last_line l ≡ l ∷ []
-last_line [] n = absurd (not-suc-le-zero n)
-last_line (b ∷ l) n = refl
+last_line_lem : (l : List ℕ) → 0 < length l → last_line l ≡ l ∷ []
+last_line_lem [] n = absurd (not-suc-le-zero n)
+last_line_lem (b ∷ l) n = refl
 
 lines_end : (f l : List ℕ) (i : ℕ) → 0 < length l → length f ≤ i
     → lines_from l (drop i f) ≡ l ∷ lines (drop (i + 1) f)
 unfolding lines_from
 lines_end f l i n h =
     let k : length f ≤ i + 1 = omega arith in
-    rw (drop_of_length-le f h, drop_of_length-le f k) (last_line l n)
+    rw (drop_of_length-le f h, drop_of_length-le f k) (last_line_lem l n)
 
 -- behind a file's end there are no lines
 pub lines_none : (f : List ℕ) (i : ℕ) → length f ≤ i → lines (drop i f) ≡ []

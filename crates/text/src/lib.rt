@@ -1,4 +1,6 @@
 // Case files as bytes: lines, and the words and brackets of a line.
+#![tactic(auto)]
+
 pub mod bytes;
 pub mod lines;
 pub mod name;

@@ -7,7 +7,7 @@ ghost use Rattle.text.specs.Scanning.{NameFound};
 use crate::tokens::{Next, token};
 
 // The name that stands next in a line, with its first place and the place behind it, or none.
-#[derive(Drop)]
+#[derive(Clone, Copy)]
 pub enum NextName {
     NoName,
     Name(usize, usize),

@@ -5,7 +5,7 @@ ghost use Rattle.text.specs.Bytes.{is_digit};
 ghost use Rattle.text.specs.Scanning.{DigitsRead, NumberRead};
 
 // What a word is as a number: none, or its value.
-#[derive(Drop)]
+#[derive(Clone, Copy)]
 pub enum Number {
     NoNumber,
     Value(usize),

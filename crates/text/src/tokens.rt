@@ -7,7 +7,7 @@ use crate::bytes::is_word_byte;
 
 // What stands next in a line: nothing, a bracket with the place behind it, or a word with its first place and the
 // place behind it.
-#[derive(Drop)]
+#[derive(Clone, Copy)]
 pub enum Next {
     End,
     Open(usize),

@@ -1,6 +1,8 @@
 // The program `tidy`: reads a case file from standard input and writes its case back, as a file again, to standard
 // output. Where the input cannot be read or the text cannot be written whole, it says so on standard error. It takes no
 // argument.
+#![tactic(auto)]
+
 ghost use Rattle.std.specs.Prelude.{length, take};
 ghost use Rattle.tidy.specs.Program.{Answered, TidyRead};
 

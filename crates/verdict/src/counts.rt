@@ -9,7 +9,7 @@ use logic::value::Value;
 
 // How many minimal explanations there are, and which queries are true, and which are false, under each of them, bit q
 // for query q.
-#[derive(Drop)]
+#[derive(Clone, Copy)]
 pub struct Counts {
     pub minimal: u64,
     pub follows: u64,

@@ -3,7 +3,7 @@ ghost use Rattle.std.specs.Prelude.{◌≡◌};
 ghost use Rattle.verdict.specs.Walk.{verdict_by, verdict_number};
 
 // What is said of a query over all minimal explanations.
-#[derive(Drop)]
+#[derive(Clone, Copy)]
 pub enum Verdict {
     Unexplained,
     Follows,

@@ -10,7 +10,7 @@ use crate::counts::Counts;
 use crate::query::hold;
 
 // What is found in the settings visited: the counts, and how many minimal ones are written to the list.
-#[derive(Drop)]
+#[derive(Clone, Copy)]
 pub struct Found {
     pub counts: Counts,
     pub written: usize,

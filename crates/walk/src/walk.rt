@@ -22,7 +22,7 @@ use verdict::visit::{Found, visit};
 
 // What a walk leaves: what it found setting by setting, and 64 settings at a time the sums of the rounds and decided
 // atoms, and the cheapest minimal setting.
-#[derive(Drop)]
+#[derive(Clone, Copy)]
 pub struct Tally {
     pub found: Found,
     pub sums: Sums,

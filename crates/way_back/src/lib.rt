@@ -1,1 +1,2 @@
 // What reading a written case gives: a claim and its theorem alone, no code.
+#![tactic(auto)]

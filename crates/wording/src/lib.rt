@@ -1,4 +1,6 @@
 // The wording of a report: the lines of an answer and of a refusal.
+#![tactic(auto)]
+
 ghost use Rattle.std.specs.Prelude.{[], ◌++◌, ◌+◌, ◌*◌, ◌≤◌, ◌<◌, length};
 ghost use Rattle.program.specs.Case.{name_size};
 ghost use Rattle.program.specs.Cause.{atoms_in};
@@ -16,7 +18,7 @@ use program::cause::{Causes, choice};
 
 // The numbers of an answer that its text shows: the rounds and the decided atoms over all settings, the minimal
 // explanations, and the lowest cost among them.
-#[derive(Drop)]
+#[derive(Clone, Copy)]
 pub struct Totals {
     pub rounds: u64,
     pub decided: u64,

@@ -1,5 +1,7 @@
 // Words of 64 bits as sets of bit numbers: one bit, the lowest bits, the test of a bit, a bit added, the count of ones,
 // a walk over the bits.
+#![tactic(auto)]
+
 ghost use Rattle.std.specs.Prelude.{◌≡◌, ℕ, ◌+◌, ◌^◌, ◌≤◌, ◌<◌};
 ghost use Rattle.std.specs.Int.Count.{ones};
 ghost use Rattle.words.specs.Bits.{has};

@@ -12,7 +12,7 @@ use crate::body::open_word;
 use spelling::{Pen, closing, name};
 
 // The pen behind a formula, and the place of the nodes behind it.
-#[derive(Drop)]
+#[derive(Clone, Copy)]
 pub struct Step {
     pub pen: Pen,
     pub next: usize,

@@ -1,4 +1,6 @@
 // Writing a case back as a file.
+#![tactic(auto)]
+
 pub mod body;
 pub mod formula;
 pub mod line;

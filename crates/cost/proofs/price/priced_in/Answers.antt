@@ -1,0 +1,20 @@
+-- Answers to the goals of this function. Assumes nothing.
+use mathlib.Core.Path.{refl, sym, ◌∙◌}
+use Prim.Native.Nat.{◌-◌}
+use native.Mathlib.Omega.{arith}
+use lib.Dec.{ltb}
+use lib.ListN.{get_or}
+use borrow.Author.Rules.{rules}
+use Rattle.words.proofs.Gathering.{Gathering, gathering_start, gathering_next, gathering_end}
+use Rattle.cost.proofs.Costs.{priced_is}
+use Rattle.cost.proofs.price.priced_in.Goals as goal
+
+pub loop-a-init : goal.loop-a-init
+loop-a-init c = gathering_start
+
+pub loop-a-preserved : goal.loop-a-preserved
+loop-a-preserved c =
+    gathering_next c.loop-a.invariant (omega arith) _ refl _ c.with_bit-priced.ensures
+
+pub returns : goal.returns
+returns c = gathering_end c.loop-a.invariant (omega arith) ∙ sym (priced_is _)

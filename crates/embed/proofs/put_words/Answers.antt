@@ -1,0 +1,17 @@
+-- Answers to the goals of this function. Assumes nothing.
+use borrow.Author.Rules.{rules}
+use mathlib.Core.Path.{refl}
+use Prim.Native.Nat.{◌-◌}
+use native.Mathlib.Omega.{arith}
+use lib.ListN.{length}
+use Rattle.embed.proofs.Putting.{InFront, in_front_none, in_front_more, in_front_all}
+use Rattle.embed.proofs.put_words.Goals as goal
+
+pub loop-i-init : goal.loop-i-init
+loop-i-init c = in_front_none _ _
+
+pub loop-i-preserved : goal.loop-i-preserved
+loop-i-preserved c = in_front_more c.loop-i.invariant (omega arith) refl
+
+pub returns : goal.returns
+returns c = in_front_all c.loop-i.invariant (omega arith) (omega arith)

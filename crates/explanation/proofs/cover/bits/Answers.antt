@@ -1,0 +1,15 @@
+-- `bits` meets its contract: the place begins a word of the row, or the bits are glued from two. Assumes nothing.
+use native.Mathlib.Omega.{arith}
+use borrow.Author.Rules.{rules}
+use Rattle.explanation.proofs.Rows.{bits_whole, bits-glued}
+use Rattle.explanation.proofs.cover.bits.Goals as goal
+
+pub returns-then-r-eq0 : goal.returns-then-r-eq0
+returns-then-r-eq0 c =
+    let a = c.args in
+    λ j l. bits_whole a.row.now a.place j l (omega arith)
+
+pub returns : goal.returns
+returns c =
+    let a = c.args in
+    λ j l. bits-glued a.row.now a.place j l _ c.glue.ensures

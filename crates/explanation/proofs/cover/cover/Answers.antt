@@ -1,0 +1,57 @@
+-- Answers to the goals of this function. Assumes nothing.
+use mathlib.Core.Path.{◌≡◌, refl, sym, subst}
+use mathlib.Core.List.{List}
+use Prim.Native.Nat.{ℕ, ◌-◌, ◌<◌, ◌^◌}
+use native.Mathlib.Omega.{arith}
+use lib.Bits.{or_lt}
+use lib.Count.{ones}
+use lib.ListN.{length, set, length-set}
+use borrow.Author.Rules.{rules}
+use Rattle.explanation.proofs.Larger.{Stands, stands_start, stands_next, stands_less, stands_end}
+use Rattle.explanation.proofs.cover.cover.Goals as goal
+
+pub bounds-row-b : goal.bounds-row-b
+bounds-row-b c = omega arith
+
+pub loop-word-init : goal.loop-word-init
+loop-word-init c =
+    let a = c.args in (
+      simp length-set c.requires.0,
+      omega arith,
+      λ r l q. subst
+          (λ (u : List ℕ). Stands r a.b a.e a.causes a.weights.now a.x.now a.y.now u a.e)
+          (sym q) (stands_start l),
+    )
+
+pub overflow_mul-b : goal.overflow_mul-b
+overflow_mul-b c = omega arith
+
+pub dropped-larger-requires : goal.dropped-larger-requires
+dropped-larger-requires c = (omega arith, λ a h. omega (arith, c.requires.3 a h))
+
+pub bounds-row-b-in-loop-word : goal.bounds-row-b-in-loop-word
+bounds-row-b-in-loop-word c = omega arith
+
+pub loop-word-smaller : goal.loop-word-smaller
+loop-word-smaller c =
+    let the_within : c.args.b < length c.args.row.now =
+    omega (arith, c.requires.0) in
+    let the_stands : let a = c.args in Stands a.row.now a.b a.e a.causes a.weights.now a.x.now a.y.now c.loop-word.row c.loop-word.word =
+    c.loop-word.invariant.2 c.args.row.now (the_within) refl in
+    stands_less (the_within) (the_stands) c.dropped-larger.ensures (omega arith) (omega arith) c.if-all-word.false
+
+pub loop-word-preserved : goal.loop-word-preserved
+loop-word-preserved c =
+    let i = c.loop-word.invariant in (
+      simp length-set i.0,
+      or_lt 64 _ _ i.1 (omega arith),
+      λ r l q. stands_next l (i.2 r l q) c.dropped-larger.ensures,
+    )
+
+pub returns : goal.returns
+returns c =
+    let the_within : c.args.b < length c.args.row.now =
+    omega (arith, c.requires.0) in
+    let the_stands : let a = c.args in Stands a.row.now a.b a.e a.causes a.weights.now a.x.now a.y.now c.loop-word.row c.loop-word.word =
+    c.loop-word.invariant.2 c.args.row.now (the_within) refl in
+    stands_end (the_within) (the_stands) c.dropped-larger.ensures c.requires.0 c.if-all-word.true

@@ -1,0 +1,15 @@
+-- Answers to the goals of this function. Assumes nothing.
+use Prim.Native.Nat.{◌-◌}
+use native.Mathlib.Omega.{arith}
+use borrow.Author.Rules.{rules}
+use Rattle.explanation.proofs.Explaining.{Passing, passing_start, passing_next, passing_end}
+use Rattle.explanation.proofs.explain.all_met.Goals as goal
+
+pub loop-k-init : goal.loop-k-init
+loop-k-init c = passing_start _ _ _ _ _
+
+pub loop-k-preserved : goal.loop-k-preserved
+loop-k-preserved c = search (rules, passing_next)
+
+pub returns : goal.returns
+returns c = passing_end _ _ _ _ _ _ _ c.loop-k.invariant (omega arith)

@@ -1,0 +1,14 @@
+-- `weigh` meets its contract: the causes passed have their weights, and those left have theirs from the weight
+-- reached on (`Weighed`). The measure is the word of the causes left. Assumes nothing.
+use native.Mathlib.Omega.{arith}
+use borrow.Author.Rules.{rules}
+use Rattle.words.proofs.BitWalks.{without_less}
+use Rattle.explanation.proofs.Weighing.{Weighed, weighed_start, weight-few, weighed_next, weighed_end}
+use Rattle.explanation.proofs.weights.weigh.Given as goal
+
+abbrev pub invariant-loop-left : goal.invariant-loop-left
+invariant-loop-left l =
+    Weighed l.causes.twofold l.causes.all l.left l.weight l.weights
+
+abbrev pub decreases-loop-left : goal.decreases-loop-left
+decreases-loop-left l = l.left

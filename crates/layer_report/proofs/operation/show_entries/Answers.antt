@@ -1,0 +1,11 @@
+-- `show_entries` meets its contract: the text's length is known from writing it to a spare output, and the test on it
+-- decides. Assumes nothing.
+use borrow.Author.Rules.{rules}
+use Rattle.report.proofs.Showing.{report_short, report_written}
+use Rattle.layer_report.proofs.operation.show_entries.Goals as goal
+
+pub returns-then-out-length : goal.returns-then-out-length
+returns-then-out-length c = search report_short
+
+pub returns : goal.returns
+returns c = search report_written

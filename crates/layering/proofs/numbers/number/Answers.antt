@@ -1,0 +1,40 @@
+-- Answers to the goals of this function. Assumes nothing.
+use Prim.Native.Nat.{◌-◌}
+use native.Mathlib.Omega.{arith}
+use borrow.Author.Rules.{rules}
+use mathlib.Core.Path.{sym, ap, ◌∙◌}
+use lib.Bits.{bit_and}
+use Rattle.layering.proofs.Peeling.{Peeled, peeled_start, peeled_next, peeled_end}
+use Rattle.layering.proofs.numbers.number.Goals as goal
+
+pub loop-left-init : goal.loop-left-init
+loop-left-init c =
+    let p = c.requires in
+    peeled_start _ _ _ _ p.1 c.lowest-left.ensures p.3 p.4
+
+pub touched-requires : goal.touched-requires
+touched-requires c = c.requires.2
+
+pub give-requires : goal.give-requires
+give-requires c = c.loop-left.invariant.size_is
+
+pub loop-left-preserved : goal.loop-left-preserved
+loop-left-preserved c =
+    let l = c.loop-left in
+    peeled_next _ _ c.requires.1 _ _ _ _ _ l.invariant (ap (bit_and l.left) c.touched.ensures)
+    c.if-next-left.false c.give.ensures
+
+pub overflow_add-k : goal.overflow_add-k
+overflow_add-k c =
+    let p = loop-again c in
+    let l = c.requires.1 in
+    omega (arith, p.few)
+
+pub loop-left-smaller : goal.loop-left-smaller
+loop-left-smaller c = let p = loop-again c in omega (arith, p.few)
+
+pub returns : goal.returns
+returns c =
+    let l = c.loop-left in
+    peeled_end _ _ c.requires.1 _ _ _ l.invariant
+    (ap (bit_and l.left) (sym c.touched.ensures) ∙ c.if-next-left.true)

@@ -1,0 +1,18 @@
+-- `follow` meets its contract. The loop's invariant: the path so far is followed (`Followed`). The measure is the room
+-- left in the path. Assumes nothing.
+use mathlib.Core.Path.{◌≡◌}
+use mathlib.Core.Bool.{false}
+use Prim.Native.Nat.{◌-◌, ◌<◌}
+use native.Mathlib.Omega.{arith}
+use borrow.Author.Rules.{rules}
+use Rattle.words.specs.Bits.{has}
+use Rattle.words.proofs.Tests.{failed, passed}
+use Rattle.layering.specs.Path.{Followed}
+use Rattle.layering.proofs.Following.{followed_start, followed_next, followed_room}
+use Rattle.layering.proofs.ring.follow.Given as goal
+
+abbrev pub invariant-loop-path : goal.invariant-loop-path
+invariant-loop-path l = Followed l.dependents l.stuck l.path l.len l.seen l.at
+
+abbrev pub decreases-loop-path : goal.decreases-loop-path
+decreases-loop-path l = 64 - l.len

@@ -1,0 +1,13 @@
+-- `next` meets its contract: an atom that it looks for is left (`Seeking`). The measure is the word that is left.
+-- Assumes nothing.
+use mathlib.Core.Path.{sym, ◌∙◌}
+use borrow.Author.Rules.{rules}
+use Rattle.words.proofs.BitWalks.{without_less}
+use Rattle.layering.proofs.Following.{Seeking, seeking_start, seeking_some, seeking_next, seeking_found}
+use Rattle.layering.proofs.ring.next.Given as goal
+
+abbrev pub invariant-loop-b : goal.invariant-loop-b
+invariant-loop-b l = Seeking l.dependents l.among l.at l.left
+
+abbrev pub decreases-loop-b : goal.decreases-loop-b
+decreases-loop-b l = l.left

@@ -1,0 +1,14 @@
+-- Answers to the goals of this function. Assumes nothing.
+use borrow.Author.Rules.{rules}
+use Prim.Native.Nat.{◌-◌}
+use Rattle.loading.proofs.States.{AtDraw, draw-start, draw-more, draw-end}
+use Rattle.loading.proofs.draws.state_after.Goals as goal
+
+pub loop-done-init : goal.loop-done-init
+loop-done-init c = search draw-start
+
+pub loop-done-preserved : goal.loop-done-preserved
+loop-done-preserved c = search draw-more
+
+pub returns : goal.returns
+returns c = search draw-end

@@ -1,0 +1,28 @@
+-- Answers to the goals of this function. Assumes nothing.
+use borrow.Author.Rules.{rules}
+use mathlib.Core.List.{map}
+use Prim.Native.Nat.{◌-◌}
+use native.Mathlib.Omega.{arith}
+use Rattle.spelling.proofs.Pages.{sets-length}
+use Rattle.writing.specs.Lines.{line_text}
+use Rattle.writing.proofs.Growing.{AtEntry, entry-start, entry-room, entry_more, entry-end}
+use Rattle.loading.specs.Load.{atom_lines}
+use Rattle.loading.proofs.LineTexts.{atoms-grow}
+use Rattle.loading.proofs.lines.atom_lines.Goals as goal
+
+pub loop-atom-init : goal.loop-atom-init
+loop-atom-init c = entry-start atoms-grow _ _ _
+
+pub atom_line-page-requires : goal.atom_line-page-requires
+atom_line-page-requires c =
+    entry-room atoms-grow c.loop-atom.invariant (omega arith) c.requires
+
+pub loop-atom-preserved : goal.loop-atom-preserved
+loop-atom-preserved c =
+    entry_more atoms-grow c.loop-atom.invariant (omega arith) c.atom_line-page.ensures
+
+pub shape_of-out : goal.shape_of-out
+shape_of-out c = sets-length c.loop-atom.invariant.sets
+
+pub returns : goal.returns
+returns c = entry-end atoms-grow c.loop-atom.invariant (omega arith)

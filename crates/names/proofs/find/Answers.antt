@@ -1,0 +1,18 @@
+-- Answers to the goals of this function. Assumes nothing.
+use borrow.Author.Rules.{rules}
+use Prim.Native.Nat.{◌-◌}
+use lib.Seq.{slice}
+use Rattle.names.proofs.Search.{Searched, searched_none, searched_all, compared_here, compared_more}
+use Rattle.names.proofs.find.Goals as goal
+
+pub loop-i-init : goal.loop-i-init
+loop-i-init c = search (rules, searched_none)
+
+pub returns-in-Same : goal.returns-in-Same
+returns-in-Same c = search (rules, compared_here)
+
+pub loop-i-preserved : goal.loop-i-preserved
+loop-i-preserved c = search (rules, compared_more)
+
+pub returns : goal.returns
+returns c = search (rules, searched_all)

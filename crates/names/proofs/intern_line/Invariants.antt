@@ -1,0 +1,17 @@
+-- `names::intern_line` meets its contract. The invariant: the names from place at on, put into the rows so far, leave
+-- what the names of the line leave. Assumes nothing.
+use borrow.Author.Rules.{rules}
+use mathlib.Core.Path.{◌≡◌}
+use Prim.Native.Nat.{◌≤◌, ◌-◌}
+use lib.ListN.{length}
+use Rattle.text.proofs.Names.{name-onward, name-within, name-less}
+use Rattle.names.specs.Row.{rows}
+use Rattle.names.proofs.LineNames.{Adding, adding_all, adding_none, adding_more, adding_full}
+use Rattle.names.proofs.intern_line.Given as goal
+
+abbrev pub invariant-loop-a : goal.invariant-loop-a
+invariant-loop-a l =
+    (l.n ≤ 64) × (length l.names ≡ length l.initial.names) × Adding (rows l.count l.initial.names) l.l l.at (rows l.n l.names)
+
+abbrev pub decreases-loop-a : goal.decreases-loop-a
+decreases-loop-a l = length l.l - l.at

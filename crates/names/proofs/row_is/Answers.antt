@@ -1,0 +1,18 @@
+-- Answers to the goals of this function. Assumes nothing.
+use borrow.Author.Rules.{rules}
+use Prim.Native.Nat.{◌-◌}
+use lib.Seq.{slice}
+use Rattle.names.proofs.Search.{RowFrom, row-from-none, row-from-more, row-from-stops, row-from-ends}
+use Rattle.names.proofs.row_is.Goals as goal
+
+pub loop-j-init : goal.loop-j-init
+loop-j-init c = search (rules, row-from-none)
+
+pub returns-then-names-base : goal.returns-then-names-base
+returns-then-names-base c = search (rules, row-from-stops, c.if-names-base.true)
+
+pub loop-j-preserved : goal.loop-j-preserved
+loop-j-preserved c = search (rules, row-from-more)
+
+pub returns : goal.returns
+returns c = search (rules, row-from-ends)

@@ -1,0 +1,10 @@
+-- `body` meets its contract: the plain atoms joined by the planes as they are, the negated ones by the planes changed
+-- over, beginning with true in each lane. Assumes nothing.
+use mathlib.Core.Path.{refl}
+use borrow.Author.Rules.{rules}
+use Rattle.planes.proofs.Joining.{body_is}
+use Rattle.planes.proofs.plane.body.Goals as goal
+
+pub returns : goal.returns
+returns c =
+    λ j l. body_is _ _ _ _ c.requires _ _ _ refl c.join.ensures c.join-2.ensures j l

@@ -1,0 +1,21 @@
+-- Answers to the goals of this function. Assumes nothing.
+use borrow.Author.Rules.{rules}
+use Rattle.words.proofs.BitWalks.{without_less}
+use Rattle.planes.proofs.Joining.{Joining, joining_start, joining_next, joining_end}
+use Rattle.planes.proofs.plane.join.Goals as goal
+
+pub loop-left-init : goal.loop-left-init
+loop-left-init c = joining_start _ _ _ _
+
+pub loop-left-smaller : goal.loop-left-smaller
+loop-left-smaller c =
+    let b = c.lowest_bit-i.ensures in
+    rw (c.without_lowest-left.ensures _ b) (without_less _ _ b.bit)
+
+pub loop-left-preserved : goal.loop-left-preserved
+loop-left-preserved c =
+    let b = c.lowest_bit-i.ensures in
+    rw (c.without_lowest-left.ensures _ b) (joining_next _ _ _ _ _ _ _ _ c.loop-left.invariant b.bit)
+
+pub returns : goal.returns
+returns c = joining_end _ _ _ _ _ _ _ c.loop-left.invariant c.loop-left-test.false

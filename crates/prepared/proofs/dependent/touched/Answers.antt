@@ -1,0 +1,23 @@
+-- Answers to the goals of this function. Assumes nothing.
+use borrow.Author.Rules.{rules}
+use Rattle.words.proofs.BitWalks.{without_less}
+use Rattle.prepared.proofs.Touching.{Gathered, gathered_start, gathered_next, gathered_end}
+use Rattle.prepared.proofs.dependent.touched.Goals as goal
+
+pub loop-left-init : goal.loop-left-init
+loop-left-init c = gathered_start _ _
+
+pub loop-left-smaller : goal.loop-left-smaller
+loop-left-smaller c =
+    let b = c.lowest_bit-i.ensures in
+    rw (c.without_lowest-left.ensures _ b) (without_less _ _ b.bit)
+
+pub loop-left-preserved : goal.loop-left-preserved
+loop-left-preserved c =
+    let b = c.lowest_bit-i.ensures in
+    rw (c.without_lowest-left.ensures _ b)
+    (gathered_next _ _ _ _ _ c.loop-left.invariant b.bit
+    (c.requires _ b.bit.small))
+
+pub returns : goal.returns
+returns c = gathered_end _ _ _ _ c.loop-left.invariant c.loop-left-test.false

@@ -1,0 +1,12 @@
+-- `touched` meets its contract: the heads gathered and those that the atoms left touch are always all (`Gathered`). The
+-- measure is the word that is left. Assumes nothing.
+use borrow.Author.Rules.{rules}
+use Rattle.words.proofs.BitWalks.{without_less}
+use Rattle.prepared.proofs.Touching.{Gathered, gathered_start, gathered_next, gathered_end}
+use Rattle.prepared.proofs.dependent.touched.Given as goal
+
+abbrev pub invariant-loop-left : goal.invariant-loop-left
+invariant-loop-left l = Gathered l.dependents l.fresh l.heads l.left
+
+abbrev pub decreases-loop-left : goal.decreases-loop-left
+decreases-loop-left l = l.left

@@ -1,0 +1,12 @@
+-- `program::cause::choice` meets its contract: the test decides. Assumes nothing.
+use mathlib.Core.Path.{sym, ap, ◌∙◌}
+use mathlib.Core.Bool.{Bool}
+use borrow.Author.Rules.{rules}
+use Rattle.words.specs.Choice.{pick}
+use Rattle.program.proofs.cause.choice.Goals as goal
+
+pub returns-then-test : goal.returns-then-test
+returns-then-test c = sym (ap (λ (t : Bool). pick t 2 3) (sym c.test.ensures ∙ c.if-test.true))
+
+pub returns : goal.returns
+returns c = sym (ap (λ (t : Bool). pick t 2 3) (sym c.test.ensures ∙ c.if-test.false))

@@ -1,0 +1,16 @@
+-- `program::cause::heads` meets its contract. The loop's invariant: the word has the heads of the clauses passed.
+-- Assumes nothing.
+use mathlib.Core.Path.{◌≡◌, ap, ap₂, ◌∙◌}
+use Prim.Native.Nat.{◌≤◌, ◌-◌}
+use native.Mathlib.Nat.{le_antisymm}
+use lib.Bits.{bit_or}
+use borrow.Author.Rules.{rules}
+use Rattle.program.specs.Program.{heads_of}
+use Rattle.program.proofs.Heads.{heads-none, heads-more}
+use Rattle.program.proofs.cause.heads.Given as goal
+
+abbrev pub invariant-loop-k : goal.invariant-loop-k
+invariant-loop-k l = (l.k ≤ l.n) × (l.heads ≡ heads_of l.clauses l.k)
+
+abbrev pub decreases-loop-k : goal.decreases-loop-k
+decreases-loop-k l = l.n - l.k

@@ -1,0 +1,17 @@
+-- `program::sound::clause_sound` meets its contract: the head, the literals, then the kind. Assumes nothing.
+use native.Mathlib.Omega.{arith}
+use borrow.Author.Rules.{rules}
+use Rattle.words.proofs.Tests.{failed, passed}
+use Rattle.program.proofs.Soundness.{clause_headless, clause-outside, clause-shaped}
+use Rattle.program.proofs.sound.clause_sound.Goals as goal
+
+pub returns-then-atoms-first : goal.returns-then-atoms-first
+returns-then-atoms-first c = clause_headless _ _ _ _ (omega arith)
+
+pub returns-then-not-is_within : goal.returns-then-not-is_within
+returns-then-not-is_within c = clause-outside _ _ _ _ (omega arith) (failed c.is_Within.ensures c.if-not-is_within.true-raw)
+
+pub returns : goal.returns
+returns c =
+    clause-shaped _ _ _ _ (omega arith) (passed c.is_Within.ensures c.if-not-is_within.false-raw)
+    c.is_bare.ensures c.is_shaped.ensures

@@ -1,0 +1,15 @@
+-- `program::sound::clauses_sound` meets its contract. The loop's invariant: every clause passed is sound (`Tested`).
+-- Assumes nothing.
+use mathlib.Core.Path.{◌≡◌}
+use Prim.Native.Nat.{◌+◌, ◌^◌, ◌-◌}
+use borrow.Author.Rules.{rules}
+use Rattle.program.specs.Sound.{sound_clauses}
+use Rattle.program.proofs.Entries.{Tested, tested-none, tested-more, tested-failed, tested-all}
+use Rattle.program.proofs.Soundness.{clause_test}
+use Rattle.program.proofs.sound.clauses_sound.Given as goal
+
+abbrev pub invariant-loop-k : goal.invariant-loop-k
+invariant-loop-k l = (l.top + 1 ≡ 2 ^ l.atoms) × Tested (clause_test l.atoms l.clauses) l.n l.k
+
+abbrev pub decreases-loop-k : goal.decreases-loop-k
+decreases-loop-k l = l.n - l.k

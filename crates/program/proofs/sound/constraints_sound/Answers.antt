@@ -1,0 +1,22 @@
+-- Answers to the goals of this function. Assumes nothing.
+use mathlib.Core.Path.{◌≡◌}
+use Prim.Native.Nat.{◌+◌, ◌^◌, ◌-◌}
+use borrow.Author.Rules.{rules}
+use Rattle.program.specs.Sound.{sound_constraints}
+use Rattle.program.proofs.Entries.{Tested, tested-none, tested-more, tested-failed, tested-all}
+use Rattle.program.proofs.Soundness.{constraint_test}
+use Rattle.program.proofs.sound.constraints_sound.Goals as goal
+
+pub loop-k-init : goal.loop-k-init
+loop-k-init c = search (rules, tested-none)
+
+pub returns-then-not-constraint_sound : goal.returns-then-not-constraint_sound
+unfolding sound_constraints
+returns-then-not-constraint_sound c = search (rules, tested-failed)
+
+pub loop-k-preserved : goal.loop-k-preserved
+loop-k-preserved c = search (rules, tested-more)
+
+pub returns : goal.returns
+unfolding sound_constraints
+returns c = search (rules, tested-all)

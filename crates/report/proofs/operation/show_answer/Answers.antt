@@ -1,0 +1,16 @@
+-- `show_answer` meets its contract: the text's length is known from writing it to a spare output, and the test on it
+-- decides. Assumes nothing.
+use borrow.Author.Rules.{rules}
+use mathlib.Core.Path.{sym}
+use lib.Seq.{length-take-le}
+use Rattle.report.proofs.Showing.{report_short, report_written}
+use Rattle.report.proofs.operation.show_answer.Goals as goal
+
+pub slice_bounds-shown-end : goal.slice_bounds-shown-end
+slice_bounds-shown-end c = sym (length-take-le _ _ (array-share-prefix-verdicts c))
+
+pub returns-then-out-length : goal.returns-then-out-length
+returns-then-out-length c = search report_short
+
+pub returns : goal.returns
+returns c = search report_written

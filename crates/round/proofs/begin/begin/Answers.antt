@@ -1,0 +1,16 @@
+-- Answers to the goals of this function. Assumes nothing.
+use Prim.Native.Nat.{◌-◌}
+use native.Mathlib.Omega.{arith}
+use borrow.Author.Rules.{rules}
+use Rattle.round.proofs.Beginning.{Beginning, beginning_start, beginning_next, beginning_end}
+use Rattle.round.proofs.begin.begin.Goals as goal
+
+pub loop-i-init : goal.loop-i-init
+loop-i-init c = beginning_start _ _ _ _ _ _ _ c.requires
+
+pub loop-i-preserved : goal.loop-i-preserved
+loop-i-preserved c =
+    beginning_next _ _ _ _ _ _ _ _ _ c.loop-i.invariant (omega arith) _ _ c.open_word-v.ensures c.with-c.ensures
+
+pub returns : goal.returns
+returns c = beginning_end _ _ _ _ _ _ _ _ _ c.loop-i.invariant (omega arith)

@@ -1,0 +1,10 @@
+-- `redo` meets its contract: the heads are decided against the old planes, then the atoms noted are taken in.
+-- Assumes nothing.
+use borrow.Author.Rules.{rules}
+use Rattle.round.proofs.Committing.{redone-lanes}
+use Rattle.round.proofs.redo.redo.Goals as goal
+
+pub returns : goal.returns
+returns c =
+    let d = c.decide-c.ensures in
+    (redone-lanes _ _ _ _ _ _ _ _ _ _ d c.commit.ensures, (c.commit.ensures.sizes, d.sizes))

@@ -1,0 +1,10 @@
+-- `spelling::closing` meets its contract: one byte, behind which no word stands. Assumes nothing.
+use borrow.Author.Rules.{rules}
+use Rattle.spelling.proofs.Pens.{closing-room, closing-written}
+use Rattle.spelling.proofs.closing.Goals as goal
+
+pub put-end-requires : goal.put-end-requires
+put-end-requires c = search closing-room
+
+pub returns : goal.returns
+returns c = search closing-written

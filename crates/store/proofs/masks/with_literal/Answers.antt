@@ -1,0 +1,9 @@
+-- `masks::with_literal` meets its contract. Assumes nothing.
+use borrow.Author.Rules.{rules}
+use Rattle.store.proofs.masks.with_literal.Goals as goal
+
+pub returns-then-negated : goal.returns-then-negated
+returns-then-negated c = rw (c.if-negated.true, c.with_atom.ensures)
+
+pub returns : goal.returns
+returns c = rw (c.if-negated.false, c.with_atom-2.ensures)

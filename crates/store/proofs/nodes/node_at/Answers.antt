@@ -1,0 +1,14 @@
+-- `nodes::node_at` meets its contract. Assumes nothing.
+use native.Mathlib.Omega.{arith}
+use borrow.Author.Rules.{rules}
+use Rattle.store.proofs.NodeLaws.{row-few}
+use Rattle.store.proofs.nodes.node_at.Goals as goal
+
+pub returns-then-form : goal.returns-then-form
+returns-then-form c = rw c.if-form.true c.node_of.ensures
+
+pub overflow_cast-result : goal.overflow_cast-result
+overflow_cast-result c = omega (arith, row-few _ _ _ c.find.ensures)
+
+pub returns : goal.returns
+returns c = rw c.if-form.false c.find.ensures

@@ -1,0 +1,20 @@
+-- Answers to the goals of this function. Assumes nothing.
+use borrow.Author.Rules.{rules}
+use Prim.Native.Nat.{◌-◌}
+use lib.ListN.{length}
+use Rattle.words.proofs.Tests.{failed, passed}
+use Rattle.text.specs.Bytes.{is_allowed}
+use Rattle.text.proofs.ByteLaws.{AllFrom, all-from-none, all-from-more, all-from-stops, all-from-ends}
+use Rattle.text.proofs.bytes.all_allowed.Goals as goal
+
+pub loop-i-init : goal.loop-i-init
+loop-i-init c = search (rules, all-from-none)
+
+pub returns-then-not-is_allowed : goal.returns-then-not-is_allowed
+returns-then-not-is_allowed c = search (rules, all-from-stops, failed)
+
+pub loop-i-preserved : goal.loop-i-preserved
+loop-i-preserved c = search (rules, all-from-more, passed)
+
+pub returns : goal.returns
+returns c = search (rules, all-from-ends)

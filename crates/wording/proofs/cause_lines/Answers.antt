@@ -1,0 +1,29 @@
+-- Answers to the goals of this function. Assumes nothing.
+use borrow.Author.Rules.{rules}
+use Prim.Native.Nat.{◌-◌}
+use native.Mathlib.Omega.{arith}
+use lib.ListN.{length}
+use Rattle.names.specs.Row.{name_in}
+use Rattle.output.proofs.Laying.{writes-length}
+use Rattle.wording.specs.Text.{cause_line}
+use Rattle.wording.proofs.Listings.{AtLine, line-start, line-room, line-more, line-end}
+use Rattle.wording.proofs.cause_lines.Goals as goal
+
+pub loop-k-init : goal.loop-k-init
+loop-k-init c = line-start _ _ _ _
+
+pub overflow_cast-list : goal.overflow_cast-list
+overflow_cast-list c = omega (arith, c.shared_slice_known-in-loop-k-1.given c.loop-k.k)
+
+pub cause_line-place-requires : goal.cause_line-place-requires
+cause_line-place-requires c =
+    (search rules, line-room _ c.loop-k.invariant (omega arith) c.requires.1)
+
+pub loop-k-preserved : goal.loop-k-preserved
+loop-k-preserved c = search line-more
+
+pub shape_of-out : goal.shape_of-out
+shape_of-out c = search writes-length
+
+pub returns : goal.returns
+returns c = search line-end

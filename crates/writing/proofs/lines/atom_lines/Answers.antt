@@ -1,0 +1,25 @@
+-- Answers to the goals of this function. Assumes nothing.
+use borrow.Author.Rules.{rules}
+use Prim.Native.Nat.{◌-◌}
+use native.Mathlib.Omega.{arith}
+use Rattle.spelling.proofs.Pages.{sets-length}
+use Rattle.writing.specs.Steps.{atom_texts}
+use Rattle.writing.proofs.Growing.{AtEntry, list_grows, entry-start, entry-room, entry_more, entry-end}
+use Rattle.writing.proofs.lines.atom_lines.Goals as goal
+
+pub loop-a-init : goal.loop-a-init
+loop-a-init c = entry-start (list_grows _) _ _ _
+
+pub atom_line-page-requires : goal.atom_line-page-requires
+atom_line-page-requires c =
+    (omega arith, entry-room (list_grows _) c.loop-a.invariant (omega arith) c.requires.2)
+
+pub loop-a-preserved : goal.loop-a-preserved
+loop-a-preserved c =
+    entry_more (list_grows _) c.loop-a.invariant (omega arith) c.atom_line-page.ensures
+
+pub shape_of-out : goal.shape_of-out
+shape_of-out c = sets-length c.loop-a.invariant.sets
+
+pub returns : goal.returns
+returns c = entry-end (list_grows _) c.loop-a.invariant (omega arith)

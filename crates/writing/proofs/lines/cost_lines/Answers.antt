@@ -1,0 +1,25 @@
+-- Answers to the goals of this function. Assumes nothing.
+use borrow.Author.Rules.{rules}
+use Prim.Native.Nat.{◌-◌}
+use native.Mathlib.Omega.{arith}
+use Rattle.spelling.proofs.Pages.{sets-length}
+use Rattle.writing.specs.Steps.{cost_texts}
+use Rattle.writing.proofs.Growing.{AtEntry, costs-grow, entry-start, entry-room, entry_more, entry-end}
+use Rattle.writing.proofs.lines.cost_lines.Goals as goal
+
+pub loop-atom-init : goal.loop-atom-init
+loop-atom-init c = entry-start (costs-grow _ _) _ _ _
+
+pub priced_line-page-requires : goal.priced_line-page-requires
+priced_line-page-requires c =
+    (omega arith, omega arith, entry-room (costs-grow _ _) c.loop-atom.invariant (omega arith) c.requires.3)
+
+pub loop-atom-preserved : goal.loop-atom-preserved
+loop-atom-preserved c =
+    entry_more (costs-grow _ _) c.loop-atom.invariant (omega arith) c.priced_line-page.ensures
+
+pub shape_of-out : goal.shape_of-out
+shape_of-out c = sets-length c.loop-atom.invariant.sets
+
+pub returns : goal.returns
+returns c = entry-end (costs-grow _ _) c.loop-atom.invariant (omega arith)

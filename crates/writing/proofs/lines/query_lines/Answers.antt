@@ -1,0 +1,43 @@
+-- Answers to the goals of this function. Assumes nothing.
+use borrow.Author.Rules.{rules}
+use Prim.Native.Nat.{◌-◌}
+use native.Mathlib.Omega.{arith}
+use Rattle.spelling.proofs.Pages.{sets-length}
+use Rattle.writing.specs.Steps.{query_texts}
+use Rattle.writing.proofs.Formulas.{lent_one, lent-room, lent_written}
+use Rattle.writing.proofs.Growing.{AtEntry, list_grows, entry-start, entry-room, entry_more, entry-end}
+use Rattle.writing.proofs.lines.query_lines.Goals as goal
+
+pub loop-q-init : goal.loop-q-init
+loop-q-init c = entry-start (list_grows _) _ _ _
+
+pub overflow_add-end : goal.overflow_add-end
+overflow_add-end c =
+    omega (arith, (c.requires.3 c.loop-q.q (omega arith)).0)
+
+-- LEFT part-query-line-end : tie.Need-slice-bounds-query-line-end invariant-loop decreases-loop
+-- LEFT part-query-line-end c =
+-- LEFT     let l = c.before.before.before in
+-- LEFT     let s = l.before.before.before.before in
+-- LEFT     omega (arith, (s.requires.3 l.loop.q (omega arith)).0)
+
+pub query_line-page-requires : goal.query_line-page-requires
+query_line-page-requires c =
+    let a = c.args in (
+      c.requires.1,
+      lent_one a.nodes.now a.formula.now c.loop-q.q (c.requires.3 c.loop-q.q (omega arith)).1,
+      lent-room a.nodes.now a.formula.now c.loop-q.q a.names.now
+          (entry-room (list_grows _) c.loop-q.invariant (omega arith) c.requires.4),
+    )
+
+pub loop-q-preserved : goal.loop-q-preserved
+loop-q-preserved c =
+    let a = c.args in
+    entry_more (list_grows _) c.loop-q.invariant (omega arith)
+    (lent_written a.nodes.now a.formula.now c.loop-q.q a.names.now c.query_line-page.ensures)
+
+pub shape_of-out : goal.shape_of-out
+shape_of-out c = sets-length c.loop-q.invariant.sets
+
+pub returns : goal.returns
+returns c = entry-end (list_grows _) c.loop-q.invariant (omega arith)
