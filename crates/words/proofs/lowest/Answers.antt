@@ -2,7 +2,6 @@
 use Prim.Native.Nat.{◌-◌, ◌^◌, ◌≤◌}
 use native.Mathlib.Omega.{arith}
 use lib.Pow.{pow_pos, pow_mono}
-use borrow.Author.Rules.{rules}
 use Rattle.words.proofs.Bits.{shl_one, pow_pred}
 use Rattle.words.proofs.lowest.Goals as goal
 

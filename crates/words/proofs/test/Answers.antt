@@ -1,5 +1,4 @@
 -- `words::test` meets its contract. Assumes nothing.
-use borrow.Author.Rules.{rules}
 use Rattle.words.proofs.Bits.{shl_one}
 use Rattle.words.proofs.Words.{test-one}
 use Rattle.words.proofs.test.Goals as goal

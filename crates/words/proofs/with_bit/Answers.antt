@@ -2,7 +2,6 @@
 use mathlib.Core.Path.{ap, sym, ◌∙◌}
 use mathlib.Core.Bool.{Bool}
 use lib.Bits.{bit_or}
-use borrow.Author.Rules.{rules}
 use Rattle.words.specs.OneBit.{with_bit}
 use Rattle.words.proofs.with_bit.Goals as goal
 

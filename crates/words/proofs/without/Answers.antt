@@ -1,5 +1,4 @@
 -- `words::without` meets its contract. Assumes nothing.
-use borrow.Author.Rules.{rules}
 use Rattle.words.proofs.Bits.{shl_one}
 use Rattle.words.proofs.without.Goals as goal
 
