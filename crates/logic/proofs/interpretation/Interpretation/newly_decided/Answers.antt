@@ -11,4 +11,4 @@ pub returns : goal.returns
 returns c =
     let g : Good c.args.self =
     record { trues_fit = omega arith; falses_fit = omega arith; disjoint = c.requires } in
-    c.decided.ensures ∙ newly-counted c.args c.args.self (omega arith) (omega arith) g
+    c.decided.ensures ∙ newly-counted c.args.before c.args.self (omega arith) (omega arith) g
