@@ -39,7 +39,7 @@ pub sets-part : (i : ℕ) (vs t u : List ℕ) → i + length vs ≤ length t →
     → drop i u ≡ sets (drop i t) 0 vs → u ≡ sets t i vs
 sets-part i vs t u h p q =
     let rest = sets-eq vs (drop i t) 0 (rw length-drop (omega arith)) in
-    sym (take-append-drop i u) ∙ rw (p, q, rest, zero-add, drop-drop, sets-eq vs t i h, append_assoc)
+    sym (take-append-drop i u) ∙ rw (p, q, rest, zero-add, drop-drop, sets-eq vs t i h, append_assoc (take i t) vs)
 
 -- the table t when a loop has stored the first j entries of vs in t₀ from place i on: after a turn, and at the end
 module _ (vs t t₀ : List ℕ) (i j : ℕ) (e : t ≡ sets t₀ i (take j vs)) where

@@ -1,6 +1,5 @@
 -- `table::byte_or_zero` meets its contract: a place within the part is one of s, and past it the default is 0.
 -- Assumes nothing.
-use borrow.Author.Rules.{rules}
 use native.Mathlib.Omega.{arith}
 use Rattle.table.proofs.Stores.{slice_at, slice_past}
 use Rattle.table.proofs.byte_or_zero.Goals as goal

@@ -1,8 +1,6 @@
 -- Answers to the goals of this function. Assumes nothing.
 use borrow.Author.Rules.{rules}
-use Prim.Native.Nat.{◌-◌}
-use lib.Seq.{slice}
-use Rattle.table.proofs.Stores.{RowStored, row_stored_none, row_stored_more, row_stored_all}
+use Rattle.table.proofs.Stores.{row_stored_none, row_stored_more, row_stored_all}
 use Rattle.table.proofs.put_row.Goals as goal
 
 pub loop-i-init : goal.loop-i-init

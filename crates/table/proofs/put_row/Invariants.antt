@@ -1,8 +1,7 @@
 -- `table::put_row` meets its contract. The invariant is `RowStored`: the bytes passed are stored. Assumes nothing.
-use borrow.Author.Rules.{rules}
 use Prim.Native.Nat.{◌-◌}
 use lib.Seq.{slice}
-use Rattle.table.proofs.Stores.{RowStored, row_stored_none, row_stored_more, row_stored_all}
+use Rattle.table.proofs.Stores.{RowStored}
 use Rattle.table.proofs.put_row.Given as goal
 
 abbrev pub invariant-loop-i : goal.invariant-loop-i

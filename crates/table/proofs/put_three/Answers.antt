@@ -1,5 +1,4 @@
 -- `table::put_three` meets its contract: each store is one more behind the stores before it. Assumes nothing.
-use borrow.Author.Rules.{rules}
 use mathlib.Core.Path.{◌∙◌, ap}
 use mathlib.Core.List.{[], ◌∷◌}
 use Prim.Native.Nat.{◌+◌}

@@ -1,7 +1,6 @@
 -- `table::zero_bytes` meets its contract. The invariant is `Zeroed`: the entries passed are zeroed. Assumes nothing.
-use borrow.Author.Rules.{rules}
 use Prim.Native.Nat.{◌-◌}
-use Rattle.table.proofs.Zeroing.{Zeroed, zeroed-none, zeroed-more, zeroed-all}
+use Rattle.table.proofs.Zeroing.{Zeroed}
 use Rattle.table.proofs.zero_bytes.Given as goal
 
 abbrev pub invariant-loop-i : goal.invariant-loop-i

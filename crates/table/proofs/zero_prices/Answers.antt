@@ -1,7 +1,6 @@
 -- Answers to the goals of this function. Assumes nothing.
 use borrow.Author.Rules.{rules}
-use Prim.Native.Nat.{◌-◌}
-use Rattle.table.proofs.Zeroing.{Zeroed, zeroed-none, zeroed-more, zeroed-all}
+use Rattle.table.proofs.Zeroing.{zeroed-none, zeroed-more, zeroed-all}
 use Rattle.table.proofs.zero_prices.Goals as goal
 
 pub loop-i-init : goal.loop-i-init
