@@ -7,11 +7,6 @@ use Rattle.tidying.specs.Text.{tidy_said}
 use Rattle.tidying.proofs.Answers.{accepted_tidied}
 use Rattle.tidying.proofs.operation.tidy_in.Goals as goal
 
--- the tables as reading leaves them
-abbrev filled : tie.After-read → Lent
-filled c = let p = c.read.new.1 in
-    lent p.0 p.1.0 p.1.1.0 p.1.1.1.0 p.1.1.1.1.0
-
 pub read-found-requires : goal.read-found-requires
 read-found-requires c = tt
 
@@ -20,13 +15,15 @@ show_refusal-requires c = tt
 
 pub returns-then-found-ne0 : goal.returns-then-found-ne0
 returns-then-found-ne0 c =
-    refused-shown {u = filled c} c.requires c.read-found.ensures c.if-found-ne0.true tidy_said c.show_refusal.ensures
+    let filled = lent c.read-found.new.clauses c.read-found.new.constraints c.read-found.new.formula c.read-found.new.names c.read-found.new.prices in
+    refused-shown {u = filled} c.requires c.read-found.ensures c.if-found-ne0.true tidy_said c.show_refusal.ensures
 
 pub show_case-requires : goal.show_case-requires
 show_case-requires c = tt
 
 pub returns : goal.returns
 returns c =
-    let the_accepted : Accepted c.args.file.now (filled c) c.read-found.result =
-    accepted_report {u = filled c} c.requires c.read-found.ensures c.if-found-ne0.false in
+    let filled = lent c.read-found.new.clauses c.read-found.new.constraints c.read-found.new.formula c.read-found.new.names c.read-found.new.prices in
+    let the_accepted : Accepted c.args.file.now filled c.read-found.result =
+    accepted_report {u = filled} c.requires c.read-found.ensures c.if-found-ne0.false in
     accepted_tidied (the_accepted) c.show_case.ensures
