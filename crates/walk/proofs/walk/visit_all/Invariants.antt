@@ -14,13 +14,10 @@ use Rattle.walk.proofs.Blocks.{walking_work, lanes_planes, rounds_fit, decided_f
 use Rattle.walk.proofs.Blocks.{walking_end}
 use Rattle.walk.proofs.walk.visit_all.Given as goal
 
--- LEFT abbrev invariant-loop : tie.invariant-loop
--- LEFT invariant-loop c clauses constraints formula prices causes opening dependents last prev weights ot of oh end list₀ work₀ row₀
--- LEFT     nodes found₀ priced cheapest₀ rounds₀ decided₀ added₀ b₀ s₀ list work row found cheapest rounds decided added b s =
--- LEFT     Walking c clauses constraints formula prices causes end list₀ work₀ list work row found (sums rounds decided)
--- LEFT     cheapest added b s
+abbrev pub invariant-loop-s : goal.invariant-loop-s
+invariant-loop-s l =
+    Walking l.c l.clauses l.constraints l.formula l.prices l.causes l.end l.initial.list l.initial.work l.list l.work
+    l.row l.found (sums l.rounds l.decided) l.cheapest l.added l.b l.s
 
--- LEFT abbrev decreases-loop : tie.decreases-loop
--- LEFT decreases-loop c clauses constraints formula prices causes opening dependents last prev weights ot of oh end list₀ work₀ row₀
--- LEFT     nodes found₀ priced cheapest₀ rounds₀ decided₀ added₀ b₀ s₀ list work row found cheapest rounds decided added b s =
--- LEFT     end - s
+abbrev pub decreases-loop-s : goal.decreases-loop-s
+decreases-loop-s l = l.end - l.s

@@ -7,23 +7,19 @@ use Rattle.writing.proofs.Fitting.{fit_constraints, fit_bars, fit_queries}
 use Rattle.writing.proofs.CaseTexts.{case-start, case-room_for, case-room-last, case-more, case-end}
 use Rattle.writing.proofs.lines.case_lines.Goals as goal
 
--- the tables at entry
-abbrev tables : tie.Start → Lent
-tables s =
-    let a = s.args in
-    lent a.clauses.now a.constraints.now a.formula.now a.names.now a.prices.now
-
 pub atom_lines-named-requires : goal.atom_lines-named-requires
 atom_lines-named-requires c =
     let x = c.args.c in
-    let t = tables c in
+    let t =
+    lent c.args.clauses.now c.args.constraints.now c.args.formula.now c.args.names.now c.args.prices.now in
     let h₀ = case-start x t c.args.out.now in
     (fit_atoms x t c.requires.0, fit_names x t c.requires.0, case-room_for x t _ _ h₀ c.requires.1)
 
 pub edition_lines-edited-requires : goal.edition_lines-edited-requires
 edition_lines-edited-requires c =
     let x = c.args.c in
-    let t = tables c in
+    let t =
+    lent c.args.clauses.now c.args.constraints.now c.args.formula.now c.args.names.now c.args.prices.now in
     let h₀ = case-start x t c.args.out.now in
     let h₁ = case-more x t _ _ h₀ c.atom_lines-named.ensures in
     case-room_for x t _ _ h₁ c.requires.1
@@ -31,7 +27,8 @@ edition_lines-edited-requires c =
 pub clause_lines-ruled-requires : goal.clause_lines-ruled-requires
 clause_lines-ruled-requires c =
     let x = c.args.c in
-    let t = tables c in
+    let t =
+    lent c.args.clauses.now c.args.constraints.now c.args.formula.now c.args.names.now c.args.prices.now in
     let h₀ = case-start x t c.args.out.now in
     let h₁ = case-more x t _ _ h₀ c.atom_lines-named.ensures in
     let h₂ = case-more x t _ _ h₁ c.edition_lines-edited.ensures in (
@@ -45,7 +42,8 @@ clause_lines-ruled-requires c =
 pub constraint_lines-bounded-requires : goal.constraint_lines-bounded-requires
 constraint_lines-bounded-requires c =
     let x = c.args.c in
-    let t = tables c in
+    let t =
+    lent c.args.clauses.now c.args.constraints.now c.args.formula.now c.args.names.now c.args.prices.now in
     let h₀ = case-start x t c.args.out.now in
     let h₁ = case-more x t _ _ h₀ c.atom_lines-named.ensures in
     let h₂ = case-more x t _ _ h₁ c.edition_lines-edited.ensures in
@@ -60,7 +58,8 @@ constraint_lines-bounded-requires c =
 pub seen_lines-seen-requires : goal.seen_lines-seen-requires
 seen_lines-seen-requires c =
     let x = c.args.c in
-    let t = tables c in
+    let t =
+    lent c.args.clauses.now c.args.constraints.now c.args.formula.now c.args.names.now c.args.prices.now in
     let h₀ = case-start x t c.args.out.now in
     let h₁ = case-more x t _ _ h₀ c.atom_lines-named.ensures in
     let h₂ = case-more x t _ _ h₁ c.edition_lines-edited.ensures in
@@ -71,7 +70,8 @@ seen_lines-seen-requires c =
 pub seen_lines-observed-requires : goal.seen_lines-observed-requires
 seen_lines-observed-requires c =
     let x = c.args.c in
-    let t = tables c in
+    let t =
+    lent c.args.clauses.now c.args.constraints.now c.args.formula.now c.args.names.now c.args.prices.now in
     let h₀ = case-start x t c.args.out.now in
     let h₁ = case-more x t _ _ h₀ c.atom_lines-named.ensures in
     let h₂ = case-more x t _ _ h₁ c.edition_lines-edited.ensures in
@@ -83,7 +83,8 @@ seen_lines-observed-requires c =
 pub query_lines-asked-requires : goal.query_lines-asked-requires
 query_lines-asked-requires c =
     let x = c.args.c in
-    let t = tables c in
+    let t =
+    lent c.args.clauses.now c.args.constraints.now c.args.formula.now c.args.names.now c.args.prices.now in
     let h₀ = case-start x t c.args.out.now in
     let h₁ = case-more x t _ _ h₀ c.atom_lines-named.ensures in
     let h₂ = case-more x t _ _ h₁ c.edition_lines-edited.ensures in
@@ -101,7 +102,8 @@ query_lines-asked-requires c =
 pub cost_lines-requires : goal.cost_lines-requires
 cost_lines-requires c =
     let x = c.args.c in
-    let t = tables c in
+    let t =
+    lent c.args.clauses.now c.args.constraints.now c.args.formula.now c.args.names.now c.args.prices.now in
     let h₀ = case-start x t c.args.out.now in
     let h₁ = case-more x t _ _ h₀ c.atom_lines-named.ensures in
     let h₂ = case-more x t _ _ h₁ c.edition_lines-edited.ensures in
@@ -119,7 +121,8 @@ cost_lines-requires c =
 pub returns : goal.returns
 returns c =
     let x = c.args.c in
-    let t = tables c in
+    let t =
+    lent c.args.clauses.now c.args.constraints.now c.args.formula.now c.args.names.now c.args.prices.now in
     let h₀ = case-start x t c.args.out.now in
     let h₁ = case-more x t _ _ h₀ c.atom_lines-named.ensures in
     let h₂ = case-more x t _ _ h₁ c.edition_lines-edited.ensures in

@@ -7,18 +7,14 @@ use borrow.Author.Tests.{le-ltb, lt-ltb}
 use Rattle.writing.proofs.CaseTexts.{line_absent, line-room-there, line-there}
 use Rattle.writing.proofs.lines.priced_line.Goals as goal
 
--- the price
-abbrev price : tie.Start → ℕ
-price s = get_or s.args.prices.now s.args.atom 0
-
 pub returns-then-price-eq0 : goal.returns-then-price-eq0
 returns-then-price-eq0 c =
-    line_absent _ (le-ltb 0 (price c) (omega arith))
+    line_absent _ (le-ltb 0 (get_or c.args.prices.now c.args.atom 0) (omega arith))
 
 pub cost_line-requires : goal.cost_line-requires
 cost_line-requires c =
-    (c.requires.0, line-room-there _ (lt-ltb 0 (price c) (omega arith)) c.requires.2)
+    (c.requires.0, line-room-there _ (lt-ltb 0 (get_or c.args.prices.now c.args.atom 0) (omega arith)) c.requires.2)
 
 pub returns : goal.returns
 returns c =
-    line-there _ (lt-ltb 0 (price c) (omega arith)) c.cost_line.ensures
+    line-there _ (lt-ltb 0 (get_or c.args.prices.now c.args.atom 0) (omega arith)) c.cost_line.ensures

@@ -15,11 +15,9 @@ pub overflow_add-end : goal.overflow_add-end
 overflow_add-end c =
     omega (arith, (c.requires.3 c.loop-q.q (omega arith)).0)
 
--- LEFT part-query-line-end : tie.Need-slice-bounds-query-line-end invariant-loop decreases-loop
--- LEFT part-query-line-end c =
--- LEFT     let l = c.before.before.before in
--- LEFT     let s = l.before.before.before.before in
--- LEFT     omega (arith, (s.requires.3 l.loop.q (omega arith)).0)
+pub slice_bounds-query_line-end : goal.slice_bounds-query_line-end
+slice_bounds-query_line-end c =
+    omega (arith, (c.requires.3 c.loop-q.q (omega arith)).0)
 
 pub query_line-page-requires : goal.query_line-page-requires
 query_line-page-requires c =

@@ -10,11 +10,6 @@ use Rattle.writing.proofs.Refusals.{tables-short, not-writable, fit_holds, line-
 use Rattle.writing.proofs.Refusals.{text-written}
 use Rattle.writing.proofs.operation.write.Goals as goal
 
-abbrev tables : tie.Start → Lent
-tables s =
-    let a = s.args in
-    lent a.clauses.now a.constraints.now a.formula.now a.names.now a.prices.now
-
 pub returns-then-not-tables_fit : goal.returns-then-not-tables_fit
 returns-then-not-tables_fit c = tables-short _ _ _ c.tables_fit.ensures c.if-not-tables_fit.true-raw
 
@@ -27,37 +22,42 @@ returns-then-not-is_writable c =
 
 pub case_lines-page-requires : goal.case_lines-page-requires
 case_lines-page-requires c =
-    let the_fits : Fit c.args.c (tables c) =
-    fit_holds c.args.c (tables c) c.args.out.now c.tables_fit.ensures c.if-not-tables_fit.false-raw
+    let tables = lent c.args.clauses.now c.args.constraints.now c.args.formula.now c.args.names.now c.args.prices.now in
+    let the_fits : Fit c.args.c tables =
+    fit_holds c.args.c tables c.args.out.now c.tables_fit.ensures c.if-not-tables_fit.false-raw
     c.is_writable.ensures c.if-not-is_writable.false-raw in
     (the_fits, fit_room _ _ (the_fits))
 
 pub returns-then-page : goal.returns-then-page
 returns-then-page c =
-    let the_fits : Fit c.args.c (tables c) =
-    fit_holds c.args.c (tables c) c.args.out.now c.tables_fit.ensures c.if-not-tables_fit.false-raw
+    let tables = lent c.args.clauses.now c.args.constraints.now c.args.formula.now c.args.names.now c.args.prices.now in
+    let the_fits : Fit c.args.c tables =
+    fit_holds c.args.c tables c.args.out.now c.tables_fit.ensures c.if-not-tables_fit.false-raw
     c.is_writable.ensures c.if-not-is_writable.false-raw in
     line-long _ _ _ (the_fits) c.case_lines-page.ensures c.if-page.true
 
 pub returns-then-page-gt32768 : goal.returns-then-page-gt32768
 returns-then-page-gt32768 c =
-    let the_fits : Fit c.args.c (tables c) =
-    fit_holds c.args.c (tables c) c.args.out.now c.tables_fit.ensures c.if-not-tables_fit.false-raw
+    let tables = lent c.args.clauses.now c.args.constraints.now c.args.formula.now c.args.names.now c.args.prices.now in
+    let the_fits : Fit c.args.c tables =
+    fit_holds c.args.c tables c.args.out.now c.tables_fit.ensures c.if-not-tables_fit.false-raw
     c.is_writable.ensures c.if-not-is_writable.false-raw in
     text-long _ _ _ (the_fits) c.case_lines-page.ensures c.if-page.false c.if-page-gt32768.true
 
 pub returns-then-out-page : goal.returns-then-out-page
 returns-then-out-page c =
-    let the_fits : Fit c.args.c (tables c) =
-    fit_holds c.args.c (tables c) c.args.out.now c.tables_fit.ensures c.if-not-tables_fit.false-raw
+    let tables = lent c.args.clauses.now c.args.constraints.now c.args.formula.now c.args.names.now c.args.prices.now in
+    let the_fits : Fit c.args.c tables =
+    fit_holds c.args.c tables c.args.out.now c.tables_fit.ensures c.if-not-tables_fit.false-raw
     c.is_writable.ensures c.if-not-is_writable.false-raw in
     output_short _ _ _ (the_fits) c.case_lines-page.ensures c.if-page.false
     c.if-page-gt32768.false c.if-out-page.true
 
 pub case_lines-requires : goal.case_lines-requires
 case_lines-requires c =
-    let the_fits : Fit c.args.c (tables c) =
-    fit_holds c.args.c (tables c) c.args.out.now c.tables_fit.ensures c.if-not-tables_fit.false-raw
+    let tables = lent c.args.clauses.now c.args.constraints.now c.args.formula.now c.args.names.now c.args.prices.now in
+    let the_fits : Fit c.args.c tables =
+    fit_holds c.args.c tables c.args.out.now c.tables_fit.ensures c.if-not-tables_fit.false-raw
     c.is_writable.ensures c.if-not-is_writable.false-raw in
     (the_fits, fit_room _ _ (the_fits))
 
@@ -66,8 +66,9 @@ shape_of-out c = search sets-length
 
 pub returns : goal.returns
 returns c =
-    let the_fits : Fit c.args.c (tables c) =
-    fit_holds c.args.c (tables c) c.args.out.now c.tables_fit.ensures c.if-not-tables_fit.false-raw
+    let tables = lent c.args.clauses.now c.args.constraints.now c.args.formula.now c.args.names.now c.args.prices.now in
+    let the_fits : Fit c.args.c tables =
+    fit_holds c.args.c tables c.args.out.now c.tables_fit.ensures c.if-not-tables_fit.false-raw
     c.is_writable.ensures c.if-not-is_writable.false-raw in
     text-written _ _ _ (the_fits) c.case_lines-page.ensures c.if-page.false
     c.if-page-gt32768.false c.if-out-page.false c.case_lines.ensures
