@@ -1,11 +1,9 @@
 -- `text::bytes::all_allowed` meets its contract. The invariant is `AllFrom`: every byte is allowed if those from i on
 -- are. Assumes nothing.
-use borrow.Author.Rules.{rules}
 use Prim.Native.Nat.{◌-◌}
 use lib.ListN.{length}
-use Rattle.words.proofs.Tests.{failed, passed}
 use Rattle.text.specs.Bytes.{is_allowed}
-use Rattle.text.proofs.ByteLaws.{AllFrom, all-from-none, all-from-more, all-from-stops, all-from-ends}
+use Rattle.text.proofs.ByteLaws.{AllFrom}
 use Rattle.text.proofs.bytes.all_allowed.Given as goal
 
 abbrev pub invariant-loop-i : goal.invariant-loop-i

@@ -1,10 +1,7 @@
 -- Answers to the goals of this function. Assumes nothing.
 use borrow.Author.Rules.{rules}
-use Prim.Native.Nat.{◌-◌}
-use lib.ListN.{length}
 use Rattle.words.proofs.Tests.{failed, passed}
-use Rattle.text.specs.Bytes.{is_word_byte}
-use Rattle.text.proofs.ByteLaws.{AllFrom, all-from-none, all-from-more, all-from-stops, all-from-ends}
+use Rattle.text.proofs.ByteLaws.{all-from-none, all-from-more, all-from-stops, all-from-ends}
 use Rattle.text.proofs.bytes.all_word_bytes.Goals as goal
 
 pub loop-i-init : goal.loop-i-init

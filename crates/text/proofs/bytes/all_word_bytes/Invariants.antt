@@ -1,11 +1,9 @@
 -- `text::bytes::all_word_bytes` meets its contract. The invariant is `AllFrom`: every byte stands in words if those
 -- from i on do. Assumes nothing.
-use borrow.Author.Rules.{rules}
 use Prim.Native.Nat.{◌-◌}
 use lib.ListN.{length}
-use Rattle.words.proofs.Tests.{failed, passed}
 use Rattle.text.specs.Bytes.{is_word_byte}
-use Rattle.text.proofs.ByteLaws.{AllFrom, all-from-none, all-from-more, all-from-stops, all-from-ends}
+use Rattle.text.proofs.ByteLaws.{AllFrom}
 use Rattle.text.proofs.bytes.all_word_bytes.Given as goal
 
 abbrev pub invariant-loop-i : goal.invariant-loop-i

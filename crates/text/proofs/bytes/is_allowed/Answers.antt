@@ -1,5 +1,4 @@
 -- `text::bytes::is_allowed` meets its contract, a law for each kind of byte. Assumes nothing.
-use borrow.Author.Rules.{rules}
 use mathlib.Core.Path.{sym, ◌∙◌}
 use Rattle.text.proofs.ByteLaws.{allowed_word, allowed_space, allowed_opening, allowed_others}
 use Rattle.text.proofs.bytes.is_allowed.Goals as goal
@@ -15,5 +14,5 @@ returns-then-b-eq40 c = sym (allowed_opening _ c.if-b-eq40.true)
 
 pub returns : goal.returns
 returns c =
-    let e = sym c.is_word_byte.ensures ∙ c.if-is_word_byte.left in
+    let e = sym c.is_word_byte.ensures ∙ c.if-is_word_byte.false in
     sym (allowed_others _ e c.if-b-eq32.false c.if-b-eq40.false)

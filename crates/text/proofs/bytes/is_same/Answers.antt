@@ -1,11 +1,9 @@
 -- Answers to the goals of this function. Assumes nothing.
 use borrow.Author.Rules.{rules}
 use mathlib.Core.Path.{sym}
-use Prim.Native.Nat.{◌-◌}
 use native.Mathlib.Omega.{arith}
-use lib.ListN.{length}
 use lib.Seq.{length-slice}
-use Rattle.text.proofs.Same.{same_lengths, SameFrom, same_none, same_more, same-stops, same_ends}
+use Rattle.text.proofs.Same.{same_lengths, same_none, same_more, same-stops, same_ends}
 use Rattle.text.proofs.bytes.is_same.Goals as goal
 
 pub returns-then-e-a : goal.returns-then-e-a

@@ -1,12 +1,8 @@
 -- `text::bytes::is_same` meets its contract. The invariant is `SameFrom`: the part is w if what is left of it is what
 -- is left of w. Assumes nothing.
-use borrow.Author.Rules.{rules}
-use mathlib.Core.Path.{sym}
 use Prim.Native.Nat.{◌-◌}
-use native.Mathlib.Omega.{arith}
 use lib.ListN.{length}
-use lib.Seq.{length-slice}
-use Rattle.text.proofs.Same.{same_lengths, SameFrom, same_none, same_more, same-stops, same_ends}
+use Rattle.text.proofs.Same.{SameFrom}
 use Rattle.text.proofs.bytes.is_same.Given as goal
 
 abbrev pub invariant-loop-i : goal.invariant-loop-i

@@ -1,5 +1,4 @@
 -- `text::lines::is_comment` meets its contract, by a line's first byte. Assumes nothing.
-use borrow.Author.Rules.{rules}
 use mathlib.Core.Path.{sym}
 use native.Mathlib.Omega.{arith}
 use Rattle.text.proofs.LineLaws.{comment_none, comment_first}

@@ -1,9 +1,8 @@
 -- `text::lines::line_end` meets its contract. The invariant is `InLine`: the bytes passed belong to one line.
 -- Assumes nothing.
-use borrow.Author.Rules.{rules}
 use Prim.Native.Nat.{◌-◌}
 use lib.ListN.{length}
-use Rattle.text.proofs.LineLaws.{InLine, in_line_none, in_line_more, in_line_stops, in_line_ends}
+use Rattle.text.proofs.LineLaws.{InLine}
 use Rattle.text.proofs.lines.line_end.Given as goal
 
 abbrev pub invariant-loop-i : goal.invariant-loop-i

@@ -1,5 +1,4 @@
 -- `name::is_name` meets its contract, by the word's first byte. Assumes nothing.
-use borrow.Author.Rules.{rules}
 use borrow.Author.Tests.{le-leb, lt-leb}
 use mathlib.Core.Path.{sym, ◌∙◌}
 use Rattle.text.proofs.Words.{name-first}

@@ -1,5 +1,4 @@
 -- `text::name::is_name_behind` meets its contract, by the bracket before the word. Assumes nothing.
-use borrow.Author.Rules.{rules}
 use Rattle.text.proofs.name.is_name_behind.Goals as goal
 
 pub returns : goal.returns

@@ -1,9 +1,7 @@
 -- Answers to the goals of this function. Assumes nothing.
 use borrow.Author.Rules.{rules}
-use Prim.Native.Nat.{◌-◌}
-use lib.ListN.{length}
 use Rattle.text.proofs.TokenLaws.{opening-less, closing-less, word-less, word-filled, word-within}
-use Rattle.text.proofs.Names.{Looking, looking_none, looking_end, looking_open, looking_close}
+use Rattle.text.proofs.Names.{looking_none, looking_end, looking_open, looking_close}
 use Rattle.text.proofs.Names.{looking_name, looking_other}
 use Rattle.text.proofs.name.next_name.Goals as goal
 

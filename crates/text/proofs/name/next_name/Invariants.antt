@@ -1,11 +1,8 @@
 -- `text::name::next_name` meets its contract. The invariant is `Looking`: no name stands before place i.
 -- Assumes nothing.
-use borrow.Author.Rules.{rules}
 use Prim.Native.Nat.{◌-◌}
 use lib.ListN.{length}
-use Rattle.text.proofs.TokenLaws.{opening-less, closing-less, word-less, word-filled, word-within}
-use Rattle.text.proofs.Names.{Looking, looking_none, looking_end, looking_open, looking_close}
-use Rattle.text.proofs.Names.{looking_name, looking_other}
+use Rattle.text.proofs.Names.{Looking}
 use Rattle.text.proofs.name.next_name.Given as goal
 
 abbrev pub invariant-loop-n : goal.invariant-loop-n

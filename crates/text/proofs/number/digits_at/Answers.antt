@@ -1,16 +1,9 @@
--- Answers to the goals of this function. Assumes nothing.
-use borrow.Author.Rules.{rules}
-use Prim.Native.Nat.{ℕ, ◌-◌, ◌^◌, ◌≤◌, ◌<◌}
-use native.Mathlib.Omega.{arith}
-use lib.ListN.{get_or}
+-- Answers to the goals of `text::number::digits_at`. Assumes nothing.
+use Rattle.std.proofs.Common.{◌<◌, ◌^◌, get_or, sym, ◌∙◌, arith, rules}
 use Rattle.words.proofs.Tests.{failed, passed}
-use Rattle.text.proofs.NumberLaws.{digits-empty, digit_between}
-use Rattle.text.proofs.NumberLaws.{Counting, counting_none, counting_small, counting_ends, counting_stops}
-use Rattle.text.proofs.NumberLaws.{counting_more}
+use Rattle.text.proofs.NumberLaws.{digits-empty, digit_between, counting_none, counting_small, counting_ends}
+use Rattle.text.proofs.NumberLaws.{counting_stops, counting_more}
 use Rattle.text.proofs.number.digits_at.Goals as goal
-
-abbrev byte : tie.Else2 invariant-loop decreases-loop → ℕ
-byte c = get_or (turn c).before.before.before.args.l.now (turn c).loop.i 0
 
 pub returns-then-a-e : goal.returns-then-a-e
 returns-then-a-e c = search (rules, digits-empty)
@@ -23,30 +16,23 @@ returns-then-not-is_digit c = search (rules, counting_stops, failed)
 
 pub overflow_mul-n : goal.overflow_mul-n
 overflow_mul-n c =
-    let the_small : c.loop-i.n < 10 ^ 18 =
-    counting_small c.loop-i.invariant (omega arith) (omega arith) in
-    let k = the_small in search rules
+    let small : c.loop-i.n < 10 ^ 18 = counting_small c.loop-i.invariant (omega arith) (omega arith) in
+    search rules
 
 pub overflow_sub-n : goal.overflow_sub-n
 overflow_sub-n c =
-    let the_between : (48 ≤ byte c) × (byte c ≤ 57) =
-    digit_between (byte c) (passed c.is_digit.ensures c.if-not-is_digit.false-raw) in
-    let b = the_between in search rules
+    let between = digit_between (get_or c.args.l.now c.loop-i.i 0) (sym c.is_digit.ensures ∙ c.if-not-is_digit.false) in
+    search rules
 
 pub overflow_cast-n : goal.overflow_cast-n
 overflow_cast-n c =
-    let the_between : (48 ≤ byte c) × (byte c ≤ 57) =
-    digit_between (byte c) (passed c.is_digit.ensures c.if-not-is_digit.false-raw) in
-    let b = the_between in search rules
+    let between = digit_between (get_or c.args.l.now c.loop-i.i 0) (sym c.is_digit.ensures ∙ c.if-not-is_digit.false) in
+    search rules
 
 pub overflow_add-n : goal.overflow_add-n
 overflow_add-n c =
-    let the_small : c.loop-i.n < 10 ^ 18 =
-    counting_small c.loop-i.invariant (omega arith) (omega arith) in
-    let the_between : (48 ≤ byte c) × (byte c ≤ 57) =
-    digit_between (byte c) (passed c.is_digit.ensures c.if-not-is_digit.false-raw) in
-    let k = the_small in
-    let b = the_between in
+    let small : c.loop-i.n < 10 ^ 18 = counting_small c.loop-i.invariant (omega arith) (omega arith) in
+    let between = digit_between (get_or c.args.l.now c.loop-i.i 0) (sym c.is_digit.ensures ∙ c.if-not-is_digit.false) in
     search rules
 
 pub loop-i-preserved : goal.loop-i-preserved

@@ -1,8 +1,6 @@
 -- Answers to the goals of this function. Assumes nothing.
 use borrow.Author.Rules.{rules}
-use Prim.Native.Nat.{◌-◌}
-use lib.ListN.{length}
-use Rattle.text.proofs.TokenLaws.{Passed, passed_none, passed-word, passed-opening, passed-closing, passed_gap}
+use Rattle.text.proofs.TokenLaws.{passed_none, passed-word, passed-opening, passed-closing, passed_gap}
 use Rattle.text.proofs.TokenLaws.{passed-end}
 use Rattle.text.proofs.tokens.token.Goals as goal
 

@@ -1,9 +1,7 @@
 -- `text::tokens::token` meets its contract. The invariant is `Passed`: no token stands before place i. Assumes nothing.
-use borrow.Author.Rules.{rules}
 use Prim.Native.Nat.{◌-◌}
 use lib.ListN.{length}
-use Rattle.text.proofs.TokenLaws.{Passed, passed_none, passed-word, passed-opening, passed-closing, passed_gap}
-use Rattle.text.proofs.TokenLaws.{passed-end}
+use Rattle.text.proofs.TokenLaws.{Passed}
 use Rattle.text.proofs.tokens.token.Given as goal
 
 abbrev pub invariant-loop-i : goal.invariant-loop-i
