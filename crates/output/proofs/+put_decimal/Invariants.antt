@@ -1,0 +1,6 @@
+-- The measure of the recursion.
+use Prim.Native.Nat.{ℕ, ◌<◌}
+use Rattle.output.proofs.+put_decimal.Given as goal
+
+abbrev pub decreases-put_decimal : goal.decreases-put_decimal
+decreases-put_decimal l = l.n

@@ -1,0 +1,7 @@
+-- The measure of the recursion.
+use Prim.Native.Nat.{ℕ, ◌<◌, ◌-◌}
+use lib.ListN.{length}
+use Rattle.writing.proofs.formula.+formula.Given as goal
+
+abbrev pub decreases-formula : goal.decreases-formula
+decreases-formula l = length l.nodes.now - l.at
