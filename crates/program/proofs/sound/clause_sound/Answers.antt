@@ -9,9 +9,9 @@ pub returns-then-atoms-first : goal.returns-then-atoms-first
 returns-then-atoms-first c = clause_headless _ _ _ _ (omega arith)
 
 pub returns-then-not-is_within : goal.returns-then-not-is_within
-returns-then-not-is_within c = clause-outside _ _ _ _ (omega arith) (failed c.is_Within.ensures c.if-not-is_within.true-raw)
+returns-then-not-is_within c = clause-outside _ _ _ _ (omega arith) (failed c.is_within.ensures c.if-not-is_within.true-raw)
 
 pub returns : goal.returns
 returns c =
-    clause-shaped _ _ _ _ (omega arith) (passed c.is_Within.ensures c.if-not-is_within.false-raw)
+    clause-shaped _ _ _ _ (omega arith) (passed c.is_within.ensures c.if-not-is_within.false-raw)
     c.is_bare.ensures c.is_shaped.ensures

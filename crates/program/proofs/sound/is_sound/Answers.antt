@@ -18,10 +18,10 @@ returns c =
     c.formulas_sound.ensures
     ∙ sound-rest _ _ _ _ c.requires
     (the_limits_are)
-    (passed c.clauses_sound.ensures c.if-not-clauses_sound.left)
-    (passed c.constraints_sound.ensures c.if-not-constraints_sound.left)
-    (passed c.is_Within.ensures c.if-not-is_within.left)
-    (passed c.settings_few.ensures c.if-not-settings_few.left)
+    (passed c.clauses_sound.ensures c.if-not-clauses_sound.false-raw)
+    (passed c.constraints_sound.ensures c.if-not-constraints_sound.false-raw)
+    (passed c.is_within.ensures c.if-not-is_within.false-raw)
+    (passed c.settings_few.ensures c.if-not-settings_few.false-raw)
 
 pub returns-then-not-limits_hold : goal.returns-then-not-limits_hold
 returns-then-not-limits_hold c = gives_false _ _ (sound-limits _ _ _ _) (failed c.limits_hold.ensures c.if-not-limits_hold.true-raw)
@@ -59,7 +59,7 @@ lowest-requires c =
     limits-atoms _ (the_limits_are)
 
 pub returns-then-not-is_within : goal.returns-then-not-is_within
-returns-then-not-is_within c = gives_false _ _ (sound-within _ _ _ _) (failed c.is_Within.ensures c.if-not-is_within.true-raw)
+returns-then-not-is_within c = gives_false _ _ (sound-within _ _ _ _) (failed c.is_within.ensures c.if-not-is_within.true-raw)
 
 pub settings_few-requires : goal.settings_few-requires
 settings_few-requires c =
