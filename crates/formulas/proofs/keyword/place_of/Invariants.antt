@@ -1,12 +1,9 @@
 -- `keyword::place_of` meets its contract. The invariant: the words that are not passed stand in t. Assumes nothing.
-use borrow.Author.Rules.{rules}
 use Prim.Native.Nat.{◌-◌}
-use native.Mathlib.Omega.{arith}
 use lib.Seq.{slice}
 use Rattle.text.specs.Words.{place_of}
 use Rattle.formulas.specs.WordTable.{word_rows}
-use Rattle.formulas.proofs.WordTables.{Ahead, all_ahead, none_ahead}
-use Rattle.formulas.proofs.WordTables.{word-there, word_fits, word-found, word-passed}
+use Rattle.formulas.proofs.WordTables.{Ahead}
 use Rattle.formulas.proofs.keyword.place_of.Given as goal
 
 abbrev pub invariant-loop-i : goal.invariant-loop-i
