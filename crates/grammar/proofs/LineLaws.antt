@@ -15,8 +15,6 @@ use Prim.Native.Nat.{ℕ, zero, suc, ◌+◌, ◌*◌, ◌≤◌, ◌<◌}
 use native.Mathlib.Omega.{arith}
 use lib.Dec.{ltb}
 use lib.ListN.{length, get_or}
-use denote.Enum.Declared.{tag_of}
-use types.Run.{OneOf, miss}
 use borrow.Author.Tests.{ltb-true, eqb-true, lt-ltb}
 use Rattle.text.specs.Tokens.{Token}
 use Rattle.text.specs.Words.{names_in, begins_with_letter}
@@ -41,7 +39,6 @@ use Rattle.grammar.specs.declared.line.Form.{Form}
 use Rattle.grammar.specs.declared.line.Form.TheVariants.{Skipped, NoForm, Clause, Constraint, Seen, Query, Cost}
 use Rattle.grammar.specs.declared.line.Form.TheVariants.{Atom, Edition}
 use Rattle.grammar.specs.declared.brings.Brings.{Brings}
-use Rattle.grammar.specs.contracts.line.Form.{the_type}
 use Rattle.grammar.proofs.Editions.{edition-number}
 use Rattle.grammar.proofs.LineReading.{sentence-read, ClauseParts, clause-parts, ConstraintParts}
 use Rattle.grammar.proofs.LineReading.{constraint-parts}
@@ -196,20 +193,19 @@ brought (Cost a e p s) l y h = rw (h.1.line-is, h.1.price-is, h.1.supplement-is)
 brought (Atom a e) l y h = rw h.1
 brought (Edition n) l y h = rw h.2
 
--- the tags of the forms that bring nothing
-abbrev idle : List ℕ
-idle = 0 ∷ (1 ∷ (4 ∷ (7 ∷ [])))
-
-pub brought-nothing : (x : Form) → OneOf idle (tag_of the_type x) → Brought x nothing
-brought-nothing Skipped h = brought Skipped
-brought-nothing NoForm h = brought NoForm
-brought-nothing (Clause k a e n) h = absurd (miss idle 2 tt h)
-brought-nothing (Constraint k at n) h = absurd (miss idle 3 tt h)
-brought-nothing (Seen at) h = brought (Seen at)
-brought-nothing (Query at d) h = absurd (miss idle 5 tt h)
-brought-nothing (Cost a e p s) h = absurd (miss idle 6 tt h)
-brought-nothing (Atom a e) h = brought (Atom a e)
-brought-nothing (Edition n) h = absurd (miss idle 8 tt h)
+-- the other forms bring nothing
+pub brought-nothing : (x : Form) → ((k a e n : ℕ) → x ≡ Clause k a e n → ⊥) → ((k at n : ℕ) → x ≡ Constraint k at n → ⊥)
+    → ((at d : ℕ) → x ≡ Query at d → ⊥) → ((a e p s : ℕ) → x ≡ Cost a e p s → ⊥) → ((n : ℕ) → x ≡ Edition n → ⊥)
+    → Brought x nothing
+brought-nothing Skipped f g h i j = brought Skipped
+brought-nothing NoForm f g h i j = brought NoForm
+brought-nothing (Clause k a e n) f g h i j = absurd (f k a e n refl)
+brought-nothing (Constraint k at n) f g h i j = absurd (g k at n refl)
+brought-nothing (Seen at) f g h i j = brought (Seen at)
+brought-nothing (Query at d) f g h i j = absurd (h at d refl)
+brought-nothing (Cost a e p s) f g h i j = absurd (i a e p s refl)
+brought-nothing (Atom a e) f g h i j = brought (Atom a e)
+brought-nothing (Edition n) f g h i j = absurd (j n refl)
 
 pub brought_as : {x : Form} (y : Form) → x ≡ y → Brought x (brings_of y)
 brought_as y e = subst (λ z. Brought z (brings_of y)) (sym e) (brought y)

@@ -1,5 +1,6 @@
 -- `line::atom_form` meets its contract: each return is one law of the words behind the line's word. Assumes nothing.
 use borrow.Author.Rules.{rules}
+use Rattle.std.proofs.Common.{sym, ◌∙◌}
 use Rattle.words.proofs.Tests.{failed, passed}
 use Rattle.text.proofs.TokenLaws.{word-filled, word-within}
 use Rattle.grammar.proofs.Atoms.{atom_wordless, atom_unnamed, atom-unended, atom-found}
@@ -19,5 +20,5 @@ returns-then-not-ends_line c = search (rules, atom-unended, failed)
 
 pub returns : goal.returns
 returns c =
-    let ended = passed c.ends_line.ensures c.if-not-ends_line.false-raw in
+    let ended = sym c.ends_line.ensures ∙ c.if-not-ends_line.false in
     search (rules, atom-found, passed)

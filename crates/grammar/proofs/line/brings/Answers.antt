@@ -1,5 +1,4 @@
 -- `line::brings` meets its contract: each return is what the law says of a line of this form. Assumes nothing.
-use borrow.Author.Rules.{rules}
 use Rattle.grammar.proofs.LineLaws.{brought_as, brought-nothing}
 use Rattle.grammar.proofs.line.brings.Goals as goal
 
@@ -19,4 +18,6 @@ pub returns-in-Edition : goal.returns-in-Edition
 returns-in-Edition c = brought_as _ c.in-Edition.is
 
 pub returns-in_default : goal.returns-in_default
-returns-in_default c = brought-nothing c.args.x c.in_default.keys6
+returns-in_default c =
+    let d = c.in_default in
+    brought-nothing c.args.x d.not-Clause d.not-Constraint d.not-Query d.not-Cost d.not-Edition

@@ -1,9 +1,7 @@
 -- Answers to the goals of this function. Assumes nothing.
 use borrow.Author.Rules.{rules}
 use Rattle.words.proofs.Tests.{failed, passed}
-use Prim.Native.Nat.{◌-◌}
-use lib.ListN.{length}
-use Rattle.grammar.proofs.Literals.{Counted, counted_none, counted_bad, counted_unfit, counted-end}
+use Rattle.grammar.proofs.Literals.{counted_none, counted_bad, counted_unfit, counted-end}
 use Rattle.grammar.proofs.Literals.{counted-few, counted-less, counted-more}
 use Rattle.grammar.proofs.literal.body_at.Goals as goal
 

@@ -1,11 +1,8 @@
 -- `literal::body_at` meets its contract. The invariant is `Counted`; the measure is what is left of the line.
 -- Assumes nothing.
-use borrow.Author.Rules.{rules}
-use Rattle.words.proofs.Tests.{failed, passed}
 use Prim.Native.Nat.{◌-◌}
 use lib.ListN.{length}
-use Rattle.grammar.proofs.Literals.{Counted, counted_none, counted_bad, counted_unfit, counted-end}
-use Rattle.grammar.proofs.Literals.{counted-few, counted-less, counted-more}
+use Rattle.grammar.proofs.Literals.{Counted}
 use Rattle.grammar.proofs.literal.body_at.Given as goal
 
 abbrev pub invariant-loop-next : goal.invariant-loop-next
