@@ -1,8 +1,6 @@
 -- Answers to the goals of this function. Assumes nothing.
 use borrow.Author.Rules.{rules}
-use Prim.Native.Nat.{◌-◌}
-use lib.Seq.{slice}
-use Rattle.names.proofs.Search.{Searched, searched_none, searched_all, compared_here, compared_more}
+use Rattle.names.proofs.Search.{searched_none, searched_all, compared_here, compared_more}
 use Rattle.names.proofs.find.Goals as goal
 
 pub loop-i-init : goal.loop-i-init

@@ -1,8 +1,7 @@
 -- `names::find` meets its contract. The invariant is `Searched`: no row before place i holds the name. Assumes nothing.
-use borrow.Author.Rules.{rules}
 use Prim.Native.Nat.{◌-◌}
 use lib.Seq.{slice}
-use Rattle.names.proofs.Search.{Searched, searched_none, searched_all, compared_here, compared_more}
+use Rattle.names.proofs.Search.{Searched}
 use Rattle.names.proofs.find.Given as goal
 
 abbrev pub invariant-loop-i : goal.invariant-loop-i

@@ -1,6 +1,5 @@
 -- `names::intern` meets its contract: the name is known, or there is no room, or it is stored behind the others.
 -- Assumes nothing.
-use borrow.Author.Rules.{rules}
 use mathlib.Core.Path.{sym}
 use native.Mathlib.Omega.{arith}
 use Rattle.names.proofs.Interning.{rows_with-known, rows_with-full, rows_with-new}

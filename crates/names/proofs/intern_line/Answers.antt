@@ -1,11 +1,7 @@
 -- Answers to the goals of this function. Assumes nothing.
 use borrow.Author.Rules.{rules}
-use mathlib.Core.Path.{◌≡◌}
-use Prim.Native.Nat.{◌≤◌, ◌-◌}
-use lib.ListN.{length}
 use Rattle.text.proofs.Names.{name-onward, name-within, name-less}
-use Rattle.names.specs.Row.{rows}
-use Rattle.names.proofs.LineNames.{Adding, adding_all, adding_none, adding_more, adding_full}
+use Rattle.names.proofs.LineNames.{adding_all, adding_none, adding_more, adding_full}
 use Rattle.names.proofs.intern_line.Goals as goal
 
 pub loop-a-init : goal.loop-a-init

@@ -1,12 +1,10 @@
 -- `names::intern_line` meets its contract. The invariant: the names from place at on, put into the rows so far, leave
 -- what the names of the line leave. Assumes nothing.
-use borrow.Author.Rules.{rules}
 use mathlib.Core.Path.{◌≡◌}
 use Prim.Native.Nat.{◌≤◌, ◌-◌}
 use lib.ListN.{length}
-use Rattle.text.proofs.Names.{name-onward, name-within, name-less}
 use Rattle.names.specs.Row.{rows}
-use Rattle.names.proofs.LineNames.{Adding, adding_all, adding_none, adding_more, adding_full}
+use Rattle.names.proofs.LineNames.{Adding}
 use Rattle.names.proofs.intern_line.Given as goal
 
 abbrev pub invariant-loop-a : goal.invariant-loop-a

@@ -1,8 +1,6 @@
 -- Answers to the goals of this function. Assumes nothing.
 use borrow.Author.Rules.{rules}
-use Prim.Native.Nat.{◌-◌}
-use lib.Seq.{slice}
-use Rattle.names.proofs.Search.{RowFrom, row-from-none, row-from-more, row-from-stops, row-from-ends}
+use Rattle.names.proofs.Search.{row-from-none, row-from-more, row-from-stops, row-from-ends}
 use Rattle.names.proofs.row_is.Goals as goal
 
 pub loop-j-init : goal.loop-j-init

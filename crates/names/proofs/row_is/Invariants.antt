@@ -1,9 +1,8 @@
 -- `names::row_is` meets its contract. The invariant is `RowFrom`: the row is the padded part if what is left of it from
 -- its byte j on is. Assumes nothing.
-use borrow.Author.Rules.{rules}
 use Prim.Native.Nat.{◌-◌}
 use lib.Seq.{slice}
-use Rattle.names.proofs.Search.{RowFrom, row-from-none, row-from-more, row-from-stops, row-from-ends}
+use Rattle.names.proofs.Search.{RowFrom}
 use Rattle.names.proofs.row_is.Given as goal
 
 abbrev pub invariant-loop-j : goal.invariant-loop-j

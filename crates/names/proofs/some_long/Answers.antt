@@ -1,9 +1,7 @@
 -- Answers to the goals of this function. Assumes nothing.
 use borrow.Author.Rules.{rules}
-use Prim.Native.Nat.{◌-◌}
-use lib.ListN.{length}
 use Rattle.text.proofs.Names.{name-onward, name-less}
-use Rattle.names.proofs.LineNames.{LongFrom, long-from-none, long-short, long-none, long-here}
+use Rattle.names.proofs.LineNames.{long-from-none, long-short, long-none, long-here}
 use Rattle.names.proofs.LineNames.{long-later}
 use Rattle.names.proofs.some_long.Goals as goal
 

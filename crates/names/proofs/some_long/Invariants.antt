@@ -1,11 +1,8 @@
 -- `names::some_long` meets its contract. The invariant: a name of the line is long if one from place at on is; none is
 -- where at most 16 bytes are left. Assumes nothing.
-use borrow.Author.Rules.{rules}
 use Prim.Native.Nat.{◌-◌}
 use lib.ListN.{length}
-use Rattle.text.proofs.Names.{name-onward, name-less}
-use Rattle.names.proofs.LineNames.{LongFrom, long-from-none, long-short, long-none, long-here}
-use Rattle.names.proofs.LineNames.{long-later}
+use Rattle.names.proofs.LineNames.{LongFrom}
 use Rattle.names.proofs.some_long.Given as goal
 
 abbrev pub invariant-loop-at : goal.invariant-loop-at
