@@ -1,7 +1,6 @@
 -- `formula::form_value` meets its contract: the node says which form it is. Assumes nothing.
 use mathlib.Core.Path.{◌≡◌, ◌∙◌}
 use native.Mathlib.Omega.{arith}
-use borrow.Author.Rules.{rules}
 use Rattle.logic.proofs.Spelling.{conjunction-value, disjunction-value, implication-value, equivalence-value}
 use Rattle.nodes.proofs.formula.form_value.Goals as goal
 

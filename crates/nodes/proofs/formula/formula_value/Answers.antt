@@ -1,7 +1,6 @@
 -- `formula::formula_value` meets its contract: nodes that are exactly one formula are the one read from place 0, a name
 -- or any other. Assumes nothing.
 use native.Mathlib.Omega.{arith}
-use borrow.Author.Rules.{rules}
 use Rattle.logic.specs.Interpretation.{value_at}
 use Rattle.logic.proofs.Reading.{name_evaluated}
 use Rattle.logic.proofs.Spelling.{one-formula-spells}

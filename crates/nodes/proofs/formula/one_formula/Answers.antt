@@ -1,7 +1,6 @@
 -- `formula::one_formula` meets its contract: the formula read from place 0 is shallow and ends where the nodes end.
 -- Assumes nothing.
 use native.Mathlib.Omega.{arith}
-use borrow.Author.Rules.{rules}
 use Rattle.logic.proofs.Reading.{deep_none, whole_one}
 use Rattle.nodes.proofs.formula.one_formula.Goals as goal
 

@@ -1,9 +1,7 @@
 -- Answers to the goals of this function. Assumes nothing.
 use mathlib.Core.Path.{◌∙◌}
-use Prim.Native.Nat.{◌-◌}
 use native.Mathlib.Omega.{arith}
-use borrow.Author.Rules.{rules}
-use Rattle.planes.proofs.Filling.{EvenBelow, even_start, even_next}
+use Rattle.planes.proofs.Filling.{even_start, even_next}
 use Rattle.planes.proofs.fill.broadcast.Goals as goal
 
 pub loop-i-init : goal.loop-i-init

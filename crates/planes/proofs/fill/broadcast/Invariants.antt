@@ -1,10 +1,7 @@
 -- `broadcast` meets its contract: the atoms passed have all lanes or none (`EvenBelow`). The measure is the number of
 -- atoms left. Assumes nothing.
-use mathlib.Core.Path.{◌∙◌}
 use Prim.Native.Nat.{◌-◌}
-use native.Mathlib.Omega.{arith}
-use borrow.Author.Rules.{rules}
-use Rattle.planes.proofs.Filling.{EvenBelow, even_start, even_next}
+use Rattle.planes.proofs.Filling.{EvenBelow}
 use Rattle.planes.proofs.fill.broadcast.Given as goal
 
 abbrev pub invariant-loop-i : goal.invariant-loop-i

@@ -1,12 +1,6 @@
 -- Answers to the goals of this function. Assumes nothing.
-use mathlib.Core.Path.{◌≡◌}
-use Prim.Native.Nat.{ℕ, ◌-◌, ◌≤◌}
 use native.Mathlib.Omega.{arith}
-use borrow.Author.Rules.{rules}
-use Rattle.program.specs.Setting.{additions_of}
-use Rattle.prepared.specs.Dependents.{Zeros}
-use Rattle.planes.specs.Planes.{Sizes}
-use Rattle.planes.proofs.Filling.{Filling, filling_start, filling_next, filling_end}
+use Rattle.planes.proofs.Filling.{filling_start, filling_next, filling_end}
 use Rattle.planes.proofs.fill.fill.Goals as goal
 
 pub loop-j-init : goal.loop-j-init

@@ -2,12 +2,10 @@
 -- adds (`Filling`). The measure is the number of lanes left. Assumes nothing.
 use mathlib.Core.Path.{◌≡◌}
 use Prim.Native.Nat.{ℕ, ◌-◌, ◌≤◌}
-use native.Mathlib.Omega.{arith}
-use borrow.Author.Rules.{rules}
 use Rattle.program.specs.Setting.{additions_of}
 use Rattle.prepared.specs.Dependents.{Zeros}
 use Rattle.planes.specs.Planes.{Sizes}
-use Rattle.planes.proofs.Filling.{Filling, filling_start, filling_next, filling_end}
+use Rattle.planes.proofs.Filling.{Filling}
 use Rattle.planes.proofs.fill.fill.Given as goal
 
 abbrev pub invariant-loop-j : goal.invariant-loop-j

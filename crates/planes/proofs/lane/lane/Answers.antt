@@ -1,10 +1,7 @@
 -- Answers to the goals of this function. Assumes nothing.
-use Prim.Native.Nat.{◌-◌}
 use native.Mathlib.Omega.{arith}
-use borrow.Author.Rules.{rules}
-use Rattle.words.proofs.Gathering.{Gathering, gathering_start, gathering_next, gathering_end}
+use Rattle.words.proofs.Gathering.{gathering_start, gathering_next, gathering_end}
 use Rattle.logic.proofs.Interpretations.{interpretation_eq}
-use Rattle.planes.specs.Planes.{at}
 use Rattle.planes.proofs.lane.lane.Goals as goal
 
 pub loop-i-init : goal.loop-i-init

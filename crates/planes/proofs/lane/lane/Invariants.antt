@@ -1,10 +1,7 @@
 -- `lane` meets its contract: both words are gathered atom by atom (`Gathering`). The measure is the atoms to come.
 -- Assumes nothing.
 use Prim.Native.Nat.{◌-◌}
-use native.Mathlib.Omega.{arith}
-use borrow.Author.Rules.{rules}
-use Rattle.words.proofs.Gathering.{Gathering, gathering_start, gathering_next, gathering_end}
-use Rattle.logic.proofs.Interpretations.{interpretation_eq}
+use Rattle.words.proofs.Gathering.{Gathering}
 use Rattle.planes.specs.Planes.{at}
 use Rattle.planes.proofs.lane.lane.Given as goal
 

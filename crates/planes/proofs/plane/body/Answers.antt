@@ -1,7 +1,6 @@
 -- `body` meets its contract: the plain atoms joined by the planes as they are, the negated ones by the planes changed
 -- over, beginning with true in each lane. Assumes nothing.
 use mathlib.Core.Path.{refl}
-use borrow.Author.Rules.{rules}
 use Rattle.planes.proofs.Joining.{body_is}
 use Rattle.planes.proofs.plane.body.Goals as goal
 

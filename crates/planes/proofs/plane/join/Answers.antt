@@ -1,7 +1,6 @@
 -- Answers to the goals of this function. Assumes nothing.
-use borrow.Author.Rules.{rules}
 use Rattle.words.proofs.BitWalks.{without_less}
-use Rattle.planes.proofs.Joining.{Joining, joining_start, joining_next, joining_end}
+use Rattle.planes.proofs.Joining.{joining_start, joining_next, joining_end}
 use Rattle.planes.proofs.plane.join.Goals as goal
 
 pub loop-left-init : goal.loop-left-init

@@ -1,8 +1,6 @@
 -- `join` meets its contract: what is joined and what is left of the word's atoms is always all (`Joining`). The measure
 -- is the word that is left. Assumes nothing.
-use borrow.Author.Rules.{rules}
-use Rattle.words.proofs.BitWalks.{without_less}
-use Rattle.planes.proofs.Joining.{Joining, joining_start, joining_next, joining_end}
+use Rattle.planes.proofs.Joining.{Joining}
 use Rattle.planes.proofs.plane.join.Given as goal
 
 abbrev pub invariant-loop-left : goal.invariant-loop-left

@@ -3,11 +3,10 @@ use mathlib.Core.Path.{◌≡◌}
 use Prim.Native.Nat.{◌-◌}
 use native.Mathlib.Omega.{arith}
 use lib.ListN.{get_or}
-use borrow.Author.Rules.{rules}
 use Rattle.program.specs.Case.{head_at}
 use Rattle.prepared.specs.Chains.{last_of}
 use Rattle.prepared.proofs.RuleChains.{last-le}
-use Rattle.planes.proofs.Ruling.{Ruling, ruling_start, ruling_next, ruling_end}
+use Rattle.planes.proofs.Ruling.{ruling_start, ruling_next, ruling_end}
 use Rattle.planes.proofs.plane.rules.Goals as goal
 
 pub loop-k-init : goal.loop-k-init

@@ -1,12 +1,11 @@
 -- Answers to the goals of this function. Assumes nothing.
-use mathlib.Core.Path.{◌≡◌, ap, ◌∙◌}
-use Prim.Native.Nat.{◌-◌, ◌≤◌}
+use mathlib.Core.Path.{ap, ◌∙◌}
 use native.Mathlib.Nat.{le_antisymm, not-suc-le-zero}
 use native.Mathlib.Omega.{arith}
-use lib.ListN.{length, length-set}
+use lib.ListN.{length-set}
 use borrow.Author.Rules.{rules}
 use Rattle.program.proofs.Heads.{head-lt}
-use Rattle.prepared.specs.Chains.{last_of, Lasts, Linked}
+use Rattle.prepared.specs.Chains.{last_of}
 use Rattle.prepared.proofs.Filling.{lasts_next, linked-next}
 use Rattle.prepared.proofs.chain.fill.Goals as goal
 

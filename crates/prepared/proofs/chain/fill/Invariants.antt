@@ -1,14 +1,9 @@
 -- `chain::fill` meets its contract. The loop's invariant: the tables keep their sizes and hold the chains of the
 -- clauses passed. The measure is the number of clauses left. Assumes nothing.
-use mathlib.Core.Path.{◌≡◌, ap, ◌∙◌}
+use mathlib.Core.Path.{◌≡◌}
 use Prim.Native.Nat.{◌-◌, ◌≤◌}
-use native.Mathlib.Nat.{le_antisymm, not-suc-le-zero}
-use native.Mathlib.Omega.{arith}
-use lib.ListN.{length, length-set}
-use borrow.Author.Rules.{rules}
-use Rattle.program.proofs.Heads.{head-lt}
-use Rattle.prepared.specs.Chains.{last_of, Lasts, Linked}
-use Rattle.prepared.proofs.Filling.{lasts_next, linked-next}
+use lib.ListN.{length}
+use Rattle.prepared.specs.Chains.{Lasts, Linked}
 use Rattle.prepared.proofs.chain.fill.Given as goal
 
 abbrev pub invariant-loop-k : goal.invariant-loop-k

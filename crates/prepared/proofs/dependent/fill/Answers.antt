@@ -1,10 +1,9 @@
 -- Answers to the goals of this function. Assumes nothing.
-use mathlib.Core.Path.{◌≡◌, ap, ◌∙◌}
-use Prim.Native.Nat.{ℕ, ◌-◌, ◌≤◌}
+use mathlib.Core.Path.{ap, ◌∙◌}
+use Prim.Native.Nat.{ℕ}
 use native.Mathlib.Nat.{le_antisymm}
-use lib.ListN.{length}
 use borrow.Author.Rules.{rules}
-use Rattle.prepared.specs.Dependents.{dependents_of, Dependents}
+use Rattle.prepared.specs.Dependents.{dependents_of}
 use Rattle.prepared.proofs.Filling.{dependents_none, dependents_next}
 use Rattle.prepared.proofs.dependent.fill.Goals as goal
 

@@ -1,12 +1,9 @@
 -- `dependent::fill` meets its contract. The loop's invariant: the table keeps its size and holds the dependents by the
 -- clauses passed. The measure is the number of clauses left. Assumes nothing.
-use mathlib.Core.Path.{◌≡◌, ap, ◌∙◌}
-use Prim.Native.Nat.{ℕ, ◌-◌, ◌≤◌}
-use native.Mathlib.Nat.{le_antisymm}
+use mathlib.Core.Path.{◌≡◌}
+use Prim.Native.Nat.{◌-◌, ◌≤◌}
 use lib.ListN.{length}
-use borrow.Author.Rules.{rules}
-use Rattle.prepared.specs.Dependents.{dependents_of, Dependents}
-use Rattle.prepared.proofs.Filling.{dependents_none, dependents_next}
+use Rattle.prepared.specs.Dependents.{Dependents}
 use Rattle.prepared.proofs.dependent.fill.Given as goal
 
 abbrev pub invariant-loop-k : goal.invariant-loop-k

@@ -1,7 +1,6 @@
 -- Answers to the goals of this function. Assumes nothing.
-use borrow.Author.Rules.{rules}
 use Rattle.words.proofs.BitWalks.{without_less}
-use Rattle.prepared.proofs.Filling.{Spreading, spreading_start, spreading_next, spreading_end}
+use Rattle.prepared.proofs.Filling.{spreading_start, spreading_next, spreading_end}
 use Rattle.prepared.proofs.dependent.spread.Goals as goal
 
 pub loop-left-init : goal.loop-left-init

@@ -1,7 +1,6 @@
 -- Answers to the goals of this function. Assumes nothing.
-use borrow.Author.Rules.{rules}
 use Rattle.words.proofs.BitWalks.{without_less}
-use Rattle.prepared.proofs.Touching.{Gathered, gathered_start, gathered_next, gathered_end}
+use Rattle.prepared.proofs.Touching.{gathered_start, gathered_next, gathered_end}
 use Rattle.prepared.proofs.dependent.touched.Goals as goal
 
 pub loop-left-init : goal.loop-left-init

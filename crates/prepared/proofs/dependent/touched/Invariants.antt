@@ -1,8 +1,6 @@
 -- `touched` meets its contract: the heads gathered and those that the atoms left touch are always all (`Gathered`). The
 -- measure is the word that is left. Assumes nothing.
-use borrow.Author.Rules.{rules}
-use Rattle.words.proofs.BitWalks.{without_less}
-use Rattle.prepared.proofs.Touching.{Gathered, gathered_start, gathered_next, gathered_end}
+use Rattle.prepared.proofs.Touching.{Gathered}
 use Rattle.prepared.proofs.dependent.touched.Given as goal
 
 abbrev pub invariant-loop-left : goal.invariant-loop-left

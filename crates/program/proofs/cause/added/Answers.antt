@@ -1,10 +1,9 @@
 -- Answers to the goals of this function. Assumes nothing.
 use mathlib.Core.Path.{refl, ap, ◌∙◌}
 use Prim.Native.Nat.{ℕ, ◌%◌}
-use borrow.Author.Rules.{rules}
 use Rattle.words.proofs.BitWalks.{without_less}
 use Rattle.program.specs.Digit.{with_digit}
-use Rattle.program.proofs.Settings.{choice_some, Walked, walked_start, walked_next, walked_end}
+use Rattle.program.proofs.Settings.{choice_some, walked_start, walked_next, walked_end}
 use Rattle.program.proofs.cause.added.Goals as goal
 
 pub loop-left-init : goal.loop-left-init

@@ -1,11 +1,6 @@
 -- `program::cause::added` meets its contract. The loop's invariant: what is added so far and what is left of the
 -- setting make up the whole setting. The measure is the word of the causes left. Assumes nothing.
-use mathlib.Core.Path.{refl, ap, ◌∙◌}
-use Prim.Native.Nat.{ℕ, ◌%◌}
-use borrow.Author.Rules.{rules}
-use Rattle.words.proofs.BitWalks.{without_less}
-use Rattle.program.specs.Digit.{with_digit}
-use Rattle.program.proofs.Settings.{choice_some, Walked, walked_start, walked_next, walked_end}
+use Rattle.program.proofs.Settings.{Walked}
 use Rattle.program.proofs.cause.added.Given as goal
 
 abbrev pub invariant-loop-left : goal.invariant-loop-left

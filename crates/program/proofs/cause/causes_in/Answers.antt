@@ -3,7 +3,6 @@
 use mathlib.Core.Path.{ap, ap₂, ◌∙◌}
 use Prim.Native.Nat.{ℕ, ◌-◌, ◌^◌}
 use lib.Bits.{bit_and}
-use borrow.Author.Rules.{rules}
 use Rattle.program.specs.Cause.{causes_among}
 use Rattle.program.proofs.Causes.{causes_plain, causes_overridden}
 use Rattle.program.proofs.cause.causes_in.Goals as goal

@@ -1,7 +1,6 @@
 -- `program::cause::choice` meets its contract: the test decides. Assumes nothing.
 use mathlib.Core.Path.{sym, ap, ◌∙◌}
 use mathlib.Core.Bool.{Bool}
-use borrow.Author.Rules.{rules}
 use Rattle.words.specs.Choice.{pick}
 use Rattle.program.proofs.cause.choice.Goals as goal
 

@@ -1,11 +1,8 @@
 -- `program::cause::firm_heads` meets its contract. The loop's invariant: the word has the heads of the clauses passed
 -- that are no assumption. Assumes nothing.
-use mathlib.Core.Path.{◌≡◌, ap, ◌∙◌}
+use mathlib.Core.Path.{◌≡◌}
 use Prim.Native.Nat.{◌≤◌, ◌-◌}
-use native.Mathlib.Nat.{le_antisymm}
-use borrow.Author.Rules.{rules}
 use Rattle.program.specs.Cause.{firm_heads}
-use Rattle.program.proofs.Heads.{firm-none, firm-next}
 use Rattle.program.proofs.cause.firm_heads.Given as goal
 
 abbrev pub invariant-loop-k : goal.invariant-loop-k

@@ -1,6 +1,5 @@
 -- Answers to the goals of this function. Assumes nothing.
-use mathlib.Core.Path.{◌≡◌, ap, ap₂, ◌∙◌}
-use Prim.Native.Nat.{◌≤◌, ◌-◌}
+use mathlib.Core.Path.{ap, ap₂, ◌∙◌}
 use native.Mathlib.Nat.{le_antisymm}
 use lib.Bits.{bit_or}
 use borrow.Author.Rules.{rules}

@@ -1,12 +1,8 @@
 -- `program::cause::heads` meets its contract. The loop's invariant: the word has the heads of the clauses passed.
 -- Assumes nothing.
-use mathlib.Core.Path.{◌≡◌, ap, ap₂, ◌∙◌}
+use mathlib.Core.Path.{◌≡◌}
 use Prim.Native.Nat.{◌≤◌, ◌-◌}
-use native.Mathlib.Nat.{le_antisymm}
-use lib.Bits.{bit_or}
-use borrow.Author.Rules.{rules}
 use Rattle.program.specs.Program.{heads_of}
-use Rattle.program.proofs.Heads.{heads-none, heads-more}
 use Rattle.program.proofs.cause.heads.Given as goal
 
 abbrev pub invariant-loop-k : goal.invariant-loop-k

@@ -1,8 +1,7 @@
 -- Answers to the goals of this function. Assumes nothing.
 use native.Mathlib.Omega.{arith}
-use borrow.Author.Rules.{rules}
 use Rattle.words.proofs.BitWalks.{without_less}
-use Rattle.program.proofs.Counting.{Multiplied, multiplied_start, multiplied_room, multiplied_next}
+use Rattle.program.proofs.Counting.{multiplied_start, multiplied_room, multiplied_next}
 use Rattle.program.proofs.Counting.{multiplied_over, multiplied_end}
 use Rattle.program.proofs.cause.settings.Goals as goal
 

@@ -1,10 +1,6 @@
 -- `program::cause::settings` meets its contract. The loop's invariant: the product so far times the settings of the
 -- causes left are all settings. The measure is the word of the causes left. Assumes nothing.
-use native.Mathlib.Omega.{arith}
-use borrow.Author.Rules.{rules}
-use Rattle.words.proofs.BitWalks.{without_less}
-use Rattle.program.proofs.Counting.{Multiplied, multiplied_start, multiplied_room, multiplied_next}
-use Rattle.program.proofs.Counting.{multiplied_over, multiplied_end}
+use Rattle.program.proofs.Counting.{Multiplied}
 use Rattle.program.proofs.cause.settings.Given as goal
 
 abbrev pub invariant-loop-left : goal.invariant-loop-left

@@ -1,5 +1,4 @@
 -- `program::cause::unheaded` meets its contract, by the law `causes_masked`. Assumes nothing.
-use borrow.Author.Rules.{rules}
 use Rattle.program.proofs.Causes.{causes_masked}
 use Rattle.program.proofs.cause.unheaded.Goals as goal
 

@@ -1,6 +1,5 @@
 -- `program::sound::clause_sound` meets its contract: the head, the literals, then the kind. Assumes nothing.
 use native.Mathlib.Omega.{arith}
-use borrow.Author.Rules.{rules}
 use Rattle.words.proofs.Tests.{failed, passed}
 use Rattle.program.proofs.Soundness.{clause_headless, clause-outside, clause-shaped}
 use Rattle.program.proofs.sound.clause_sound.Goals as goal

@@ -2,9 +2,7 @@
 -- Assumes nothing.
 use mathlib.Core.Path.{◌≡◌}
 use Prim.Native.Nat.{◌+◌, ◌^◌, ◌-◌}
-use borrow.Author.Rules.{rules}
-use Rattle.program.specs.Sound.{sound_clauses}
-use Rattle.program.proofs.Entries.{Tested, tested-none, tested-more, tested-failed, tested-all}
+use Rattle.program.proofs.Entries.{Tested}
 use Rattle.program.proofs.Soundness.{clause_test}
 use Rattle.program.proofs.sound.clauses_sound.Given as goal
 

@@ -1,10 +1,7 @@
 -- Answers to the goals of this function. Assumes nothing.
-use mathlib.Core.Path.{◌≡◌}
-use Prim.Native.Nat.{◌+◌, ◌^◌, ◌-◌}
 use borrow.Author.Rules.{rules}
 use Rattle.program.specs.Sound.{sound_constraints}
-use Rattle.program.proofs.Entries.{Tested, tested-none, tested-more, tested-failed, tested-all}
-use Rattle.program.proofs.Soundness.{constraint_test}
+use Rattle.program.proofs.Entries.{tested-none, tested-more, tested-failed, tested-all}
 use Rattle.program.proofs.sound.constraints_sound.Goals as goal
 
 pub loop-k-init : goal.loop-k-init

@@ -1,7 +1,6 @@
 -- `program::sound::formula_sound` meets its contract: the nodes of formula q are the first in part q. Assumes nothing.
 use mathlib.Core.Path.{ap, ◌∙◌}
 use native.Mathlib.Omega.{arith}
-use borrow.Author.Rules.{rules}
 use Rattle.logic.specs.Nodes.{one_formula}
 use Rattle.program.proofs.Soundness.{formula-long, formula-fits, nodes-lent}
 use Rattle.program.proofs.sound.formula_sound.Goals as goal

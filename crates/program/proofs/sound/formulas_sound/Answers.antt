@@ -1,8 +1,7 @@
 -- Answers to the goals of this function. Assumes nothing.
-use Prim.Native.Nat.{◌-◌}
 use borrow.Author.Rules.{rules}
-use Rattle.program.specs.Sound.{sound_formula, sound_formulas}
-use Rattle.program.proofs.Entries.{Tested, tested-none, tested-more, tested-failed, tested-all}
+use Rattle.program.specs.Sound.{sound_formulas}
+use Rattle.program.proofs.Entries.{tested-none, tested-more, tested-failed, tested-all}
 use Rattle.program.proofs.sound.formulas_sound.Goals as goal
 
 pub loop-q-init : goal.loop-q-init

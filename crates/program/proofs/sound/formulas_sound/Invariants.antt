@@ -1,9 +1,8 @@
 -- `program::sound::formulas_sound` meets its contract. The loop's invariant: every formula passed is sound (`Tested`).
 -- Assumes nothing.
 use Prim.Native.Nat.{◌-◌}
-use borrow.Author.Rules.{rules}
-use Rattle.program.specs.Sound.{sound_formula, sound_formulas}
-use Rattle.program.proofs.Entries.{Tested, tested-none, tested-more, tested-failed, tested-all}
+use Rattle.program.specs.Sound.{sound_formula}
+use Rattle.program.proofs.Entries.{Tested}
 use Rattle.program.proofs.sound.formulas_sound.Given as goal
 
 abbrev pub invariant-loop-q : goal.invariant-loop-q

@@ -1,6 +1,5 @@
 -- `program::sound::is_shaped` meets its contract: kinds 0 and 1, kind 2, and no other. Assumes nothing.
 use native.Mathlib.Omega.{arith}
-use borrow.Author.Rules.{rules}
 use Rattle.program.proofs.Soundness.{shaped-low, shaped-none}
 use Rattle.program.proofs.sound.is_shaped.Goals as goal
 

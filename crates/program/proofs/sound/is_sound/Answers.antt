@@ -3,7 +3,6 @@
 use mathlib.Core.Path.{◌≡◌, ◌∙◌}
 use mathlib.Core.Bool.{true}
 use native.Mathlib.Omega.{arith}
-use borrow.Author.Rules.{rules}
 use Rattle.words.proofs.Tests.{gives_false, failed, passed}
 use Rattle.program.specs.Sound.{limits_hold}
 use Rattle.program.proofs.Soundness.{limits-atoms, clauses-held, constraints-held, formulas-held, sound-limits}

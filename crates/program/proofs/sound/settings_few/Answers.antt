@@ -1,7 +1,6 @@
 -- `program::sound::settings_few` meets its contract: the number of settings is that of the causes. Assumes nothing.
 use mathlib.Core.Path.{ap, ◌∙◌}
 use lib.Dec.{leb}
-use borrow.Author.Rules.{rules}
 use Rattle.program.specs.declared.cause.Causes.{Causes}
 use Rattle.program.specs.Setting.{settings_of}
 use Rattle.program.specs.Sound.{few_settings}

@@ -1,14 +1,10 @@
 -- Answers to the goals of this function. Assumes nothing.
-use mathlib.Core.Path.{◌≡◌, sym}
-use Prim.Native.Nat.{◌-◌}
+use mathlib.Core.Path.{sym}
 use native.Mathlib.Omega.{arith}
 use borrow.Author.Rules.{rules}
 use Rattle.words.proofs.Sums.{sum-none}
-use Rattle.logic.specs.Interpretation.{decided_in}
-use Rattle.program.specs.Program.{program_with}
-use Rattle.settle.specs.Rounds.{decided_sum}
 use Rattle.settle.proofs.Steady.{program-steady}
-use Rattle.settle.proofs.Reached.{Reached, good_decided, start, reached_good, newly-falls, newly-again}
+use Rattle.settle.proofs.Reached.{good_decided, start, reached_good, newly-falls, newly-again}
 use Rattle.settle.proofs.Reached.{newly-ends, sum-again, sum-few}
 use Rattle.settle.proofs.settle.run.Goals as goal
 

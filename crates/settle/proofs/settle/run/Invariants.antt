@@ -1,17 +1,12 @@
 -- `run` meets its contract: the loop's interpretation is reached by as many rounds as it counts, each of which newly
 -- decided something, and it sums up what they newly decided. The measure is what is left of 64 decided atoms. Assumes
 -- nothing.
-use mathlib.Core.Path.{◌≡◌, sym}
+use mathlib.Core.Path.{◌≡◌}
 use Prim.Native.Nat.{◌-◌}
-use native.Mathlib.Omega.{arith}
-use borrow.Author.Rules.{rules}
-use Rattle.words.proofs.Sums.{sum-none}
 use Rattle.logic.specs.Interpretation.{decided_in}
 use Rattle.program.specs.Program.{program_with}
 use Rattle.settle.specs.Rounds.{decided_sum}
-use Rattle.settle.proofs.Steady.{program-steady}
-use Rattle.settle.proofs.Reached.{Reached, good_decided, start, reached_good, newly-falls, newly-again}
-use Rattle.settle.proofs.Reached.{newly-ends, sum-again, sum-few}
+use Rattle.settle.proofs.Reached.{Reached}
 use Rattle.settle.proofs.settle.run.Given as goal
 
 abbrev pub invariant-loop-added : goal.invariant-loop-added

@@ -1,10 +1,10 @@
 -- Answers to the goals of this function. Assumes nothing.
-use mathlib.Core.Path.{◌≡◌, refl, ap, ap₂, ◌∙◌}
-use Prim.Native.Nat.{ℕ, ◌-◌, ◌^◌, ◌≤◌, ◌<◌}
+use mathlib.Core.Path.{refl, ap, ap₂, ◌∙◌}
+use Prim.Native.Nat.{ℕ, ◌^◌, ◌<◌}
 use native.Mathlib.Nat.{le_antisymm}
 use native.Mathlib.Omega.{arith}
 use borrow.Author.Rules.{rules}
-use Rattle.logic.specs.Interpretation.{value_at, Disjoint}
+use Rattle.logic.specs.Interpretation.{value_at}
 use Rattle.program.specs.Case.{head_at}
 use Rattle.program.specs.Program.{clause_at}
 use Rattle.settle.proofs.Passes.{start, start-disjoint, raised, raised-disjoint}

@@ -2,7 +2,6 @@
 use mathlib.Core.Path.{◌≡◌, refl, ap, ◌∙◌}
 use Prim.Native.Nat.{ℕ, zero, suc}
 use native.Mathlib.Omega.{arith}
-use borrow.Author.Rules.{rules}
 use Rattle.logic.specs.Formula.{Formula, value_of}
 use Rattle.logic.specs.Interpretation.{value_at}
 use Rattle.program.specs.Program.{by_kind}

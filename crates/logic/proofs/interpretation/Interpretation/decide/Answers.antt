@@ -2,7 +2,6 @@
 -- Assumes nothing.
 use mathlib.Core.Path.{refl}
 use native.Mathlib.Omega.{arith}
-use borrow.Author.Rules.{rules}
 use Rattle.logic.specs.declared.value.Value.TheVariants.{False, Unknown, True}
 use Rattle.logic.proofs.Interpretations.{Good, interpretation_eq}
 use Rattle.logic.proofs.Interpretations.{trues_more, trues_less, falses_more, falses_less}

@@ -1,7 +1,6 @@
 -- `Interpretation::decided` meets its contract: each count is at most 64. Assumes nothing.
 use native.Mathlib.Omega.{arith}
 use lib.Count.{ones-le}
-use borrow.Author.Rules.{rules}
 use Rattle.logic.proofs.interpretation.Interpretation.decided.Goals as goal
 
 pub overflow_add-result : goal.overflow_add-result

@@ -1,7 +1,6 @@
 -- `Interpretation::holds` meets its contract: an atom is true by the first word, its negation by the second.
 -- Assumes nothing.
 use mathlib.Core.Path.{sym, ◌∙◌}
-use borrow.Author.Rules.{rules}
 use Rattle.logic.specs.Formula.{value_of}
 use Rattle.logic.specs.Interpretation.{value_at}
 use Rattle.logic.proofs.Values.{true_negated}

@@ -2,7 +2,6 @@
 -- nothing.
 use mathlib.Core.Path.{◌∙◌}
 use native.Mathlib.Omega.{arith}
-use borrow.Author.Rules.{rules}
 use Rattle.logic.proofs.Interpretations.{Good}
 use Rattle.logic.proofs.Decided.{newly-counted}
 use Rattle.logic.proofs.interpretation.Interpretation.newly_decided.Goals as goal

@@ -1,6 +1,5 @@
 -- `Interpretation::value` meets its contract: the tests of both words decide `among`. Assumes nothing.
 use mathlib.Core.Path.{sym, ◌∙◌}
-use borrow.Author.Rules.{rules}
 use Rattle.logic.proofs.interpretation.Interpretation.value.Goals as goal
 
 pub returns-then-test : goal.returns-then-test

@@ -1,6 +1,5 @@
 -- `Value::same` meets its contract: the "and" of both "then"s. Assumes nothing.
 use mathlib.Core.Path.{◌∙◌, ap₂}
-use borrow.Author.Rules.{rules}
 use Rattle.logic.specs.Value.{lesser}
 use Rattle.logic.proofs.value.Value.same.Goals as goal
 

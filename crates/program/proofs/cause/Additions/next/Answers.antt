@@ -1,11 +1,8 @@
 -- Answers to the goals of this function. Assumes nothing.
-use mathlib.Core.Path.{◌≡◌, sym, ◌∙◌}
-use Prim.Native.Nat.{ℕ}
-use borrow.Author.Rules.{rules}
+use mathlib.Core.Path.{sym, ◌∙◌}
 use Rattle.words.proofs.Tests.{failed, passed}
 use Rattle.words.proofs.BitWalks.{without_less}
-use Rattle.program.specs.Setting.{additions_of}
-use Rattle.program.proofs.NextSetting.{Carried, carried_start, carried_end}
+use Rattle.program.proofs.NextSetting.{carried_start, carried_end}
 use Rattle.program.proofs.NextSetting.{carried_one, carried_two, carried_fact, carried_nothing}
 use Rattle.program.proofs.cause.Additions.next.Goals as goal
 

@@ -1,13 +1,9 @@
 -- `program::cause::Additions::next` meets its contract. The loop's invariant: the causes passed have fallen to digit 0,
 -- and the causes left carry the setting on. The measure is the word of the causes left. Assumes nothing.
-use mathlib.Core.Path.{◌≡◌, sym, ◌∙◌}
+use mathlib.Core.Path.{◌≡◌}
 use Prim.Native.Nat.{ℕ}
-use borrow.Author.Rules.{rules}
-use Rattle.words.proofs.Tests.{failed, passed}
-use Rattle.words.proofs.BitWalks.{without_less}
 use Rattle.program.specs.Setting.{additions_of}
-use Rattle.program.proofs.NextSetting.{Carried, carried_start, carried_end}
-use Rattle.program.proofs.NextSetting.{carried_one, carried_two, carried_fact, carried_nothing}
+use Rattle.program.proofs.NextSetting.{Carried}
 use Rattle.program.proofs.cause.Additions.next.Given as goal
 
 abbrev pub invariant-loop-left : goal.invariant-loop-left

@@ -1,5 +1,4 @@
 -- `program::cause::Additions::with` meets its contract: digit 1, digit 2, and any other. Assumes nothing.
-use borrow.Author.Rules.{rules}
 use Rattle.program.proofs.Settings.{with_other}
 use Rattle.program.proofs.cause.Additions.with.Goals as goal
 
