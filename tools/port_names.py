@@ -14,6 +14,9 @@ import os
 import re
 import sys
 
+# A field whose new name a definition of another crate has, which the crates with the field do not cite.
+FIXED = {"are-digits": "are_digits"}
+
 WORD = r"[^\s(){}.;,@\"«»`]+"
 HEAD = re.compile(
     r"(?m)^( *)((?:(?:abbrev|unfoldable|pub|opaque|instance|ruleset|let) +)*)(record +|data +)?(" + WORD + r")((?:\s*[({][^(){}]*(?:\([^()]*\)[^(){}]*)*[)}])*)\s*:(?=\s)([^\n]*(?:\n +(?:→|->)[^\n]*)*)")
@@ -102,6 +105,9 @@ def main(argv):
                 del table[n]
         elif new in kinds and "lemma" in kinds[new]:
             lems[new] = new + "_lem"
+    for n, new in FIXED.items():
+        if n in kinds:
+            table[n] = new
     if check:
         for n, new in sorted(table.items()):
             print("row:", n, new, "/".join(sorted(kinds[n])))

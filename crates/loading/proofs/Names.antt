@@ -41,7 +41,7 @@ pub load_name-bytes : (a : ℕ) → a < 2 ^ 64 → all_of is_word_byte (load_nam
 load_name-bytes a h =
     all_append is_word_byte (97 ∷ []) (decimal a)
     (all_push is_word_byte [] 97 (all-ends is_word_byte [] 0 (omega arith)) (letter_word_byte 97 refl))
-    (all_gives is_digit is_word_byte digit-word_byte (decimal a) (decimal-exact a h).are-digits)
+    (all_gives is_digit is_word_byte digit-word_byte (decimal a) (decimal-exact a h).are_digits)
 
 module _ (a : ℕ) (h : a < 64) where
   pub load_name-length : length (load_name a) ≤ 3

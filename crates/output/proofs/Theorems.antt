@@ -29,14 +29,14 @@ first-kept n b (c ∷ d ∷ l) h i e = i.no_zero-first (omega arith) e
 
 one-digit : (n : ℕ) → n < 10 → InDecimal n (digit_byte (n % 10) ∷ [])
 one-digit n h = record {
-  are-digits = all_push is_digit [] _ (all-ends is_digit [] 0 (omega arith)) (is_digit-digit_byte (n % 10) (omega arith));
+  are_digits = all_push is_digit [] _ (all-ends is_digit [] 0 (omega arith)) (is_digit-digit_byte (n % 10) (omega arith));
   stands_for = omega (arith, number-one (digit_byte (n % 10)));
   no_zero-first = λ k. absurd (omega arith);
 }
 
 more-digits : (n : ℕ) (l : List ℕ) → 10 ≤ n → InDecimal (n / 10) l → InDecimal n (l ++ (digit_byte (n % 10) ∷ []))
 more-digits n l h i = record {
-  are-digits = all_push is_digit l (digit_byte (n % 10)) i.are-digits (is_digit-digit_byte (n % 10) (omega arith));
+  are_digits = all_push is_digit l (digit_byte (n % 10)) i.are_digits (is_digit-digit_byte (n % 10) (omega arith));
   stands_for = number_push 0 (digit_byte (n % 10)) l ∙ rw i.stands_for (omega arith);
   no_zero-first = λ k. first-kept (n / 10) (digit_byte (n % 10)) l (omega arith) i;
 }

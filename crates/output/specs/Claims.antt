@@ -7,7 +7,7 @@ use Rattle.output.specs.Decimal.{decimal}
 
 -- l is the number n in decimal: digits that stand for it, the first of which isn't 0 unless it is the only one
 pub record InDecimal (n : ℕ) (l : List ℕ) : Type 0 where
-  pub are-digits : all_of is_digit l ≡ true
+  pub are_digits : all_of is_digit l ≡ true
   pub stands_for : number_from 0 l ≡ n
   pub no_zero-first : 1 < length l → get_or l 0 0 ≡ 48 → ⊥
 

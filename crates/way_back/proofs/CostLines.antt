@@ -33,7 +33,7 @@ module _ (n : ℕ) (h : n ≤ 2000000) where
   is-number : is_number (decimal n) ≡ true
   is-number =
       digits_number (decimal n) (decimal-some n) (decimal-short 6 n (omega arith))
-      (decimal-exact n (omega arith)).are-digits
+      (decimal-exact n (omega arith)).are_digits
 
 zero-back : number_of (decimal 0) ≡ 0
 zero-back = number-back 0 (omega arith)
