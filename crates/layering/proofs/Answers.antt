@@ -119,7 +119,7 @@ module _ (c : Case) (cl co fo : List ℕ) where
           is-layered = layered_true c.atoms (dependence c cl) (sym stuck_are ∙ z)
 
           numbers : u ≡ padded 64 (numbers_in c cl)
-          numbers = entries_are c.atoms (least_number c.atoms (dependence c cl)) u h.size-is
+          numbers = entries_are c.atoms (least_number c.atoms (dependence c cl)) u h.size_is
               (λ a l. h.entry-is a l
               ∙ rw (z, has-zero a, and-true (ltb a c.atoms))
               (ap (λ (k : ℕ). pick (ltb a c.atoms) k 0)

@@ -26,12 +26,18 @@ loop-left-preserved c =
 
 pub overflow_add-k : goal.overflow_add-k
 overflow_add-k c =
-    let p = loop-again c in
-    let l = c.requires.1 in
+    let l = c.loop-left in
+    let p = peeled_next _ _ c.requires.1 _ _ _ _ _ l.invariant (ap (bit_and l.left) c.touched.ensures)
+        c.if-next-left.false c.give.ensures in
+    let n = c.requires.1 in
     omega (arith, p.few)
 
 pub loop-left-smaller : goal.loop-left-smaller
-loop-left-smaller c = let p = loop-again c in omega (arith, p.few)
+loop-left-smaller c =
+    let l = c.loop-left in
+    let p = peeled_next _ _ c.requires.1 _ _ _ _ _ l.invariant (ap (bit_and l.left) c.touched.ensures)
+        c.if-next-left.false c.give.ensures in
+    omega (arith, p.few)
 
 pub returns : goal.returns
 returns c =

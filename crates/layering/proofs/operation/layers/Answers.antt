@@ -57,7 +57,7 @@ number-stuck-requires c =
     let a = c.args in
     sound-atoms a.c a.clauses.now a.constraints.now a.formula.now (the_is_sound) in
     let a = the_atoms_fit in
-    let w = dependents_words _ _ c.fill.new.1.1.0 c.fill.ensures in
+    let w = dependents_words _ _ c.fill.new.dependents c.fill.ensures in
     (a.0, a.1, w, refl, λ i h. get_or-replicate 64 i 0 0 h)
 
 pub returns-then-stuck-eq0 : goal.returns-then-stuck-eq0
