@@ -9,8 +9,8 @@ ghost use Rattle.store.specs.Held.{Long};
 ghost use Rattle.store.specs.Stored.{ClauseStored, ConstraintStored, ObservedStored, QueryStored};
 ghost use Rattle.store.specs.Stored.{Storable, StoredAs};
 
+use crate::formula_nodes::store_nodes;
 use crate::masks::{Masks, masks_of};
-use crate::nodes::store_nodes;
 use crate::price::{price_of, put_price};
 use grammar::line::Form;
 use program::case::Case;

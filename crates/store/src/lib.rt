@@ -2,6 +2,6 @@
 #![tactic(auto)]
 
 pub mod form;
+pub mod formula_nodes;
 pub mod masks;
-pub mod nodes;
 pub mod price;

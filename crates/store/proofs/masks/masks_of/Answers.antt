@@ -1,9 +1,6 @@
 -- Answers to the goals of this function. Assumes nothing.
-use Prim.Native.Nat.{◌-◌}
 use borrow.Author.Rules.{rules}
-use lib.ListN.{length}
-use Rattle.names.specs.Row.{row_of}
-use Rattle.store.proofs.MaskLaws.{Passed, passed_none, passed-more, passed-all}
+use Rattle.store.proofs.MaskLaws.{passed_none, passed-more, passed-all}
 use Rattle.store.proofs.MaskLaws.{literal-onward, literal-within, literal-less}
 use Rattle.store.proofs.masks.masks_of.Goals as goal
 

@@ -1,11 +1,9 @@
 -- `masks::masks_of` meets its contract. The invariant is `Passed`: the literals from place i on and those of m are all.
 -- The measure is what is left of the line. Assumes nothing.
 use Prim.Native.Nat.{◌-◌}
-use borrow.Author.Rules.{rules}
 use lib.ListN.{length}
 use Rattle.names.specs.Row.{row_of}
-use Rattle.store.proofs.MaskLaws.{Passed, passed_none, passed-more, passed-all}
-use Rattle.store.proofs.MaskLaws.{literal-onward, literal-within, literal-less}
+use Rattle.store.proofs.MaskLaws.{Passed}
 use Rattle.store.proofs.masks.masks_of.Given as goal
 
 abbrev pub invariant-loop-negated : goal.invariant-loop-negated

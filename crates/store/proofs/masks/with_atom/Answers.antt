@@ -1,5 +1,4 @@
 -- `masks::with_atom` meets its contract. Assumes nothing.
-use borrow.Author.Rules.{rules}
 use borrow.Author.Tests.{lt-ltb, le-ltb}
 use Rattle.store.proofs.masks.with_atom.Goals as goal
 

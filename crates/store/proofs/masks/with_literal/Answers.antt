@@ -1,5 +1,4 @@
 -- `masks::with_literal` meets its contract. Assumes nothing.
-use borrow.Author.Rules.{rules}
 use Rattle.store.proofs.masks.with_literal.Goals as goal
 
 pub returns-then-negated : goal.returns-then-negated

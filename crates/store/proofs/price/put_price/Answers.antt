@@ -1,5 +1,4 @@
 -- `price::put_price` meets its contract, by the atom's number. Assumes nothing.
-use borrow.Author.Rules.{rules}
 use borrow.Author.Tests.{lt-ltb, le-ltb}
 use Rattle.store.proofs.price.put_price.Goals as goal
 

@@ -1,8 +1,7 @@
--- `nodes::node_at` meets its contract. Assumes nothing.
+-- `formula_nodes::node_at` meets its contract. Assumes nothing.
 use native.Mathlib.Omega.{arith}
-use borrow.Author.Rules.{rules}
 use Rattle.store.proofs.NodeLaws.{row-few}
-use Rattle.store.proofs.nodes.node_at.Goals as goal
+use Rattle.store.proofs.formula_nodes.node_at.Goals as goal
 
 pub returns-then-form : goal.returns-then-form
 returns-then-form c = rw c.if-form.true c.node_of.ensures

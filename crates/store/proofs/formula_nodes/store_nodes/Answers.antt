@@ -1,17 +1,10 @@
 -- Answers to the goals of this function. Assumes nothing.
-use mathlib.Core.Path.{◌≡◌}
-use mathlib.Core.Bool.{false}
-use Prim.Native.Nat.{◌-◌}
 use borrow.Author.Rules.{rules}
-use lib.ListN.{length, drop}
-use Rattle.text.specs.Tokens.{tokens}
 use Rattle.text.proofs.TokenLaws.{opening-less, closing-less, word-less}
 use Rattle.text.proofs.TokenLaws.{word-le, word-within}
-use Rattle.names.specs.Row.{row_of}
-use Rattle.store.specs.Nodes.{nodes_from, node_table, with_nodes}
-use Rattle.store.proofs.NodeLaws.{Storing, storing_none, storing_end, storing_open, storing_close}
+use Rattle.store.proofs.NodeLaws.{storing_none, storing_end, storing_open, storing_close}
 use Rattle.store.proofs.NodeLaws.{storing_full, storing_word}
-use Rattle.store.proofs.nodes.store_nodes.Goals as goal
+use Rattle.store.proofs.formula_nodes.store_nodes.Goals as goal
 
 pub loop-next-init : goal.loop-next-init
 loop-next-init c = search (rules, storing_none)
