@@ -1,8 +1,6 @@
 -- `output::put_decimal` meets its contract: one digit, or the digits in front of the last and then the last.
 -- The measure is the number. Assumes nothing.
-use Prim.Native.Nat.{ℕ, ◌<◌}
 use native.Mathlib.Omega.{arith}
-use borrow.Author.Rules.{rules}
 use Rattle.output.proofs.Digits.{one-room, one_written, front-room, last-room, last_written}
 use Rattle.output.proofs.+put_decimal.Goals as goal
 

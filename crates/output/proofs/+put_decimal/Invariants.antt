@@ -1,5 +1,4 @@
 -- The measure of the recursion.
-use Prim.Native.Nat.{ℕ, ◌<◌}
 use Rattle.output.proofs.+put_decimal.Given as goal
 
 abbrev pub decreases-put_decimal : goal.decreases-put_decimal

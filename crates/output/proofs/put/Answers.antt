@@ -1,5 +1,4 @@
 -- `output::put` meets its contract: the byte is stored before the output's end, and counted behind it. Assumes nothing.
-use borrow.Author.Rules.{rules}
 use Rattle.output.proofs.Laying.{writes_one, writes-past, writes-length}
 use Rattle.output.proofs.put.Goals as goal
 use Rattle.output.proofs.put.Goals.{then-at-out, else-at-out}

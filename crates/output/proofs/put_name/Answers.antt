@@ -1,8 +1,6 @@
 -- Answers to the goals of this function. Assumes nothing.
-use borrow.Author.Rules.{rules}
-use Prim.Native.Nat.{◌-◌}
 use Rattle.output.proofs.Laying.{writes-length}
-use Rattle.output.proofs.Names.{Naming, naming_none, naming_room, naming_more, naming_stops, naming_ends}
+use Rattle.output.proofs.Names.{naming_none, naming_room, naming_more, naming_stops, naming_ends}
 use Rattle.output.proofs.put_name.Goals as goal
 
 pub loop-i-init : goal.loop-i-init

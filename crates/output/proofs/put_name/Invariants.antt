@@ -1,9 +1,7 @@
 -- `output::put_name` meets its contract. The invariant is `Naming`: the first i bytes of the row are written, and the
 -- name is these and what stands before the first zero behind them. Assumes nothing.
-use borrow.Author.Rules.{rules}
 use Prim.Native.Nat.{◌-◌}
-use Rattle.output.proofs.Laying.{writes-length}
-use Rattle.output.proofs.Names.{Naming, naming_none, naming_room, naming_more, naming_stops, naming_ends}
+use Rattle.output.proofs.Names.{Naming}
 use Rattle.output.proofs.put_name.Given as goal
 
 abbrev pub invariant-loop-i : goal.invariant-loop-i

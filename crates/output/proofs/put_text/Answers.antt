@@ -1,9 +1,6 @@
 -- Answers to the goals of this function. Assumes nothing.
 use borrow.Author.Rules.{rules}
-use Prim.Native.Nat.{◌≤◌, ◌-◌}
 use native.Mathlib.Omega.{arith}
-use lib.ListN.{length, take}
-use Rattle.output.specs.Writing.{Writes}
 use Rattle.output.proofs.Laying.{writes-none, writes_more, writes-all, writes-ends, writes-length}
 use Rattle.output.proofs.put_text.Goals as goal
 

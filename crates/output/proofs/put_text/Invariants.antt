@@ -1,10 +1,7 @@
 -- `output::put_text` meets its contract. The invariant: the first i bytes of the text are written. Assumes nothing.
-use borrow.Author.Rules.{rules}
 use Prim.Native.Nat.{◌≤◌, ◌-◌}
-use native.Mathlib.Omega.{arith}
 use lib.ListN.{length, take}
 use Rattle.output.specs.Writing.{Writes}
-use Rattle.output.proofs.Laying.{writes-none, writes_more, writes-all, writes-ends, writes-length}
 use Rattle.output.proofs.put_text.Given as goal
 
 abbrev pub invariant-loop-i : goal.invariant-loop-i

@@ -1,5 +1,4 @@
 -- `spelling::closing` meets its contract: one byte, behind which no word stands. Assumes nothing.
-use borrow.Author.Rules.{rules}
 use Rattle.spelling.proofs.Pens.{closing-room, closing-written}
 use Rattle.spelling.proofs.closing.Goals as goal
 

@@ -1,5 +1,4 @@
 -- `spelling::end_line` meets its contract, by whether the line is long. Assumes nothing.
-use borrow.Author.Rules.{rules}
 use Rattle.spelling.proofs.Pages.{ended-long, ended-short}
 use Rattle.spelling.proofs.end_line.Goals as goal
 

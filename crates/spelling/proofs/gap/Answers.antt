@@ -1,5 +1,4 @@
 -- `spelling::gap` meets its contract, by whether a word stands just before. Assumes nothing.
-use borrow.Author.Rules.{rules}
 use Rattle.spelling.proofs.Pens.{gap_room, gap_written, gap_none}
 use Rattle.spelling.proofs.gap.Goals as goal
 

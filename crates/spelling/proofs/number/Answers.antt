@@ -1,5 +1,4 @@
 -- `spelling::number` meets its contract: the gap, and the number behind it. Assumes nothing.
-use borrow.Author.Rules.{rules}
 use Rattle.spelling.proofs.Pens.{word_gap_room, word_room, word-written}
 use Rattle.spelling.proofs.number.Goals as goal
 

@@ -1,5 +1,4 @@
 -- `spelling::opening` meets its contract: one byte, behind which no word stands. Assumes nothing.
-use borrow.Author.Rules.{rules}
 use Rattle.spelling.proofs.Pens.{opening-room, opening-written}
 use Rattle.spelling.proofs.opening.Goals as goal
 

@@ -1,6 +1,5 @@
 -- `wording::answer_text` meets its contract: the lines of the verdicts, three more, those of the settings, and that of
 -- the lowest cost. Assumes nothing.
-use borrow.Author.Rules.{rules}
 use native.Mathlib.Omega.{arith}
 use lib.ListN.{length-append}
 use Rattle.wording.proofs.Listings.{answer-room, answer-written, number-ends, minimal-ends}

@@ -1,6 +1,5 @@
 -- `wording::cause_line` meets its contract: the line is its opening, what the setting adds, and its end.
 -- Assumes nothing.
-use borrow.Author.Rules.{rules}
 use native.Mathlib.Omega.{arith}
 use Rattle.wording.proofs.Lines.{cause_room, cause_written}
 use Rattle.wording.proofs.cause_line.Goals as goal

@@ -1,12 +1,8 @@
 -- Answers to the goals of this function. Assumes nothing.
 use borrow.Author.Rules.{rules}
-use Prim.Native.Nat.{◌-◌}
 use native.Mathlib.Omega.{arith}
-use lib.ListN.{length}
-use Rattle.names.specs.Row.{name_in}
 use Rattle.output.proofs.Laying.{writes-length}
-use Rattle.wording.specs.Text.{cause_line}
-use Rattle.wording.proofs.Listings.{AtLine, line-start, line-room, line-more, line-end}
+use Rattle.wording.proofs.Listings.{line-start, line-room, line-more, line-end}
 use Rattle.wording.proofs.cause_lines.Goals as goal
 
 pub loop-k-init : goal.loop-k-init

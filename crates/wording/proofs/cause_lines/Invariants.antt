@@ -1,13 +1,10 @@
 -- `wording::cause_lines` meets its contract. The loop's invariant: what is written so far, and the lines from the
 -- next setting on, make up the whole. Assumes nothing.
-use borrow.Author.Rules.{rules}
 use Prim.Native.Nat.{◌-◌}
-use native.Mathlib.Omega.{arith}
 use lib.ListN.{length}
 use Rattle.names.specs.Row.{name_in}
-use Rattle.output.proofs.Laying.{writes-length}
 use Rattle.wording.specs.Text.{cause_line}
-use Rattle.wording.proofs.Listings.{AtLine, line-start, line-room, line-more, line-end}
+use Rattle.wording.proofs.Listings.{AtLine}
 use Rattle.wording.proofs.cause_lines.Given as goal
 
 abbrev pub invariant-loop-k : goal.invariant-loop-k

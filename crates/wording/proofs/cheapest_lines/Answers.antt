@@ -1,6 +1,5 @@
 -- `wording::cheapest_lines` meets its contract: nothing where nothing explains, otherwise the one line.
 -- Assumes nothing.
-use borrow.Author.Rules.{rules}
 use Rattle.output.proofs.Laying.{writes-none}
 use Rattle.wording.proofs.LineTexts.{cheapest_none}
 use Rattle.wording.proofs.Lines.{cheapest_room, cheapest_written}

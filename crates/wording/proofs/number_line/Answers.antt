@@ -1,6 +1,5 @@
 -- `wording::number_line` meets its contract: the line is its opening, the number, and its end.
 -- Assumes nothing.
-use borrow.Author.Rules.{rules}
 use native.Mathlib.Omega.{arith}
 use Rattle.wording.proofs.Lines.{number-room, number-written}
 use Rattle.wording.proofs.number_line.Goals as goal

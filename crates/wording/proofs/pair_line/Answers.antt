@@ -1,6 +1,5 @@
 -- `wording::pair_line` meets its contract: the line is its opening, a number, a space, a number, and its end.
 -- Assumes nothing.
-use borrow.Author.Rules.{rules}
 use native.Mathlib.Omega.{arith}
 use Rattle.wording.proofs.Lines.{pair_room, pair_written}
 use Rattle.wording.proofs.pair_line.Goals as goal

@@ -1,5 +1,4 @@
 -- `wording::put_abducible` meets its contract, digit by digit. Assumes nothing.
-use borrow.Author.Rules.{rules}
 use Rattle.output.proofs.Laying.{writes-none}
 use Rattle.output.proofs.FormTexts.{spaced_nil}
 use Rattle.wording.proofs.Lines.{fact-room, fact-written, assumption-room, assumption-written}

@@ -1,12 +1,10 @@
 -- Answers to the goals of this function. Assumes nothing.
-use borrow.Author.Rules.{rules}
 use native.Mathlib.Omega.{arith}
 use Prim.Native.Nat.{◌≤◌}
 use Rattle.words.proofs.BitWalks.{without_less}
 use Rattle.program.proofs.Settings.{choice_some}
-use Rattle.names.specs.Row.{name_in}
 use Rattle.output.proofs.Laying.{writes-length}
-use Rattle.wording.proofs.Abducibles.{AtCause, cause_start, cause_room, cause_next, cause_end}
+use Rattle.wording.proofs.Abducibles.{cause_start, cause_room, cause_next, cause_end}
 use Rattle.wording.proofs.put_abducibles.Goals as goal
 
 pub loop-left-init : goal.loop-left-init

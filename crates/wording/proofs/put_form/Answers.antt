@@ -1,5 +1,4 @@
 -- `wording::put_form` meets its contract: the form is its opening, the name, and a bracket. Assumes nothing.
-use borrow.Author.Rules.{rules}
 use native.Mathlib.Omega.{arith}
 use Rattle.wording.proofs.Lines.{form-room, form-written}
 use Rattle.wording.proofs.put_form.Goals as goal

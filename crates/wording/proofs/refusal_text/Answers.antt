@@ -1,6 +1,5 @@
 -- `wording::refusal_text` meets its contract: the line has two numbers, and room for 20 digits each.
 -- Assumes nothing.
-use borrow.Author.Rules.{rules}
 use Rattle.wording.proofs.Lines.{refusal-room, refusal-written}
 use Rattle.wording.proofs.refusal_text.Goals as goal
 

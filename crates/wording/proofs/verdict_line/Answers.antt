@@ -1,5 +1,4 @@
 -- `wording::verdict_line` meets its contract, number by number. Assumes nothing.
-use borrow.Author.Rules.{rules}
 use Rattle.wording.proofs.Lines.{verdict_room, verdict_written, open_room, open_written}
 use Rattle.wording.proofs.verdict_line.Goals as goal
 

@@ -1,10 +1,7 @@
 -- Answers to the goals of this function. Assumes nothing.
-use borrow.Author.Rules.{rules}
-use Prim.Native.Nat.{◌-◌}
-use lib.ListN.{length}
 use Rattle.output.proofs.Laying.{writes-length}
 use Rattle.wording.specs.Text.{verdict_line}
-use Rattle.wording.proofs.Listings.{AtLine, line-start, line-room, line-more, line-end}
+use Rattle.wording.proofs.Listings.{line-start, line-room, line-more, line-end}
 use Rattle.wording.proofs.verdict_lines.Goals as goal
 
 pub loop-k-init : goal.loop-k-init

@@ -1,11 +1,9 @@
 -- `wording::verdict_lines` meets its contract. The loop's invariant: what is written so far, and the lines from the
 -- next verdict on, make up the whole. Assumes nothing.
-use borrow.Author.Rules.{rules}
 use Prim.Native.Nat.{◌-◌}
 use lib.ListN.{length}
-use Rattle.output.proofs.Laying.{writes-length}
 use Rattle.wording.specs.Text.{verdict_line}
-use Rattle.wording.proofs.Listings.{AtLine, line-start, line-room, line-more, line-end}
+use Rattle.wording.proofs.Listings.{AtLine}
 use Rattle.wording.proofs.verdict_lines.Given as goal
 
 abbrev pub invariant-loop-k : goal.invariant-loop-k
