@@ -4,7 +4,7 @@
 --   Answered f r out    the first r bytes of the output are the report of the file f
 --   ReportOf room b t   t is the report of every input of which b are the first room bytes, or all where it has fewer
 use Rattle.std.specs.Prelude.{◌≡◌, List, ℕ, take}
-use Rattle.io.specs.Counts.{IsPrefixLen}
+use Rattle.std.specs.Counts.{IsPrefixLen}
 use Rattle.report.specs.Report.{report_text}
 
 pub record Answered (f : List ℕ) (r : ℕ) (out : List ℕ) : Type 0 where

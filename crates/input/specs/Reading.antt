@@ -3,7 +3,7 @@
 --
 --   Stopped buf r       reading into the buffer stopped where it was full or the last call of read gave no byte
 use Rattle.std.specs.Prelude.{◌≡◌, List, ℕ, ◌<◌, length}
-use Rattle.io.specs.Counts.{IsPrefixLen}
+use Rattle.std.specs.Counts.{IsPrefixLen}
 use Rattle.input.specs.declared.Input.{Input}
 
 pub record Stopped (buf : List ℕ) (r : Input) : Type 0 where

@@ -3,7 +3,7 @@ use mathlib.Core.List.{List}
 use Prim.Native.Nat.{ℕ, ◌≤◌, ◌<◌}
 use native.Mathlib.Omega.{arith}
 use lib.ListN.{length, take}
-use Rattle.io.proofs.Counting.{prefix_len_of_le}
+use Rattle.system.proofs.Counting.{prefix_len_of_le}
 use Rattle.output.specs.declared.Answer.{Answer}
 use Rattle.report.proofs.Showing.{report_within, report_whole}
 use Rattle.layer_report.specs.Report.{LayersOf}

@@ -4,7 +4,7 @@ use mathlib.Core.List.{List}
 use Prim.Native.Nat.{ℕ, zero, suc, ◌≤◌}
 use native.Mathlib.Omega.{arith}
 use lib.ListN.{length}
-use Rattle.io.proofs.Counting.{prefix_len_of_le}
+use Rattle.system.proofs.Counting.{prefix_len_of_le}
 use Rattle.output.specs.declared.Answer.{Answer}
 use Rattle.output.proofs.Showing.{shown-within, shown_whole}
 use Rattle.wording.specs.Text.{refusal_text}

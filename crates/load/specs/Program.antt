@@ -7,7 +7,7 @@
 use Rattle.std.specs.Prelude.{◌≡◌, List, ℕ, take}
 use Rattle.words.specs.Choice.{unless_refused}
 use Rattle.wording.specs.Text.{refusal_text}
-use Rattle.io.specs.Counts.{IsPrefixLen}
+use Rattle.std.specs.Counts.{IsPrefixLen}
 use Rattle.loading.specs.Load.{load_text}
 use Rattle.loading.specs.Operation.{load_refusal}
 use Rattle.loading.specs.Claims.{longest_load}

@@ -1,17 +1,13 @@
--- Answers to the goals of this function. Assumes nothing.
-use borrow.Author.Rules.{rules}
-use mathlib.Core.Path.{◌≡◌}
-use Prim.Native.Nat.{◌≤◌, ◌-◌}
-use native.Mathlib.Omega.{arith}
-use lib.ListN.{length}
-use Rattle.io.proofs.Counting.{prefix_len_of_le}
+-- `read_input`: what a read adds. Assumes nothing of the reader but what its bound promises.
+use Rattle.std.proofs.Common.{rules}
+use Rattle.input.proofs.Reading.{read_fits, read_on}
 use Rattle.input.proofs.read_input.Goals as goal
 
-pub returns-then-last-eq0 : goal.returns-then-last-eq0
-returns-then-last-eq0 c = record { counted = prefix_len_of_le _ _ (omega arith); stops = λ h. c.if-last-eq0.true }
-
 pub loop-done-preserved : goal.loop-done-preserved
-loop-done-preserved c = (omega arith, omega arith)
-
-pub returns : goal.returns
-returns c = record { counted = prefix_len_of_le _ _ (omega arith); stops = λ h. absurd (omega arith) }
+loop-done-preserved g c =
+    let read = c.read-read in
+    let last = c.unwrap_or-last in
+    let some = c.if-last-eq0.false in
+    let fits = read_fits read.result last.result last.ensures some read.new.buf read.ensures.bound in
+    let before = c.loop-done.invariant in
+    (search rules, search rules, read_on read.result last.result last.ensures some read.new.buf read.ensures.bound _ _ _ _ _ read.ensures.bytes before.0 before.2)

@@ -1,0 +1,2 @@
+-- Reading: what one call of read adds to the bytes read.
+pub mod Reading
