@@ -5,6 +5,7 @@ use Rattle.round.proofs.Committing.{redone-lanes}
 use Rattle.round.proofs.redo.redo.Goals as goal
 
 pub returns : goal.returns
-returns c =
-    let d = c.decide-c.ensures in
-    (redone-lanes _ _ _ _ _ _ _ _ _ _ d c.commit.ensures, (c.commit.ensures.sizes, d.sizes))
+returns c = record {
+    redone = redone-lanes _ _ _ _ _ _ _ _ _ _ c.decide-c.ensures c.commit.ensures;
+    sizes = (c.commit.ensures.sizes, c.decide-c.ensures.sizes)
+}
