@@ -1,5 +1,4 @@
 -- `progress::is_costed` meets its contract, by the atom's number. Assumes nothing.
-use borrow.Author.Rules.{rules}
 use borrow.Author.Tests.{lt-ltb, le-ltb}
 use Rattle.checks.proofs.progress.is_costed.Goals as goal
 
