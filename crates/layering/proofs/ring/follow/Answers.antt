@@ -1,12 +1,8 @@
--- Answers to the goals of this function. Assumes nothing.
-use mathlib.Core.Path.{◌≡◌}
-use mathlib.Core.Bool.{false}
-use Prim.Native.Nat.{◌-◌, ◌<◌}
+-- `follow` meets its contract: while the atom is new there is room for it in the path, and one atom more keeps the
+-- path followed. Assumes nothing.
+use mathlib.Core.Path.{sym, ◌∙◌}
 use native.Mathlib.Omega.{arith}
 use borrow.Author.Rules.{rules}
-use Rattle.words.specs.Bits.{has}
-use Rattle.words.proofs.Tests.{failed, passed}
-use Rattle.layering.specs.Path.{Followed}
 use Rattle.layering.proofs.Following.{followed_start, followed_next, followed_room}
 use Rattle.layering.proofs.ring.follow.Goals as goal
 
@@ -21,27 +17,16 @@ test-requires c = c.loop-path.invariant.stuck.small
 
 pub offset_bounds-path-len : goal.offset_bounds-path-len
 offset_bounds-path-len c =
-    let the_new : has c.loop-path.seen c.loop-path.at ≡ false =
-    failed c.test.ensures c.loop-path-test.true-raw in
-    let the_free : c.loop-path.len < 64 =
-    followed_room _ _ c.loop-path.invariant (the_new) in
-    let l = the_free in search rules
+    let free = followed_room _ _ c.loop-path.invariant (sym c.test.ensures ∙ c.loop-path-test.true) in
+    search rules
 
 pub bounds-path-len : goal.bounds-path-len
-bounds-path-len c =
-    let the_new : has c.loop-path.seen c.loop-path.at ≡ false =
-    failed c.test.ensures c.loop-path-test.true-raw in
-    let the_free : c.loop-path.len < 64 =
-    followed_room _ _ c.loop-path.invariant (the_new) in
-    the_free
+bounds-path-len c = followed_room _ _ c.loop-path.invariant (sym c.test.ensures ∙ c.loop-path-test.true)
 
 pub overflow_add-len : goal.overflow_add-len
 overflow_add-len c =
-    let the_new : has c.loop-path.seen c.loop-path.at ≡ false =
-    failed c.test.ensures c.loop-path-test.true-raw in
-    let the_free : c.loop-path.len < 64 =
-    followed_room _ _ c.loop-path.invariant (the_new) in
-    let l = the_free in search rules
+    let free = followed_room _ _ c.loop-path.invariant (sym c.test.ensures ∙ c.loop-path-test.true) in
+    search rules
 
 pub single-seen-requires : goal.single-seen-requires
 single-seen-requires c = c.loop-path.invariant.stuck.small
@@ -53,18 +38,14 @@ next-at-requires c =
 
 pub loop-path-smaller : goal.loop-path-smaller
 loop-path-smaller c =
-    let the_new : has c.loop-path.seen c.loop-path.at ≡ false =
-    failed c.test.ensures c.loop-path-test.true-raw in
-    let the_free : c.loop-path.len < 64 =
-    followed_room _ _ c.loop-path.invariant (the_new) in
-    let l = the_free in omega arith
+    let free = followed_room _ _ c.loop-path.invariant (sym c.test.ensures ∙ c.loop-path-test.true) in
+    omega arith
 
 pub loop-path-preserved : goal.loop-path-preserved
 loop-path-preserved c =
-    let the_new : has c.loop-path.seen c.loop-path.at ≡ false =
-    failed c.test.ensures c.loop-path-test.true-raw in
+    let unseen = sym c.test.ensures ∙ c.loop-path-test.true in
     let b = c.next-at.ensures in
-    rw c.single-seen.ensures (followed_next _ _ c.loop-path.invariant (the_new) _ b.0 b.1)
+    rw c.single-seen.ensures (followed_next _ _ c.loop-path.invariant unseen _ b.0 b.1)
 
 pub returns : goal.returns
-returns c = (c.loop-path.invariant, passed c.test.ensures c.loop-path-test.false-raw)
+returns c = (c.loop-path.invariant, sym c.test.ensures ∙ c.loop-path-test.false)
