@@ -82,8 +82,8 @@ loop-c-preserved c =
     let valid = c.lowest-valid.ensures in
     let e = c.redo-c.ensures in
     let next = settling_next _ _ _ _ c.requires.5 _ _ _ _ _ c.loop-c.invariant.0 _ _ _ _ _ (omega arith)
-    (omega arith) valid (the_heads_are) e.1.0 e.0 in
-    (rw (the_changed_counted) next, e.1.1)
+    (omega arith) valid (the_heads_are) e.sizes.0 e.redone in
+    (rw (the_changed_counted) next, e.sizes.1)
 
 pub returns : goal.returns
 returns c =
