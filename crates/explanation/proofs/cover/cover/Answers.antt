@@ -1,12 +1,10 @@
 -- Answers to the goals of this function. Assumes nothing.
-use mathlib.Core.Path.{◌≡◌, refl, sym, subst}
+use mathlib.Core.Path.{refl, sym, subst}
 use mathlib.Core.List.{List}
-use Prim.Native.Nat.{ℕ, ◌-◌, ◌<◌, ◌^◌}
+use Prim.Native.Nat.{ℕ, ◌<◌}
 use native.Mathlib.Omega.{arith}
 use lib.Bits.{or_lt}
-use lib.Count.{ones}
-use lib.ListN.{length, set, length-set}
-use borrow.Author.Rules.{rules}
+use lib.ListN.{length, length-set}
 use Rattle.explanation.proofs.Larger.{Stands, stands_start, stands_next, stands_less, stands_end}
 use Rattle.explanation.proofs.cover.cover.Goals as goal
 

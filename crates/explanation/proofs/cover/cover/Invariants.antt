@@ -1,14 +1,11 @@
 -- `cover` meets its contract: the word takes in the lanes of `dropped` until nothing is added (`Stands`). The measure
 -- is the number of lanes it lacks. Assumes nothing.
-use mathlib.Core.Path.{◌≡◌, refl, sym, subst}
+use mathlib.Core.Path.{◌≡◌}
 use mathlib.Core.List.{List}
 use Prim.Native.Nat.{ℕ, ◌-◌, ◌<◌, ◌^◌}
-use native.Mathlib.Omega.{arith}
-use lib.Bits.{or_lt}
 use lib.Count.{ones}
-use lib.ListN.{length, set, length-set}
-use borrow.Author.Rules.{rules}
-use Rattle.explanation.proofs.Larger.{Stands, stands_start, stands_next, stands_less, stands_end}
+use lib.ListN.{length, set}
+use Rattle.explanation.proofs.Larger.{Stands}
 use Rattle.explanation.proofs.cover.cover.Given as goal
 
 -- row₀ is the row at the loop's start, whose word b is e; r is the row at entry

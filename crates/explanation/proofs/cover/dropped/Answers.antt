@@ -2,9 +2,8 @@
 use Prim.Native.Nat.{◌*◌, ◌≤◌}
 use native.Mathlib.Omega.{arith}
 use lib.ListN.{get_or}
-use borrow.Author.Rules.{rules}
 use Rattle.words.proofs.BitWalks.{without_less}
-use Rattle.explanation.proofs.Rows.{Dropping, dropping_start, dropping_next, dropping_end}
+use Rattle.explanation.proofs.Rows.{dropping_start, dropping_next, dropping_end}
 use Rattle.explanation.proofs.cover.dropped.Goals as goal
 
 pub loop-left-init : goal.loop-left-init

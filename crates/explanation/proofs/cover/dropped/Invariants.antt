@@ -1,11 +1,6 @@
 -- `dropped` meets its contract: the causes are taken one by one, lowest first (`Dropping`). The measure is the word of
 -- the causes left. Assumes nothing.
-use Prim.Native.Nat.{◌*◌, ◌≤◌}
-use native.Mathlib.Omega.{arith}
-use lib.ListN.{get_or}
-use borrow.Author.Rules.{rules}
-use Rattle.words.proofs.BitWalks.{without_less}
-use Rattle.explanation.proofs.Rows.{Dropping, dropping_start, dropping_next, dropping_end}
+use Rattle.explanation.proofs.Rows.{Dropping}
 use Rattle.explanation.proofs.cover.dropped.Given as goal
 
 abbrev pub invariant-loop-left : goal.invariant-loop-left

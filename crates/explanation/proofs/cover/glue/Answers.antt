@@ -1,6 +1,5 @@
 -- `glue` meets its contract, by the laws of shifted words. Assumes nothing.
 use native.Mathlib.Omega.{arith}
-use borrow.Author.Rules.{rules}
 use Rattle.explanation.proofs.Shifting.{glued}
 use Rattle.explanation.proofs.cover.glue.Goals as goal
 

@@ -1,8 +1,7 @@
 -- Answers to the goals of this function. Assumes nothing.
-use Prim.Native.Nat.{◌-◌}
 use native.Mathlib.Omega.{arith}
 use borrow.Author.Rules.{rules}
-use Rattle.explanation.proofs.Explaining.{Passing, passing_start, passing_next, passing_end}
+use Rattle.explanation.proofs.Explaining.{passing_start, passing_next, passing_end}
 use Rattle.explanation.proofs.explain.all_met.Goals as goal
 
 pub loop-k-init : goal.loop-k-init

@@ -1,9 +1,7 @@
 -- `all_met` meets its contract: the constraints are taken one by one (`Passing`). The measure is those to come.
 -- Assumes nothing.
 use Prim.Native.Nat.{◌-◌}
-use native.Mathlib.Omega.{arith}
-use borrow.Author.Rules.{rules}
-use Rattle.explanation.proofs.Explaining.{Passing, passing_start, passing_next, passing_end}
+use Rattle.explanation.proofs.Explaining.{Passing}
 use Rattle.explanation.proofs.explain.all_met.Given as goal
 
 abbrev pub invariant-loop-k : goal.invariant-loop-k

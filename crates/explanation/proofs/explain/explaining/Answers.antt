@@ -1,5 +1,4 @@
 -- `explaining` meets its contract: the observations as one body, then the constraints. Assumes nothing.
-use borrow.Author.Rules.{rules}
 use Rattle.explanation.proofs.Explaining.{explaining_is}
 use Rattle.explanation.proofs.explain.explaining.Goals as goal
 

@@ -1,5 +1,4 @@
 -- `met` meets its contract: the lanes in which the body is false, or those in which it isn't true. Assumes nothing.
-use borrow.Author.Rules.{rules}
 use Rattle.explanation.proofs.Explaining.{never_lanes, avoid_lanes}
 use Rattle.explanation.proofs.explain.met.Goals as goal
 

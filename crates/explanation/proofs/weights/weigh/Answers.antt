@@ -1,8 +1,7 @@
 -- Answers to the goals of this function. Assumes nothing.
 use native.Mathlib.Omega.{arith}
-use borrow.Author.Rules.{rules}
 use Rattle.words.proofs.BitWalks.{without_less}
-use Rattle.explanation.proofs.Weighing.{Weighed, weighed_start, weight-few, weighed_next, weighed_end}
+use Rattle.explanation.proofs.Weighing.{weighed_start, weight-few, weighed_next, weighed_end}
 use Rattle.explanation.proofs.weights.weigh.Goals as goal
 
 pub loop-left-init : goal.loop-left-init

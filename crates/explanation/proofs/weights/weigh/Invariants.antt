@@ -1,9 +1,6 @@
 -- `weigh` meets its contract: the causes passed have their weights, and those left have theirs from the weight
 -- reached on (`Weighed`). The measure is the word of the causes left. Assumes nothing.
-use native.Mathlib.Omega.{arith}
-use borrow.Author.Rules.{rules}
-use Rattle.words.proofs.BitWalks.{without_less}
-use Rattle.explanation.proofs.Weighing.{Weighed, weighed_start, weight-few, weighed_next, weighed_end}
+use Rattle.explanation.proofs.Weighing.{Weighed}
 use Rattle.explanation.proofs.weights.weigh.Given as goal
 
 abbrev pub invariant-loop-left : goal.invariant-loop-left
