@@ -30,7 +30,7 @@ fn main() {
     println!("cargo:rerun-if-changed={}", archive.display());
     if !archive.is_file() {
         stop(&format!(
-            "there is no archive {}. Run `rt staticlib embed` in the repository, or name the archive's folder in the \
+            "there is no archive {}. Run `./build embed` in the repository, or name the archive's folder in the \
              variable CAUSES_LIB.",
             archive.display()
         ));
