@@ -8,9 +8,6 @@ use Rattle.wording.proofs.cause_lines.Goals as goal
 pub loop-k-init : goal.loop-k-init
 loop-k-init c = line-start _ _ _ _
 
-pub overflow_cast-list : goal.overflow_cast-list
-overflow_cast-list c = omega (arith, c.shared_slice_known-in-loop-k-1.given c.loop-k.k)
-
 pub cause_line-place-requires : goal.cause_line-place-requires
 cause_line-place-requires c =
     (search rules, line-room _ c.loop-k.invariant (omega arith) c.requires.1)
