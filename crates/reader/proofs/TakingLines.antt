@@ -86,8 +86,8 @@ pub record LinesTaken (f : List ℕ) (t₀ t : Lent) (p : Progress) (at line : �
 abbrev pub nothing_read : Case
 nothing_read = case_with 0 0 0 0 0 0 (replicate 16 0) 1
 
-nothing_read : nothing_read ≡ case_said nothing_said
-nothing_read = ap₂ (case_with 0 0 0 0 0 0) (padded-zeros 16) (sym (last_none 1))
+nothing_read-said : nothing_read ≡ case_said nothing_said
+nothing_read-said = ap₂ (case_with 0 0 0 0 0 0) (padded-zeros 16) (sym (last_none 1))
 
 abbrev pub no_progress : Progress
 no_progress = record { found = nothing_read; costed = 0; editions = 0 }
@@ -99,7 +99,7 @@ no_lines_taken {f} {t} h = record {
   long = h.long;
   said = nothing_said;
   reached = record {
-    held = rw nothing_read h.held;
+    held = rw nothing_read-said h.held;
     costed_are = none_costed;
     editions_are = refl;
     editions-few = omega arith;

@@ -1,5 +1,5 @@
 -- What is claimed of reading is so. Assumes nothing.
-use mathlib.Core.Path.{◌≡◌, ap, subst}
+use mathlib.Core.Path.{◌≡◌, subst}
 use mathlib.Core.List.{[]}
 use Prim.Native.Nat.{suc, ◌*◌, ◌≤◌}
 use native.Mathlib.Omega.{arith}
@@ -15,7 +15,7 @@ use Rattle.names.proofs.Adding.{distinct-atom}
 use Rattle.store.proofs.Encoded.{encoded-length}
 use Rattle.store.proofs.Prices.{supplement-near}
 use Rattle.checks.specs.Naming.{IsName}
-use Rattle.reader.specs.Claims.{AcceptedSound, TablesSay, AcceptedNames, FirstBad, ReadExact}
+use Rattle.reader.specs.Claims.{AcceptedSound, TablesSay, AcceptedNames, ReadExact}
 use Rattle.reader.specs.Claims.{FirstBadLine, NoBadLine, OneEdition, ElevenRead, NodesFit, SupplementNearest}
 use Rattle.reader.proofs.EarlyRefusals.{fit_long}
 use Rattle.reader.proofs.WellFormedLines.{accepted-formed}

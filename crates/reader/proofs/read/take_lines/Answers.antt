@@ -1,9 +1,6 @@
 -- Answers to the goals of this function. Assumes nothing.
-use Prim.Native.Nat.{◌+◌, ◌-◌}
-use lib.ListN.{length}
 use borrow.Author.Rules.{rules}
-use Rattle.store.specs.Lent.{lent}
-use Rattle.reader.proofs.TakingLines.{file_lengths, LinesTaken, no_lines_taken, taken_bounded, line_taken}
+use Rattle.reader.proofs.TakingLines.{file_lengths, no_lines_taken, taken_bounded, line_taken}
 use Rattle.reader.proofs.TakingLines.{line_refused}
 use Rattle.reader.proofs.EndChecks.{settings_countable, end_refused, end-accepted}
 use Rattle.reader.proofs.read.take_lines.Goals as goal
@@ -39,46 +36,46 @@ pub returns : goal.returns
 returns c = search (rules, end-accepted)
 
 pub shape_of-clauses-then-taken-ne0 : goal.shape_of-clauses-then-taken-ne0
-shape_of-clauses-then-taken-ne0 c = (file_lengths (returns c)).clauses-same
+shape_of-clauses-then-taken-ne0 c = (file_lengths (returns-then-taken-ne0 c)).clauses-same
 
 pub shape_of-constraints-then-taken-ne0 : goal.shape_of-constraints-then-taken-ne0
-shape_of-constraints-then-taken-ne0 c = (file_lengths (returns c)).constraints-same
+shape_of-constraints-then-taken-ne0 c = (file_lengths (returns-then-taken-ne0 c)).constraints-same
 
 pub shape_of-formula-then-taken-ne0 : goal.shape_of-formula-then-taken-ne0
-shape_of-formula-then-taken-ne0 c = (file_lengths (returns c)).formula-same
+shape_of-formula-then-taken-ne0 c = (file_lengths (returns-then-taken-ne0 c)).formula-same
 
 pub shape_of-names-then-taken-ne0 : goal.shape_of-names-then-taken-ne0
-shape_of-names-then-taken-ne0 c = (file_lengths (returns c)).names_same
+shape_of-names-then-taken-ne0 c = (file_lengths (returns-then-taken-ne0 c)).names_same
 
 pub shape_of-prices-then-taken-ne0 : goal.shape_of-prices-then-taken-ne0
-shape_of-prices-then-taken-ne0 c = (file_lengths (returns c)).prices-same
+shape_of-prices-then-taken-ne0 c = (file_lengths (returns-then-taken-ne0 c)).prices-same
 
 pub shape_of-clauses-then-number-ne0 : goal.shape_of-clauses-then-number-ne0
-shape_of-clauses-then-number-ne0 c = (file_lengths (returns-2 c)).clauses-same
+shape_of-clauses-then-number-ne0 c = (file_lengths (returns-then-number-ne0 c)).clauses-same
 
 pub shape_of-constraints-then-number-ne0 : goal.shape_of-constraints-then-number-ne0
-shape_of-constraints-then-number-ne0 c = (file_lengths (returns-2 c)).constraints-same
+shape_of-constraints-then-number-ne0 c = (file_lengths (returns-then-number-ne0 c)).constraints-same
 
 pub shape_of-formula-then-number-ne0 : goal.shape_of-formula-then-number-ne0
-shape_of-formula-then-number-ne0 c = (file_lengths (returns-2 c)).formula-same
+shape_of-formula-then-number-ne0 c = (file_lengths (returns-then-number-ne0 c)).formula-same
 
 pub shape_of-names-then-number-ne0 : goal.shape_of-names-then-number-ne0
-shape_of-names-then-number-ne0 c = (file_lengths (returns-2 c)).names_same
+shape_of-names-then-number-ne0 c = (file_lengths (returns-then-number-ne0 c)).names_same
 
 pub shape_of-prices-then-number-ne0 : goal.shape_of-prices-then-number-ne0
-shape_of-prices-then-number-ne0 c = (file_lengths (returns-2 c)).prices-same
+shape_of-prices-then-number-ne0 c = (file_lengths (returns-then-number-ne0 c)).prices-same
 
 pub shape_of-clauses : goal.shape_of-clauses
-shape_of-clauses c = (file_lengths (returns-3 c)).clauses-same
+shape_of-clauses c = (file_lengths (returns c)).clauses-same
 
 pub shape_of-constraints : goal.shape_of-constraints
-shape_of-constraints c = (file_lengths (returns-3 c)).constraints-same
+shape_of-constraints c = (file_lengths (returns c)).constraints-same
 
 pub shape_of-formula : goal.shape_of-formula
-shape_of-formula c = (file_lengths (returns-3 c)).formula-same
+shape_of-formula c = (file_lengths (returns c)).formula-same
 
 pub shape_of-names : goal.shape_of-names
-shape_of-names c = (file_lengths (returns-3 c)).names_same
+shape_of-names c = (file_lengths (returns c)).names_same
 
 pub shape_of-prices : goal.shape_of-prices
-shape_of-prices c = (file_lengths (returns-3 c)).prices-same
+shape_of-prices c = (file_lengths (returns c)).prices-same
