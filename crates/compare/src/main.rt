@@ -3,10 +3,14 @@
 // or a line cannot be written, it says so on standard error and ends.
 #![tactic(auto)]
 
-ghost use Rattle.std.specs.Prelude.{◌≤◌};
+ghost use Rattle.std.specs.Prelude.{◌≤◌, OnOk};
+ghost use Rattle.std.specs.Io.KnownBytes.{Appends};
+ghost use Rattle.compare.specs.Program.{outcome_line};
 
-use libc::{STDERR_FILENO, STDOUT_FILENO};
 use names::compare::{Compared, compare};
+use std::env::Env;
+use std::io::{self, Write};
+use system::{argument, argument_count, tell};
 
 // How the first e bytes of a word compare with row 1.
 fn compare_row(names: &[u8; 1024], word: &[u8; 32], e: usize) -> Compared
@@ -15,40 +19,53 @@ fn compare_row(names: &[u8; 1024], word: &[u8; 32], e: usize) -> Compared
     compare(names, 1, word, 0, e)
 }
 
-// Writes the line of an outcome, and answers whether that could be done.
-fn write_outcome(c: Compared) -> bool {
+// Writes the line of an outcome.
+fn write_outcome<W: Write>(to: &mut W, c: Compared) -> io::Result<()>
+    ensures { OnOk result (Appends (W.contents to.old) (W.contents to.new) (outcome_line c)) }
+{
     match c {
-        Compared::EndsDiffer => io::write_all(STDOUT_FILENO, b"ends differ\n"),
-        Compared::Another => io::write_all(STDOUT_FILENO, b"another\n"),
-        Compared::Same => io::write_all(STDOUT_FILENO, b"same\n"),
+        Compared::EndsDiffer => to.write_all(b"ends differ\n"),
+        Compared::Another => to.write_all(b"another\n"),
+        Compared::Same => to.write_all(b"same\n"),
     }
 }
 
 // Compares argument i with argument j, an entry in a row between full ones, and answers whether the outcome is written.
-fn compare_pair(i: usize, j: usize) -> bool {
+fn compare_pair<W: Write, E: Write>(
+    arguments: &impl Env,
+    i: usize,
+    j: usize,
+    to: &mut W,
+    errors: &mut E,
+) -> bool {
     let mut word = [0u8; 32];
     let mut entry = [0u8; 16];
-    let e = os::arg(i, &mut word);
-    let n = os::arg(j, &mut entry);
+    let e = argument(arguments, i, &mut word);
+    let n = argument(arguments, j, &mut entry);
     if e == 0 || n == 0 {
-        io::write_all(
-            STDERR_FILENO,
+        let _ = errors.write_all(
             b"compare: takes pairs of a word of 1 to 32 bytes and an entry of 1 to 16\n",
         );
         return false;
     }
     let mut names = [b'a'; 1024];
     table::put_row(&mut names, 16, 16, &entry, 0, n);
-    if !write_outcome(compare_row(&names, &word, e)) {
-        os::fail(b"compare: standard output");
+    if let Err(error) = write_outcome(to, compare_row(&names, &word, e)) {
+        tell(errors, "compare: standard output", error);
         return false;
     }
     true
 }
 
-fn main() {
-    for k in 0..os::arg_count() / 2 {
-        if !compare_pair(2 * k + 1, 2 * k + 2) {
+fn main(rt: HostRuntime) {
+    for k in 0..argument_count(&rt) / 2 {
+        if !compare_pair(
+            &rt,
+            2 * k + 1,
+            2 * k + 2,
+            &mut rt.stdout(),
+            &mut rt.stderr(),
+        ) {
             return;
         }
     }

@@ -1,5 +1,4 @@
 -- `main` meets its contract: the last argument's number fits. Assumes nothing.
-use borrow.Author.Rules.{rules}
 use Prim.Native.Nat.{◌*◌, ◌-◌, ◌<◌, ◌^◌}
 use Rattle.compare.proofs.main.Given as goal
 

@@ -1,0 +1,2 @@
+-- Program: what the program writes.
+pub mod Program
