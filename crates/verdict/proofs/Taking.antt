@@ -1,12 +1,11 @@
 -- A setting taken into what is found: one that doesn't explain, one with a proper subset that explains, and a minimal
 -- one. Assumes nothing.
 use mathlib.Core.Path.{◌≡◌, sym, ap, subst, ◌∙◌}
-use mathlib.Core.Bool.{Bool, true, false, not}
+use mathlib.Core.Bool.{Bool, true, false}
 use mathlib.Core.List.{List}
 use Prim.Native.Nat.{ℕ, ◌+◌, ◌≤◌, ◌<◌, min}
 use native.Mathlib.Omega.{arith}
 use lib.ListN.{length, set, length-set}
-use Rattle.words.proofs.Tests.{failed, passed}
 use Rattle.logic.specs.declared.interpretation.Interpretation.{Interpretation}
 use Rattle.table.proofs.Stores.{rest_from, rest_back}
 use Rattle.explanation.specs.Judge.{Judge}
@@ -55,18 +54,18 @@ module _ {J : Judge} {cs list₀ work₀ : List ℕ} {s : ℕ} {f : Found} {list
     (p : Visited J cs list₀ work₀ s f list work) (within : s < length work)
     {ns fo : List ℕ} {e : Bool} {i : Interpretation} (t : Tells J ns fo s e i)
     {larger : Bool} (l : larger ≡ some_proper J.explains cs s) where
-  pub take-other : not e ≡ true → Visited J cs list₀ work₀ (s + 1) f list (set work s 0)
+  pub take-other : e ≡ false → Visited J cs list₀ work₀ (s + 1) f list (set work s 0)
   take-other h =
-      let q = failed t.explains-is h in
+      let q = sym t.explains-is ∙ h in
       let m = minimal-other J cs s q in
       record {
         counted = counted-passed p.counted m;
         left = left_passed p.left within 0 (byte_by J cs s false false q m) m;
       }
 
-  pub take_larger : not e ≡ false → larger ≡ true → Visited J cs list₀ work₀ (s + 1) f list (set work s 1)
+  pub take_larger : e ≡ true → larger ≡ true → Visited J cs list₀ work₀ (s + 1) f list (set work s 1)
   take_larger h g =
-      let q = passed t.explains-is h in
+      let q = sym t.explains-is ∙ h in
       let m = minimal_by J cs s true q (sym l ∙ g) in
       record {
         counted = counted-passed p.counted m;
@@ -74,13 +73,13 @@ module _ {J : Judge} {cs list₀ work₀ : List ℕ} {s : ℕ} {f : Found} {list
       }
 
   -- the list's free rest was lent to `put`, which took k slots and left ys
-  pub take-minimal : not e ≡ false → larger ≡ false → (n : Counts)
+  pub take-minimal : e ≡ true → larger ≡ false → (n : Counts)
       → n ≡ counts_with f.counts (query_under i ns fo) → (k : ℕ) (ys : List ℕ)
       → k ≡ min 1 (length (rest_from f.written list))
       → ys ≡ set (rest_from f.written list) 0 s
       → Visited J cs list₀ work₀ (s + 1) (found_with f n k) (rest_back f.written list ys) (set work s 2)
   take-minimal h g n en k ys ek ey =
-      let q = passed t.explains-is h in
+      let q = sym t.explains-is ∙ h in
       let m = minimal_by J cs s false q (sym l ∙ g) in
       let few : J.queries ≤ 64 = omega (arith, t.queries-few) in
       record {

@@ -1,14 +1,13 @@
 -- Answers to the goals of this function. Assumes nothing.
 use mathlib.Core.Path.{ap, ◌∙◌}
 use native.Mathlib.Omega.{arith}
-use borrow.Author.Rules.{rules}
 use Rattle.words.specs.OneBit.{BitOf}
 use Rattle.words.proofs.BitWalks.{without_less}
 use Rattle.logic.specs.declared.interpretation.Interpretation.{Interpretation}
 use Rattle.planes.specs.Planes.{column}
 use Rattle.verdict.specs.Counting.{counts_with}
 use Rattle.verdict.specs.Lane.{query_under}
-use Rattle.verdict.proofs.Holding.{Telling, telling_start, telling_next, telling_end}
+use Rattle.verdict.proofs.Holding.{telling_start, telling_next, telling_end}
 use Rattle.verdict.proofs.Asking.{asked, asked-nodes, asked-formula}
 use Rattle.verdict.proofs.query.hold.Goals as goal
 

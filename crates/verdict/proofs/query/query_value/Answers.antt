@@ -3,7 +3,6 @@ use mathlib.Core.Path.{◌≡◌, subst}
 use mathlib.Core.Bool.{true}
 use mathlib.Core.List.{List}
 use Prim.Native.Nat.{ℕ}
-use borrow.Author.Rules.{rules}
 use Rattle.logic.specs.Formula.{value_of}
 use Rattle.logic.specs.Nodes.{one_formula, formula_of}
 use Rattle.logic.specs.Interpretation.{value_at}

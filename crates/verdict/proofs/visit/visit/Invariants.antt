@@ -1,9 +1,7 @@
 -- `visit` meets its contract: the lanes are taken one by one (`Visiting`). The measure is the lanes to come.
 -- Assumes nothing.
 use Prim.Native.Nat.{◌-◌}
-use native.Mathlib.Omega.{arith}
-use borrow.Author.Rules.{rules}
-use Rattle.verdict.proofs.Visiting.{Visiting, visiting_start, visiting_next, visiting_end}
+use Rattle.verdict.proofs.Visiting.{Visiting}
 use Rattle.verdict.proofs.visit.visit.Given as goal
 
 abbrev pub invariant-loop-j : goal.invariant-loop-j

@@ -1,5 +1,4 @@
 -- `none` meets its contract: of no explanation all queries are true under each, and false. Assumes nothing.
-use borrow.Author.Rules.{rules}
 use Rattle.words.proofs.Words.{lowest_word}
 use Rattle.verdict.proofs.counts.Counts.none.Goals as goal
 

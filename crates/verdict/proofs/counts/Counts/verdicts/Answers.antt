@@ -1,8 +1,6 @@
 -- Answers to the goals of this function. Assumes nothing.
-use Prim.Native.Nat.{◌-◌}
 use native.Mathlib.Omega.{arith}
-use borrow.Author.Rules.{rules}
-use Rattle.verdict.proofs.Numbers.{Numbered, numbered-none, numbered_more, numbered-all}
+use Rattle.verdict.proofs.Numbers.{numbered-none, numbered_more, numbered-all}
 use Rattle.verdict.proofs.counts.Counts.verdicts.Goals as goal
 
 pub loop-q-init : goal.loop-q-init

@@ -1,9 +1,7 @@
 -- `verdicts` meets its contract: the number of each verdict is stored behind those of the queries before it
 -- (`Numbered`). The measure is the queries to come. Assumes nothing.
 use Prim.Native.Nat.{◌-◌}
-use native.Mathlib.Omega.{arith}
-use borrow.Author.Rules.{rules}
-use Rattle.verdict.proofs.Numbers.{Numbered, numbered-none, numbered_more, numbered-all}
+use Rattle.verdict.proofs.Numbers.{Numbered}
 use Rattle.verdict.proofs.counts.Counts.verdicts.Given as goal
 
 abbrev pub invariant-loop-q : goal.invariant-loop-q

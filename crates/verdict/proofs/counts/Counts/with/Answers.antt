@@ -1,5 +1,4 @@
 -- `with` meets its contract: by the value told, each word has the query's bit or not. Assumes nothing.
-use borrow.Author.Rules.{rules}
 use Rattle.verdict.proofs.counts.Counts.with.Goals as goal
 
 pub returns-in-True : goal.returns-in-True

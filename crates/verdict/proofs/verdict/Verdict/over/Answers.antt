@@ -1,5 +1,4 @@
 -- `over` meets its contract: each test decides one verdict. Assumes nothing.
-use borrow.Author.Rules.{rules}
 use Rattle.verdict.proofs.Verdicts.{verdict_follows, verdict_denied, verdict_open}
 use Rattle.verdict.proofs.verdict.Verdict.over.Goals as goal
 
