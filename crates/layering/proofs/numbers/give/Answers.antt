@@ -1,7 +1,6 @@
--- Answers to the goals of this function. Assumes nothing.
-use borrow.Author.Rules.{rules}
+-- The goals of `give`: its loop keeps the invariant, and each way out gives what is promised. Assumes nothing.
 use Rattle.words.proofs.BitWalks.{without_less}
-use Rattle.layering.proofs.Peeling.{Giving, giving_start, giving_next, giving_end}
+use Rattle.layering.proofs.Peeling.{giving_start, giving_next, giving_end}
 use Rattle.layering.proofs.numbers.give.Goals as goal
 
 pub loop-left-init : goal.loop-left-init

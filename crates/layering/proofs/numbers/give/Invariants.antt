@@ -1,8 +1,6 @@
 -- `give` meets its contract: what is done and what is left of the word's atoms is always all (`Giving`). The measure is
 -- the word that is left. Assumes nothing.
-use borrow.Author.Rules.{rules}
-use Rattle.words.proofs.BitWalks.{without_less}
-use Rattle.layering.proofs.Peeling.{Giving, giving_start, giving_next, giving_end}
+use Rattle.layering.proofs.Peeling.{Giving}
 use Rattle.layering.proofs.numbers.give.Given as goal
 
 abbrev pub invariant-loop-left : goal.invariant-loop-left

@@ -1,10 +1,8 @@
--- Answers to the goals of this function. Assumes nothing.
-use Prim.Native.Nat.{◌-◌}
+-- The goals of `number`: its loop keeps the invariant, and each way out gives what is promised. Assumes nothing.
 use native.Mathlib.Omega.{arith}
-use borrow.Author.Rules.{rules}
 use mathlib.Core.Path.{sym, ap, ◌∙◌}
 use lib.Bits.{bit_and}
-use Rattle.layering.proofs.Peeling.{Peeled, peeled_start, peeled_next, peeled_end}
+use Rattle.layering.proofs.Peeling.{peeled_start, peeled_next, peeled_end}
 use Rattle.layering.proofs.numbers.number.Goals as goal
 
 pub loop-left-init : goal.loop-left-init
@@ -28,7 +26,7 @@ pub overflow_add-k : goal.overflow_add-k
 overflow_add-k c =
     let l = c.loop-left in
     let p = peeled_next _ _ c.requires.1 _ _ _ _ _ l.invariant (ap (bit_and l.left) c.touched.ensures)
-        c.if-next-left.false c.give.ensures in
+    c.if-next-left.false c.give.ensures in
     let n = c.requires.1 in
     omega (arith, p.few)
 
@@ -36,7 +34,7 @@ pub loop-left-smaller : goal.loop-left-smaller
 loop-left-smaller c =
     let l = c.loop-left in
     let p = peeled_next _ _ c.requires.1 _ _ _ _ _ l.invariant (ap (bit_and l.left) c.touched.ensures)
-        c.if-next-left.false c.give.ensures in
+    c.if-next-left.false c.give.ensures in
     omega (arith, p.few)
 
 pub returns : goal.returns

@@ -1,6 +1,5 @@
 -- `entry` meets its contract: a place within the part is one of the path, and past it the default is 0.
 -- Assumes nothing.
-use borrow.Author.Rules.{rules}
 use native.Mathlib.Omega.{arith}
 use Rattle.table.proofs.Stores.{slice_at, slice_past}
 use Rattle.layering.proofs.ring.entry.Goals as goal

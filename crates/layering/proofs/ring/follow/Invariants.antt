@@ -1,14 +1,7 @@
 -- `follow` meets its contract. The loop's invariant: the path so far is followed (`Followed`). The measure is the room
 -- left in the path. Assumes nothing.
-use mathlib.Core.Path.{◌≡◌}
-use mathlib.Core.Bool.{false}
-use Prim.Native.Nat.{◌-◌, ◌<◌}
-use native.Mathlib.Omega.{arith}
-use borrow.Author.Rules.{rules}
-use Rattle.words.specs.Bits.{has}
-use Rattle.words.proofs.Tests.{failed, passed}
+use Prim.Native.Nat.{◌-◌}
 use Rattle.layering.specs.Path.{Followed}
-use Rattle.layering.proofs.Following.{followed_start, followed_next, followed_room}
 use Rattle.layering.proofs.ring.follow.Given as goal
 
 abbrev pub invariant-loop-path : goal.invariant-loop-path

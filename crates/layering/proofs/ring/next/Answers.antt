@@ -1,8 +1,7 @@
--- Answers to the goals of this function. Assumes nothing.
+-- The goals of `next`: its loop keeps the invariant, and each way out gives what is promised. Assumes nothing.
 use mathlib.Core.Path.{sym, ◌∙◌}
-use borrow.Author.Rules.{rules}
 use Rattle.words.proofs.BitWalks.{without_less}
-use Rattle.layering.proofs.Following.{Seeking, seeking_start, seeking_some, seeking_next, seeking_found}
+use Rattle.layering.proofs.Following.{seeking_start, seeking_some, seeking_next, seeking_found}
 use Rattle.layering.proofs.ring.next.Goals as goal
 
 pub loop-b-init : goal.loop-b-init

@@ -1,9 +1,6 @@
 -- `next` meets its contract: an atom that it looks for is left (`Seeking`). The measure is the word that is left.
 -- Assumes nothing.
-use mathlib.Core.Path.{sym, ◌∙◌}
-use borrow.Author.Rules.{rules}
-use Rattle.words.proofs.BitWalks.{without_less}
-use Rattle.layering.proofs.Following.{Seeking, seeking_start, seeking_some, seeking_next, seeking_found}
+use Rattle.layering.proofs.Following.{Seeking}
 use Rattle.layering.proofs.ring.next.Given as goal
 
 abbrev pub invariant-loop-b : goal.invariant-loop-b

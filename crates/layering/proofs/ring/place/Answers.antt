@@ -1,7 +1,6 @@
--- Answers to the goals of this function. Assumes nothing.
-use Prim.Native.Nat.{◌-◌}
+-- The goals of `place`: its loop keeps the invariant, and each way out gives what is promised. Assumes nothing.
 use borrow.Author.Rules.{rules}
-use Rattle.layering.proofs.Following.{Ahead, ahead_start, ahead_next, ahead_small}
+use Rattle.layering.proofs.Following.{ahead_start, ahead_next, ahead_small}
 use Rattle.layering.proofs.ring.place.Goals as goal
 
 pub loop-j-init : goal.loop-j-init

@@ -1,8 +1,7 @@
 -- `place` meets its contract: the place looked for isn't passed. The measure is the number of places left.
 -- Assumes nothing.
 use Prim.Native.Nat.{◌-◌}
-use borrow.Author.Rules.{rules}
-use Rattle.layering.proofs.Following.{Ahead, ahead_start, ahead_next, ahead_small}
+use Rattle.layering.proofs.Following.{Ahead}
 use Rattle.layering.proofs.ring.place.Given as goal
 
 abbrev pub invariant-loop-j : goal.invariant-loop-j

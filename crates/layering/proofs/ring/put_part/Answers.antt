@@ -1,8 +1,6 @@
--- Answers to the goals of this function. Assumes nothing.
+-- The goals of `put_part`: its loop keeps the invariant, and each way out gives what is promised. Assumes nothing.
 use borrow.Author.Rules.{rules}
-use Prim.Native.Nat.{◌-◌}
-use lib.Seq.{slice}
-use Rattle.table.proofs.Stores.{RowStored, row_stored_none, whole_row-more, whole_row-all}
+use Rattle.table.proofs.Stores.{row_stored_none, whole_row-more, whole_row-all}
 use Rattle.layering.proofs.ring.put_part.Goals as goal
 
 pub loop-i-init : goal.loop-i-init

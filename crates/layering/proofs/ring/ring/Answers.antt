@@ -1,6 +1,5 @@
 -- `ring` meets its contract: the path's end is a ring from the place of the atom that came again. Assumes nothing.
 use native.Mathlib.Omega.{arith}
-use borrow.Author.Rules.{rules}
 use Rattle.layering.proofs.Following.{followed_fits, followed_ring}
 use Rattle.layering.proofs.ring.ring.Goals as goal
 

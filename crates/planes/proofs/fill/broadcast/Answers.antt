@@ -1,4 +1,4 @@
--- Answers to the goals of this function. Assumes nothing.
+-- The goals of `broadcast`: its loop keeps the invariant, and each way out gives what is promised. Assumes nothing.
 use mathlib.Core.Path.{◌∙◌}
 use native.Mathlib.Omega.{arith}
 use Rattle.planes.proofs.Filling.{even_start, even_next}

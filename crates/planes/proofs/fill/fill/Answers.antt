@@ -1,4 +1,4 @@
--- Answers to the goals of this function. Assumes nothing.
+-- The goals of `fill`: its loop keeps the invariant, and each way out gives what is promised. Assumes nothing.
 use native.Mathlib.Omega.{arith}
 use Rattle.planes.proofs.Filling.{filling_start, filling_next, filling_end}
 use Rattle.planes.proofs.fill.fill.Goals as goal

@@ -1,4 +1,4 @@
--- Answers to the goals of this function. Assumes nothing.
+-- The goals of `lane`: its loop keeps the invariant, and each way out gives what is promised. Assumes nothing.
 use native.Mathlib.Omega.{arith}
 use Rattle.words.proofs.Gathering.{gathering_start, gathering_next, gathering_end}
 use Rattle.logic.proofs.Interpretations.{interpretation_eq}

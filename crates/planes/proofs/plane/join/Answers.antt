@@ -1,4 +1,4 @@
--- Answers to the goals of this function. Assumes nothing.
+-- The goals of `join`: its loop keeps the invariant, and each way out gives what is promised. Assumes nothing.
 use Rattle.words.proofs.BitWalks.{without_less}
 use Rattle.planes.proofs.Joining.{joining_start, joining_next, joining_end}
 use Rattle.planes.proofs.plane.join.Goals as goal

@@ -1,4 +1,4 @@
--- Answers to the goals of this function. Assumes nothing.
+-- The goals of `chain::fill`: its loop keeps the invariant, and each way out gives what is promised. Assumes nothing.
 use mathlib.Core.Path.{ap, ◌∙◌}
 use native.Mathlib.Nat.{le_antisymm, not-suc-le-zero}
 use native.Mathlib.Omega.{arith}

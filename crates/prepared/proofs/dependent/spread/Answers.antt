@@ -1,4 +1,4 @@
--- Answers to the goals of this function. Assumes nothing.
+-- The goals of `spread`: its loop keeps the invariant, and each way out gives what is promised. Assumes nothing.
 use Rattle.words.proofs.BitWalks.{without_less}
 use Rattle.prepared.proofs.Filling.{spreading_start, spreading_next, spreading_end}
 use Rattle.prepared.proofs.dependent.spread.Goals as goal

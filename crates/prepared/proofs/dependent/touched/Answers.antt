@@ -1,4 +1,4 @@
--- Answers to the goals of this function. Assumes nothing.
+-- The goals of `touched`: its loop keeps the invariant, and each way out gives what is promised. Assumes nothing.
 use Rattle.words.proofs.BitWalks.{without_less}
 use Rattle.prepared.proofs.Touching.{gathered_start, gathered_next, gathered_end}
 use Rattle.prepared.proofs.dependent.touched.Goals as goal

@@ -1,4 +1,5 @@
--- Answers to the goals of this function. Assumes nothing.
+-- The goals of `program::cause::added`: its loop keeps the invariant, and each way out gives what is promised.
+-- Assumes nothing.
 use mathlib.Core.Path.{refl, ap, ◌∙◌}
 use Prim.Native.Nat.{ℕ, ◌%◌}
 use Rattle.words.proofs.BitWalks.{without_less}

@@ -1,4 +1,5 @@
--- Answers to the goals of this function. Assumes nothing.
+-- The goals of `program::cause::heads`: its loop keeps the invariant, and each way out gives what is promised.
+-- Assumes nothing.
 use mathlib.Core.Path.{ap, ap₂, ◌∙◌}
 use native.Mathlib.Nat.{le_antisymm}
 use lib.Bits.{bit_or}

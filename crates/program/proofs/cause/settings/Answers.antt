@@ -1,4 +1,5 @@
--- Answers to the goals of this function. Assumes nothing.
+-- The goals of `program::cause::settings`: its loop keeps the invariant, and each way out gives what is promised.
+-- Assumes nothing.
 use native.Mathlib.Omega.{arith}
 use Rattle.words.proofs.BitWalks.{without_less}
 use Rattle.program.proofs.Counting.{multiplied_start, multiplied_room, multiplied_next}

@@ -1,4 +1,5 @@
--- Answers to the goals of this function. Assumes nothing.
+-- The goals of `program::sound::formulas_sound`: its loop keeps the invariant, and each way out gives what is promised.
+-- Assumes nothing.
 use borrow.Author.Rules.{rules}
 use Rattle.program.specs.Sound.{sound_formulas}
 use Rattle.program.proofs.Entries.{tested-none, tested-more, tested-failed, tested-all}

@@ -1,6 +1,6 @@
 -- `settle_one` meets its contract: each refusal is the one that is due, and without one the callees' contracts compose.
 -- Assumes nothing.
-use mathlib.Core.Path.{◌≡◌, sym, ap, ◌∙◌}
+use mathlib.Core.Path.{sym, ap, ◌∙◌}
 use Prim.Native.Nat.{◌≤◌, ◌<◌, min}
 use native.Mathlib.Omega.{arith}
 use Rattle.program.specs.declared.cause.Additions.{Additions}

@@ -8,6 +8,5 @@ use Rattle.logic.proofs.interpretation.Interpretation.newly_decided.Goals as goa
 
 pub returns : goal.returns
 returns c =
-    let g : Good c.args.self =
-    record { trues_fit = omega arith; falses_fit = omega arith; disjoint = c.requires } in
+    let g : Good c.args.self = record { trues_fit = omega arith; falses_fit = omega arith; disjoint = c.requires } in
     c.decided.ensures ∙ newly-counted c.args.before c.args.self (omega arith) (omega arith) g

@@ -21,8 +21,7 @@ stays i g a x e =
 pub returns-then-holds : goal.returns-then-holds
 unfolding value_of
 returns-then-holds c =
-    let g : Good c.args.self =
-    record { trues_fit = omega arith; falses_fit = omega arith; disjoint = c.requires.1 } in
+    let g : Good c.args.self = record { trues_fit = omega arith; falses_fit = omega arith; disjoint = c.requires.1 } in
     let e = is_true_lem (value_at c.args.self c.args.atom) (sym c.holds.ensures ∙ c.if-holds.true) in
     stays c.args.self g c.args.atom _ (rw (c.in-Unknown.is, e))
 
@@ -40,7 +39,6 @@ returns-else-holds c =
 
 pub returns-in-False : goal.returns-in-False
 returns-in-False c =
-    let g : Good c.args.self =
-    record { trues_fit = omega arith; falses_fit = omega arith; disjoint = c.requires.1 } in
+    let g : Good c.args.self = record { trues_fit = omega arith; falses_fit = omega arith; disjoint = c.requires.1 } in
     stays c.args.self g c.args.atom _
     (rw c.in-False.is (greater_false_r (value_at c.args.self c.args.atom)))

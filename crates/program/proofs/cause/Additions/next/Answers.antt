@@ -1,4 +1,5 @@
--- Answers to the goals of this function. Assumes nothing.
+-- The goals of `program::cause::Additions::next`: its loop keeps the invariant, and each way out gives what is promised.
+-- Assumes nothing.
 use mathlib.Core.Path.{sym, ◌∙◌}
 use Rattle.words.proofs.BitWalks.{without_less}
 use Rattle.program.proofs.NextSetting.{carried_start, carried_end}
