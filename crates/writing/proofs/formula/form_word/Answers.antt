@@ -42,6 +42,4 @@ returns-in-67 c =
 
 pub returns-in_default : goal.returns-in_default
 returns-in_default c =
-    let m = c.in_default.rest in
-    let e = last-node c.args.node c.requires.0 c.requires.1 m.0.0.0.1 m.0.0.1 m.0.1 m.1 in
-    form-word-written 68 c.args.node c.args.p e c.open_word-in_default.ensures
+    form-word-written 68 c.args.node c.args.p (omega arith) c.open_word-in_default.ensures
