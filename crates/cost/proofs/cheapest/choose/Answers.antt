@@ -1,8 +1,7 @@
 -- Answers to the goals of this function. Assumes nothing.
-use borrow.Author.Rules.{rules}
 use Rattle.words.proofs.BitWalks.{without_less}
 use Rattle.cost.proofs.Least.{chosen-free}
-use Rattle.cost.proofs.Choosing.{Choosing, choosing_start, choosing_next, choosing_end}
+use Rattle.cost.proofs.Choosing.{choosing_start, choosing_next, choosing_end}
 use Rattle.cost.proofs.cheapest.choose.Goals as goal
 
 pub returns-then-best-eq0 : goal.returns-then-best-eq0

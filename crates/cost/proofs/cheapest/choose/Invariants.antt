@@ -1,9 +1,6 @@
 -- `choose` meets its contract: the minimal settings are taken one by one (`Choosing`), unless the cheapest costs
 -- nothing. The measure is the word of the lanes to come. Assumes nothing.
-use borrow.Author.Rules.{rules}
-use Rattle.words.proofs.BitWalks.{without_less}
-use Rattle.cost.proofs.Least.{chosen-free}
-use Rattle.cost.proofs.Choosing.{Choosing, choosing_start, choosing_next, choosing_end}
+use Rattle.cost.proofs.Choosing.{Choosing}
 use Rattle.cost.proofs.cheapest.choose.Given as goal
 
 abbrev pub invariant-loop-left : goal.invariant-loop-left

@@ -1,5 +1,4 @@
 -- `minimals_of` meets its contract, bit by bit (`minimal-lanes`). Assumes nothing.
-use borrow.Author.Rules.{rules}
 use Rattle.cost.proofs.Lanes.{minimal-lanes}
 use Rattle.cost.proofs.cheapest.minimals_of.Goals as goal
 

@@ -1,9 +1,8 @@
--- Answers to the goals of this function. Assumes nothing.
+-- `cost_in` meets its contract: each atom of `priced` in turn is paid where it is added. Assumes nothing.
 use mathlib.Core.Path.{◌≡◌}
 use native.Mathlib.Omega.{arith}
-use borrow.Author.Rules.{rules}
 use Rattle.words.proofs.BitWalks.{without_less}
-use Rattle.cost.proofs.Costs.{price_at, price-is, Paying, paying_start, paying_next, paying_few, paying_end}
+use Rattle.cost.proofs.Costs.{price_at, price-is, paying_start, paying_next, paying_few, paying_end}
 use Rattle.cost.proofs.price.cost_in.Goals as goal
 
 pub loop-left-init : goal.loop-left-init
@@ -11,15 +10,13 @@ loop-left-init c = rw c.requires.1 (paying_start _ _ _ _)
 
 pub overflow_add-cost : goal.overflow_add-cost
 overflow_add-cost c =
-    let the_priced : let a = c.args in c.price_if-cost.result ≡ price_at a.prices.now a.x.now a.y.now a.j c.lowest_bit-a.result =
     let a = c.args in
-    price-is a.prices.now a.x.now a.y.now a.j c.lowest_bit-a.result
-    c.test-added.ensures c.price_if-cost.ensures in
-    omega (
-      arith,
-      paying_few c.loop-left.invariant c.lowest_bit-a.ensures.bit (the_priced)
-          (λ i. omega (arith, c.shared_slice_known-in-loop-left-1.given i)),
-    )
+    let i = c.lowest_bit-a.result in
+    let price : c.price_if-cost.result ≡ price_at a.prices.now a.x.now a.y.now a.j i =
+        price-is a.prices.now a.x.now a.y.now a.j i c.test-added.ensures c.price_if-cost.ensures in
+    let few = paying_few c.loop-left.invariant c.lowest_bit-a.ensures.bit price
+        (λ k. omega (arith, c.type_inv.prices k)) in
+    omega (arith, few)
 
 pub loop-left-smaller : goal.loop-left-smaller
 loop-left-smaller c =
@@ -28,12 +25,12 @@ loop-left-smaller c =
 
 pub loop-left-preserved : goal.loop-left-preserved
 loop-left-preserved c =
-    let the_priced : let a = c.args in c.price_if-cost.result ≡ price_at a.prices.now a.x.now a.y.now a.j c.lowest_bit-a.result =
     let a = c.args in
-    price-is a.prices.now a.x.now a.y.now a.j c.lowest_bit-a.result
-    c.test-added.ensures c.price_if-cost.ensures in
+    let i = c.lowest_bit-a.result in
+    let price : c.price_if-cost.result ≡ price_at a.prices.now a.x.now a.y.now a.j i =
+        price-is a.prices.now a.x.now a.y.now a.j i c.test-added.ensures c.price_if-cost.ensures in
     let b = c.lowest_bit-a.ensures in
-    rw (c.without_lowest-left.ensures _ b) (paying_next c.loop-left.invariant b.bit (the_priced))
+    rw (c.without_lowest-left.ensures _ b) (paying_next c.loop-left.invariant b.bit price)
 
 pub returns : goal.returns
 returns c = paying_end c.loop-left.invariant c.loop-left-test.false c.requires.2

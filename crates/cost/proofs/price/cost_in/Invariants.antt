@@ -1,10 +1,6 @@
 -- `cost_in` meets its contract: what is paid and the prices to come are always all (`Paying`). The measure is the word
 -- of the atoms to come. Assumes nothing.
-use mathlib.Core.Path.{◌≡◌}
-use native.Mathlib.Omega.{arith}
-use borrow.Author.Rules.{rules}
-use Rattle.words.proofs.BitWalks.{without_less}
-use Rattle.cost.proofs.Costs.{price_at, price-is, Paying, paying_start, paying_next, paying_few, paying_end}
+use Rattle.cost.proofs.Costs.{Paying}
 use Rattle.cost.proofs.price.cost_in.Given as goal
 
 abbrev pub invariant-loop-left : goal.invariant-loop-left

@@ -1,11 +1,7 @@
 -- Answers to the goals of this function. Assumes nothing.
 use mathlib.Core.Path.{refl, sym, ◌∙◌}
-use Prim.Native.Nat.{◌-◌}
 use native.Mathlib.Omega.{arith}
-use lib.Dec.{ltb}
-use lib.ListN.{get_or}
-use borrow.Author.Rules.{rules}
-use Rattle.words.proofs.Gathering.{Gathering, gathering_start, gathering_next, gathering_end}
+use Rattle.words.proofs.Gathering.{gathering_start, gathering_next, gathering_end}
 use Rattle.cost.proofs.Costs.{priced_is}
 use Rattle.cost.proofs.price.priced_in.Goals as goal
 

@@ -1,13 +1,9 @@
 -- `priced_in` meets its contract: the atoms with a price are gathered one by one (`Gathering`). The measure is the
 -- atoms to come. Assumes nothing.
-use mathlib.Core.Path.{refl, sym, ◌∙◌}
 use Prim.Native.Nat.{◌-◌}
-use native.Mathlib.Omega.{arith}
 use lib.Dec.{ltb}
 use lib.ListN.{get_or}
-use borrow.Author.Rules.{rules}
-use Rattle.words.proofs.Gathering.{Gathering, gathering_start, gathering_next, gathering_end}
-use Rattle.cost.proofs.Costs.{priced_is}
+use Rattle.words.proofs.Gathering.{Gathering}
 use Rattle.cost.proofs.price.priced_in.Given as goal
 
 abbrev pub invariant-loop-a : goal.invariant-loop-a

@@ -1,8 +1,6 @@
 -- Answers to the goals of this function. Assumes nothing.
-use Prim.Native.Nat.{◌-◌}
 use native.Mathlib.Omega.{arith}
-use borrow.Author.Rules.{rules}
-use Rattle.lanes.proofs.Counting.{Counting, counting_start, counting_small, counting_next, counting_end}
+use Rattle.lanes.proofs.Counting.{counting_start, counting_small, counting_next, counting_end}
 use Rattle.lanes.proofs.decided.decided_in.Goals as goal
 
 pub loop-a-init : goal.loop-a-init

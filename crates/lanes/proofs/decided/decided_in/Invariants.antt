@@ -1,9 +1,7 @@
 -- `decided_in` meets its contract: the atoms passed are counted (`Counting`). The measure is the number of atoms left.
 -- Assumes nothing.
 use Prim.Native.Nat.{◌-◌}
-use native.Mathlib.Omega.{arith}
-use borrow.Author.Rules.{rules}
-use Rattle.lanes.proofs.Counting.{Counting, counting_start, counting_small, counting_next, counting_end}
+use Rattle.lanes.proofs.Counting.{Counting}
 use Rattle.lanes.proofs.decided.decided_in.Given as goal
 
 abbrev pub invariant-loop-a : goal.invariant-loop-a

@@ -1,6 +1,6 @@
--- Answers to the goals of this function. Assumes nothing.
+-- `run` meets its contract: each round keeps `Settling`, and what it says bounds the sums. Assumes nothing.
 use mathlib.Core.Path.{◌≡◌, refl, ◌∙◌}
-use Prim.Native.Nat.{◌-◌, ◌≤◌, ◌<◌}
+use Prim.Native.Nat.{◌≤◌, ◌<◌}
 use native.Mathlib.Omega.{arith}
 use lib.Bits.{bit_and}
 use lib.Count.{ones}
@@ -8,10 +8,8 @@ use borrow.Author.Rules.{rules}
 use Rattle.prepared.specs.Dependents.{touched_from}
 use Rattle.prepared.proofs.Filling.{dependents_words}
 use Rattle.prepared.proofs.Touching.{touched-from}
-use Rattle.planes.specs.Planes.{Sizes}
-use Rattle.lanes.specs.Rounds.{added_in}
 use Rattle.lanes.proofs.FirstRound.{settling_start}
-use Rattle.lanes.proofs.LaneRounds.{Settling, settling_planes, settling_few, settling_small, settling_total}
+use Rattle.lanes.proofs.LaneRounds.{settling_planes, settling_few, settling_small, settling_total}
 use Rattle.lanes.proofs.LaneRounds.{settling_next, settling_end}
 use Rattle.lanes.proofs.rounds.run.Goals as goal
 
@@ -24,15 +22,13 @@ begin-c-requires c = c.requires.6
 pub loop-c-init : goal.loop-c-init
 loop-c-init c =
     let p = c.requires in (
-      settling_start _ _ _ p.0.opening-is _ _ _ _ _ _ _ p.1 p.2 p.3 _
-          c.begin-c.ensures _,
+      settling_start _ _ _ p.0.opening-is _ _ _ _ _ _ _ p.1 p.2 p.3 _ c.begin-c.ensures _,
       record { first-size = refl; second-size = refl },
     )
 
 pub overflow_cast-rounds : goal.overflow_cast-rounds
 overflow_cast-rounds c =
-    let small : c.loop-c.total ≤ 4096 =
-    settling_small _ _ _ _ c.requires.5 _ _ _ _ _ c.loop-c.invariant.0 in
+    let small : c.loop-c.total ≤ 4096 = settling_small _ _ _ _ c.requires.5 _ _ _ _ _ c.loop-c.invariant.0 in
     search rules
 
 pub decided_in-decided-requires : goal.decided_in-decided-requires
@@ -42,52 +38,46 @@ decided_in-decided-requires c =
 
 pub overflow_add-total : goal.overflow_add-total
 overflow_add-total c =
-    let the_changed_counted : c.count-total.result ≡ ones (bit_and c.loop-c.c.lanes c.lowest-valid.result) =
-    c.count-total.ensures in
-    let valid = c.lowest-valid.result in
-    let total = settling_total _ _ _ _ c.requires.5 _ _ _ _ _ c.loop-c.invariant.0 valid (omega arith)
-    (omega arith) in
-    omega (arith, the_changed_counted, total)
+    let counted : c.count-total.result ≡ ones (bit_and c.loop-c.c.lanes c.lowest-valid.result) =
+        c.count-total.ensures in
+    let total = settling_total _ _ _ _ c.requires.5 _ _ _ _ _ c.loop-c.invariant.0 c.lowest-valid.result
+        (omega arith) (omega arith) in
+    omega (arith, counted, total)
 
 pub touched-heads-requires : goal.touched-heads-requires
-touched-heads-requires c =
-    dependents_words _ _ c.args.dependents.now c.requires.0.dependents_are
+touched-heads-requires c = dependents_words _ _ c.args.dependents.now c.requires.0.dependents_are
 
 pub redo-c-requires : goal.redo-c-requires
 redo-c-requires c =
-    let p = c.requires in
-    let planes = settling_planes _ _ _ _ p.5 _ _ _ _ _ c.loop-c.invariant.0 in
-    let q = p.0 in
+    let q = c.requires.0 in
     let i = c.loop-c.invariant in
+    let planes = settling_planes _ _ _ _ c.requires.5 _ _ _ _ _ i.0 in
     (q.clauses-few, q.clauses-held, q.lasts_are, q.linked, planes, i.0.sizes, i.1)
 
 pub overflow_add-k : goal.overflow_add-k
 overflow_add-k c =
-    let the_few_rounds : c.loop-c.k < 64 =
-    settling_few _ _ _ _ c.requires.5 _ _ _ _ _ c.loop-c.invariant.0 (omega arith) c.if-c-eq0.false in
-    omega (arith, the_few_rounds)
+    let few : c.loop-c.k < 64 =
+        settling_few _ _ _ _ c.requires.5 _ _ _ _ _ c.loop-c.invariant.0 (omega arith) (λ e. omega arith) in
+    omega (arith, few)
 
 pub loop-c-smaller : goal.loop-c-smaller
 loop-c-smaller c =
-    let the_few_rounds : c.loop-c.k < 64 =
-    settling_few _ _ _ _ c.requires.5 _ _ _ _ _ c.loop-c.invariant.0 (omega arith) c.if-c-eq0.false in
-    omega (arith, the_few_rounds)
+    let few : c.loop-c.k < 64 =
+        settling_few _ _ _ _ c.requires.5 _ _ _ _ _ c.loop-c.invariant.0 (omega arith) (λ e. omega arith) in
+    omega (arith, few)
 
 pub loop-c-preserved : goal.loop-c-preserved
 loop-c-preserved c =
-    let the_changed_counted : c.count-total.result ≡ ones (bit_and c.loop-c.c.lanes c.lowest-valid.result) =
-    c.count-total.ensures in
-    let the_heads_are : let a = c.args in c.touched-heads.result ≡ touched_from a.clauses.now a.n c.loop-c.c.atoms =
-    c.touched-heads.ensures ∙ touched-from _ _ c.args.dependents.now c.requires.0.dependents_are _ in
+    let counted : c.count-total.result ≡ ones (bit_and c.loop-c.c.lanes c.lowest-valid.result) =
+        c.count-total.ensures in
+    let heads : c.touched-heads.result ≡ touched_from c.args.clauses.now c.args.n c.loop-c.c.atoms =
+        c.touched-heads.ensures ∙ touched-from _ _ c.args.dependents.now c.requires.0.dependents_are _ in
     let valid = c.lowest-valid.ensures in
     let e = c.redo-c.ensures in
     let next = settling_next _ _ _ _ c.requires.5 _ _ _ _ _ c.loop-c.invariant.0 _ _ _ _ _ (omega arith)
-    (omega arith) valid (the_heads_are) e.sizes.0 e.redone in
-    (rw (the_changed_counted) next, e.sizes.1)
+        (omega arith) valid heads e.sizes.0 e.redone in
+    (rw counted next, e.sizes.1)
 
 pub returns : goal.returns
 returns c =
-    let the_none_changed : c.loop-c.c.lanes ≡ 0 =
-    c.if-c-eq0.true in
-    settling_end _ _ _ _ c.requires.5 _ _ _ _ _ c.loop-c.invariant.0 (the_none_changed)
-    c.decided_in-decided.ensures
+    settling_end _ _ _ _ c.requires.5 _ _ _ _ _ c.loop-c.invariant.0 (omega arith) c.decided_in-decided.ensures

@@ -1,19 +1,9 @@
 -- `run` meets its contract: after each round the lanes stand as `Settling` says, and where no lane changes all have
 -- settled, and what is decided is counted. The measure is 64 less the number of rounds. Assumes nothing.
-use mathlib.Core.Path.{◌≡◌, refl, ◌∙◌}
-use Prim.Native.Nat.{◌-◌, ◌≤◌, ◌<◌}
-use native.Mathlib.Omega.{arith}
-use lib.Bits.{bit_and}
-use lib.Count.{ones}
-use borrow.Author.Rules.{rules}
-use Rattle.prepared.specs.Dependents.{touched_from}
-use Rattle.prepared.proofs.Filling.{dependents_words}
-use Rattle.prepared.proofs.Touching.{touched-from}
+use Prim.Native.Nat.{◌-◌}
 use Rattle.planes.specs.Planes.{Sizes}
 use Rattle.lanes.specs.Rounds.{added_in}
-use Rattle.lanes.proofs.FirstRound.{settling_start}
-use Rattle.lanes.proofs.LaneRounds.{Settling, settling_planes, settling_few, settling_small, settling_total}
-use Rattle.lanes.proofs.LaneRounds.{settling_next, settling_end}
+use Rattle.lanes.proofs.LaneRounds.{Settling}
 use Rattle.lanes.proofs.rounds.run.Given as goal
 
 abbrev pub invariant-loop-c : goal.invariant-loop-c

@@ -1,8 +1,6 @@
 -- Answers to the goals of this function. Assumes nothing.
-use Prim.Native.Nat.{◌-◌}
 use native.Mathlib.Omega.{arith}
-use borrow.Author.Rules.{rules}
-use Rattle.round.proofs.Beginning.{Beginning, beginning_start, beginning_next, beginning_end}
+use Rattle.round.proofs.Beginning.{beginning_start, beginning_next, beginning_end}
 use Rattle.round.proofs.begin.begin.Goals as goal
 
 pub loop-i-init : goal.loop-i-init

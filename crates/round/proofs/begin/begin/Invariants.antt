@@ -1,9 +1,7 @@
 -- `begin` meets its contract: the atoms passed have gone the first round (`Beginning`). The measure is the number of
 -- atoms left. Assumes nothing.
 use Prim.Native.Nat.{◌-◌}
-use native.Mathlib.Omega.{arith}
-use borrow.Author.Rules.{rules}
-use Rattle.round.proofs.Beginning.{Beginning, beginning_start, beginning_next, beginning_end}
+use Rattle.round.proofs.Beginning.{Beginning}
 use Rattle.round.proofs.begin.begin.Given as goal
 
 abbrev pub invariant-loop-i : goal.invariant-loop-i

@@ -1,7 +1,6 @@
 -- Answers to the goals of this function. Assumes nothing.
-use borrow.Author.Rules.{rules}
 use Rattle.words.proofs.BitWalks.{without_less}
-use Rattle.round.proofs.Committing.{Committing, committing_start, committing_next, committing_end}
+use Rattle.round.proofs.Committing.{committing_start, committing_next, committing_end}
 use Rattle.round.proofs.redo.commit.Goals as goal
 
 pub loop-left-init : goal.loop-left-init

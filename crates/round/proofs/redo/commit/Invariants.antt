@@ -1,8 +1,6 @@
 -- `commit` meets its contract: for either plane, the atoms left bring it to what the whole word makes of it
 -- (`Committing`). The measure is the word that is left. Assumes nothing.
-use borrow.Author.Rules.{rules}
-use Rattle.words.proofs.BitWalks.{without_less}
-use Rattle.round.proofs.Committing.{Committing, committing_start, committing_next, committing_end}
+use Rattle.round.proofs.Committing.{Committing}
 use Rattle.round.proofs.redo.commit.Given as goal
 
 abbrev pub invariant-loop-left : goal.invariant-loop-left

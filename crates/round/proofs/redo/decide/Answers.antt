@@ -1,7 +1,6 @@
 -- Answers to the goals of this function. Assumes nothing.
-use borrow.Author.Rules.{rules}
 use Rattle.words.proofs.BitWalks.{without_less}
-use Rattle.round.proofs.Deciding.{Deciding, deciding_start, deciding_next, deciding_end}
+use Rattle.round.proofs.Deciding.{deciding_start, deciding_next, deciding_end}
 use Rattle.round.proofs.redo.decide.Goals as goal
 
 pub loop-left-init : goal.loop-left-init

@@ -1,8 +1,6 @@
 -- `decide` meets its contract: what is noted and what the heads left would note is always all (`Deciding`). The measure
 -- is the word of the heads left. Assumes nothing.
-use borrow.Author.Rules.{rules}
-use Rattle.words.proofs.BitWalks.{without_less}
-use Rattle.round.proofs.Deciding.{Deciding, deciding_start, deciding_next, deciding_end}
+use Rattle.round.proofs.Deciding.{Deciding}
 use Rattle.round.proofs.redo.decide.Given as goal
 
 abbrev pub invariant-loop-left : goal.invariant-loop-left

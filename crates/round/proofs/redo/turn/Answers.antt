@@ -1,6 +1,5 @@
 -- `turn` meets its contract: a head that is decided in each lane is left, another is noted by what its rules are worth.
 -- Assumes nothing.
-use borrow.Author.Rules.{rules}
 use Rattle.round.proofs.Noting.{taken_none, taken-some}
 use Rattle.round.proofs.redo.turn.Goals as goal
 

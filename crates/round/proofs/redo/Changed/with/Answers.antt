@@ -1,7 +1,6 @@
 -- `with` meets its contract: where no lane is given nothing is noted, otherwise the lanes and the atom.
 -- Assumes nothing.
 use native.Mathlib.Omega.{arith}
-use borrow.Author.Rules.{rules}
 use Rattle.round.proofs.Noting.{noted-none, noted-some}
 use Rattle.round.proofs.redo.Changed.with.Goals as goal
 
