@@ -7,7 +7,8 @@ use lib.ListN.{length, get_or}
 use Rattle.logic.specs.Formula.{Formula}
 use Rattle.logic.proofs.Spelled.{one-formula-complete}
 use Rattle.program.specs.Case.{clause_size, constraint_size, formula_size, tables_full}
-use Rattle.program.specs.Sound.{limits_hold, sound_clause, sound_clauses, sound_constraint, sound_constraints, few_settings}
+use Rattle.program.specs.Sound.{limits_hold, sound_clause, sound_clauses, sound_constraint, sound_constraints}
+use Rattle.program.specs.Sound.{few_settings}
 use Rattle.program.specs.Sound.{sound_formulas, sound}
 use Rattle.program.proofs.Soundness.{sound-rest}
 use Rattle.program.proofs.MakingSound.{tables-full, limits-hold, within-below, clause-passes, clauses-pass}

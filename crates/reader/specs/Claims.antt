@@ -9,7 +9,8 @@
 --   ElevenRead                                  how many literals a body of an accepted file has
 --   NodesFit                                    why there is no refusal for too many nodes
 --   SupplementNearest                           how a supplement is rounded
-use Rattle.std.specs.Prelude.{◌≡◌, Bool, true, false, ◌&&◌, List, [], ◌∷◌, ℕ, suc, ◌+◌, ◌*◌, ◌≤◌, ◌<◌, eqb, length, get_or, take}
+use Rattle.std.specs.Prelude.{◌≡◌, Bool, true, false, ◌&&◌, List, [], ◌∷◌, ℕ, suc, ◌+◌, ◌*◌}
+use Rattle.std.specs.Prelude.{◌≤◌, ◌<◌, eqb, length, get_or, take}
 use Rattle.logic.specs.Nodes.{nodes}
 use Rattle.program.specs.Case.{clause_size, constraint_size, formula_size}
 use Rattle.program.specs.Sound.{sound}

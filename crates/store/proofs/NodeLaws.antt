@@ -67,7 +67,8 @@ module _ (at : List ℕ → ℕ) where
 
   joined-tokens : (k : ℕ) (f g : Sentence) (ts : List Token)
       → tokens_of (Sentence.joined k f g) ++ ts
-      ≡ Token.opening ∷ (Token.word (get_or form_words (k - 64) []) ∷ (tokens_of f ++ (tokens_of g ++ (Token.closing ∷ ts))))
+      ≡ Token.opening
+      ∷ (Token.word (get_or form_words (k - 64) []) ∷ (tokens_of f ++ (tokens_of g ++ (Token.closing ∷ ts))))
   unfolding tokens_of
   joined-tokens k f g ts = rw (append_assoc (tokens_of f ++ tokens_of g), append_assoc (tokens_of f))
 

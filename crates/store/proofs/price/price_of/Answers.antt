@@ -8,27 +8,23 @@ use Rattle.store.proofs.price.price_of.Goals as goal
 
 pub overflow_mul-result : goal.overflow_mul-result
 overflow_mul-result c =
-    let the_few : c.args.price * c.args.supplement ≤ 200000000 =
-    per_cent_few _ _ c.requires.0 c.requires.1 in
-    let k = the_few in search rules
+    let few : c.args.price * c.args.supplement ≤ 200000000 = per_cent_few _ _ c.requires.0 c.requires.1 in
+    search rules
 
 pub overflow_add-result : goal.overflow_add-result
 overflow_add-result c =
-    let the_few : c.args.price * c.args.supplement ≤ 200000000 =
-    per_cent_few _ _ c.requires.0 c.requires.1 in
-    let k = the_few in search rules
+    let few : c.args.price * c.args.supplement ≤ 200000000 = per_cent_few _ _ c.requires.0 c.requires.1 in
+    search rules
 
 pub overflow_add-result-2 : goal.overflow_add-result-2
 overflow_add-result-2 c =
-    let the_few : c.args.price * c.args.supplement ≤ 200000000 =
-    per_cent_few _ _ c.requires.0 c.requires.1 in
-    let k = the_few in search rules
+    let few : c.args.price * c.args.supplement ≤ 200000000 = per_cent_few _ _ c.requires.0 c.requires.1 in
+    search rules
 
 pub overflow_cast-result : goal.overflow_cast-result
 overflow_cast-result c =
-    let the_few : c.args.price * c.args.supplement ≤ 200000000 =
-    per_cent_few _ _ c.requires.0 c.requires.1 in
-    let k = the_few in search rules
+    let few : c.args.price * c.args.supplement ≤ 200000000 = per_cent_few _ _ c.requires.0 c.requires.1 in
+    search rules
 
 pub returns : goal.returns
 unfolding supplement
