@@ -49,7 +49,7 @@ pub overflow_add-rounds : goal.overflow_add-rounds
 overflow_add-rounds c =
     omega (
       arith,
-      rounds_fit c.requires.0 c.loop-s.invariant c.loop-s-test.taken c.lanes_of-m.ensures
+      rounds_fit c.requires.0 c.loop-s.invariant c.loop-s-test.true c.lanes_of-m.ensures
           (c.fill-next.ensures _ c.loop-s.invariant.added_is).0 c.run-block.ensures,
     )
 
@@ -57,7 +57,7 @@ pub overflow_add-decided : goal.overflow_add-decided
 overflow_add-decided c =
     omega (
       arith,
-      decided_fit c.requires.0 c.loop-s.invariant c.loop-s-test.taken c.lanes_of-m.ensures
+      decided_fit c.requires.0 c.loop-s.invariant c.loop-s-test.true c.lanes_of-m.ensures
           (c.fill-next.ensures _ c.loop-s.invariant.added_is).0 c.run-block.ensures,
     )
 
@@ -65,7 +65,7 @@ pub explaining-e-requires : goal.explaining-e-requires
 explaining-e-requires c =
     let p = c.requires.0 in
     let n = constraints_fit _ _ _ _ p.is-sound in (
-      lanes_planes p c.loop-s.invariant c.loop-s-test.taken c.lanes_of-m.ensures
+      lanes_planes p c.loop-s.invariant c.loop-s-test.true c.lanes_of-m.ensures
           (c.fill-next.ensures _ c.loop-s.invariant.added_is).0 c.run-block.ensures,
       n.0,
       n.1,
@@ -75,7 +75,7 @@ pub cover-larger-requires : goal.cover-larger-requires
 cover-larger-requires c =
     let p = c.requires in
     let i = c.loop-s.invariant in
-    let n = word-inside p.0 i c.loop-s-test.taken in
+    let n = word-inside p.0 i c.loop-s-test.true in
     (i.size_is, n.0, n.1, weights_few p.0 c.args.weights.now p.1.weights_are)
 
 pub visit-found-requires : goal.visit-found-requires
@@ -84,31 +84,31 @@ visit-found-requires c =
     let i = c.loop-s.invariant in
     let m = c.lanes_of-m.ensures in (
       omega (arith, m),
-      omega (arith, m, end-few p, c.loop-s-test.taken),
-      omega (arith, m, walking_work p i, p.work_long, c.loop-s-test.taken),
-      walking_room p i c.loop-s-test.taken,
+      omega (arith, m, end-few p, c.loop-s-test.true),
+      omega (arith, m, walking_work p i, p.work_long, c.loop-s-test.true),
+      walking_room p i c.loop-s-test.true,
     )
 
 pub minimals_of-minimals-requires : goal.minimals_of-minimals-requires
 minimals_of-minimals-requires c =
     let m = c.lanes_of-m.ensures in
-    (omega (arith, m, c.loop-s-test.taken), omega (arith, m))
+    (omega (arith, m, c.loop-s-test.true), omega (arith, m))
 
 pub choose-cheapest-requires : goal.choose-cheapest-requires
 choose-cheapest-requires c =
     let p = c.requires in (
       p.3,
       c.priced_in-priced.ensures,
-      omega (arith, c.minimals_of-minimals.ensures.first-is, c.loop-s-test.taken, end-few p.0),
+      omega (arith, c.minimals_of-minimals.ensures.first-is, c.loop-s-test.true, end-few p.0),
     )
 
 pub overflow_add-b : goal.overflow_add-b
 overflow_add-b c =
-    omega (arith, (word-inside c.requires.0 c.loop-s.invariant c.loop-s-test.taken).1)
+    omega (arith, (word-inside c.requires.0 c.loop-s.invariant c.loop-s-test.true).1)
 
 pub overflow_add-s : goal.overflow_add-s
 overflow_add-s c =
-    omega (arith, c.loop-s-test.taken, end-few c.requires.0)
+    omega (arith, c.loop-s-test.true, end-few c.requires.0)
 
 pub loop-s-smaller : goal.loop-s-smaller
 loop-s-smaller c = omega (arith, c.loop-s-test.true)
@@ -118,7 +118,7 @@ loop-s-preserved c =
     let p = c.requires in
     let i = c.loop-s.invariant in
     let x = c.fill-next.ensures _ i.added_is in
-    walking_next p.0 i c.loop-s-test.taken c.lanes_of-m.ensures x.0 c.run-block.ensures p.1.weights_are
+    walking_next p.0 i c.loop-s-test.true c.lanes_of-m.ensures x.0 c.run-block.ensures p.1.weights_are
     c.explaining-e.ensures c.cover-larger.ensures x.1 c.visit-found.ensures c.minimals_of-minimals.ensures
     c.choose-cheapest.ensures
 
