@@ -48,7 +48,7 @@ slice_bounds-show_answer-end c =
     let the_answered : Answered c.args.file.now c.read-found.result filled c.causes_in-causes.result c.ask-a.result c.ask-a.new.list =
     let s = c.requires in
     accepted-answered (the_accepted) s.list_full s.work_full c.ask-a.ensures c.causes_in-causes.ensures in
-    (the_answered).list-fits
+    (the_answered).list_fits
 
 pub slice_bounds-show_answer-end-2 : goal.slice_bounds-show_answer-end-2
 slice_bounds-show_answer-end-2 c =
@@ -58,7 +58,7 @@ slice_bounds-show_answer-end-2 c =
     let the_answered : Answered c.args.file.now c.read-found.result filled c.causes_in-causes.result c.ask-a.result c.ask-a.new.list =
     let s = c.requires in
     accepted-answered (the_accepted) s.list_full s.work_full c.ask-a.ensures c.causes_in-causes.ensures in
-    sym (length-take-le _ _ (the_answered).list-fits)
+    sym (length-take-le _ _ (the_answered).list_fits)
 
 pub show_answer-requires : goal.show_answer-requires
 show_answer-requires c =

@@ -6,9 +6,6 @@ use lib.Seq.{length-take-le}
 use Rattle.report.proofs.Showing.{report_short, report_written}
 use Rattle.report.proofs.operation.show_answer.Goals as goal
 
-pub slice_bounds-shown-end : goal.slice_bounds-shown-end
-slice_bounds-shown-end c = sym (length-take-le _ _ (array-share-prefix-verdicts c))
-
 pub returns-then-out-length : goal.returns-then-out-length
 returns-then-out-length c = search report_short
 
