@@ -1,13 +1,13 @@
 -- The refusals of generating one after the other, and the text where there is none. Assumes nothing.
 use mathlib.Core.Path.{◌≡◌, refl, sym, ◌∙◌}
-use mathlib.Core.Bool.{Bool, true, false, not}
+use mathlib.Core.Bool.{Bool, true, false}
 use mathlib.Core.List.{List, [], ◌∷◌, map}
 use Prim.Native.Nat.{ℕ, suc, ◌≤◌, ◌<◌}
 use native.Mathlib.Nat.{zero-add}
 use native.Mathlib.Omega.{arith}
 use lib.Dec.{leb}
 use lib.ListN.{length}
-use borrow.Author.Tests.{leb-true, le-leb, lt-leb, not-true, not-false}
+use borrow.Author.Tests.{leb-true, le-leb, lt-leb}
 use Rattle.words.specs.Choice.{check}
 use Rattle.words.proofs.Checks.{none-failed}
 use Rattle.output.specs.Writing.{Room}
@@ -37,9 +37,9 @@ module _ (n c : ℕ) where
   by_clauses h k = rw (le-leb 1 n h, le-leb n 64 k)
 
   -- behind that test there are an atom and room for the text
-  pub load_ready : (s : ℕ) {b : Bool} → b ≡ is_load n c → not b ≡ false → (0 < n) × Room (load_text s n c) 0
+  pub load_ready : (s : ℕ) {b : Bool} → b ≡ is_load n c → b ≡ true → (0 < n) × Room (load_text s n c) 0
   load_ready s {b} e h =
-      let l : is_load n c ≡ true = sym e ∙ not-false b h in
+      let l : is_load n c ≡ true = sym e ∙ h in
       ((load_limits n c l).some, record { fits = omega (arith, load_fits s n c l) })
 
 -- ---- the refusals
@@ -48,15 +48,15 @@ module _ (s n c : ℕ) (out : List ℕ) where
   refused-with k e = rw e (shown-refused k (load_text s n c) out)
 
   module _ {b : Bool} (e : b ≡ is_load n c) where
-    pub out_of_range : not b ≡ true → Generated s n c out (refused_with 22) out
+    pub out_of_range : b ≡ false → Generated s n c out (refused_with 22) out
     unfolding load_refusal
     out_of_range h = refused-with 21 first
       where
         first : load_refusal s n c (length out) ≡ 22
-        first = rw (← e, not-true b h)
+        first = rw (← e, h)
 
     -- the first pass, to a spare output
-    module _ (h : not b ≡ false) {spare spare₁ : List ℕ} {g : Page}
+    module _ (h : b ≡ true) {spare spare₁ : List ℕ} {g : Page}
         (w : Sets (map line_text (load_lines s n c)) spare first_page g spare₁) where
       size : g.at ≡ length (load_text s n c)
       size = w.place_is ∙ zero-add _
@@ -66,7 +66,7 @@ module _ (s n c : ℕ) (out : List ℕ) where
       output_short k = refused-with 22 second
         where
           second : load_refusal s n c (length out) ≡ 23
-          second = rw (← e, not-false b h, ← size, lt-leb g.at (length out) k)
+          second = rw (← e, h, ← size, lt-leb g.at (length out) k)
 
       pub load_written : g.at ≤ length out → {r : Page} {u : List ℕ}
           → Sets (map line_text (load_lines s n c)) out first_page r u → Generated s n c out (of_length g.at) u
@@ -74,7 +74,7 @@ module _ (s n c : ℕ) (out : List ℕ) where
       load_written k v = rw none (shown-written size k (sets-writes v))
         where
           none : load_refusal s n c (length out) ≡ 0
-          none = rw (← e, not-false b h, ← size, le-leb g.at (length out) k)
+          none = rw (← e, h, ← size, le-leb g.at (length out) k)
 
 -- where nothing is refused the text fits the output
 pub unrefused-fits : (s n c m : ℕ) → load_refusal s n c m ≡ 0 → length (load_text s n c) ≤ m

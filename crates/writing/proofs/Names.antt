@@ -4,7 +4,7 @@
 --   NameFrom t a i     the name in row a of t is the row's first i bytes, and those before the first zero behind them
 -- Assumes nothing.
 use mathlib.Core.Path.{◌≡◌, refl, sym, ap, ◌∙◌}
-use mathlib.Core.Bool.{Bool, true, false, not, false≢true}
+use mathlib.Core.Bool.{Bool, true, false, false≢true}
 use mathlib.Core.List.{List, [], ◌∷◌, ◌++◌, append-nil}
 use mathlib.Core.Logic.{⊎_elim}
 use Prim.Native.Nat.{ℕ, zero, suc, ◌+◌, ◌*◌, ◌-◌, ◌≤◌, ◌<◌}
@@ -16,7 +16,7 @@ use lib.Seq.{slice, slice-cons, slice_empty, length-slice, take_all, take-length
 use borrow.Author.Tests.{leb-true, le-leb, ltb-true, lt-ltb}
 use Rattle.words.specs.Below.{any, first_from}
 use Rattle.words.proofs.Below.{any_found, any_true}
-use Rattle.words.proofs.Tests.{by_test, gives_same, gives_false, failed, passed}
+use Rattle.words.proofs.Tests.{by_test, gives_same, gives_false}
 use Rattle.program.specs.Case.{name_size}
 use Rattle.text.specs.Bytes.{is_word_byte, all_of, same_bytes}
 use Rattle.text.specs.Words.{begins_with_letter}
@@ -86,18 +86,18 @@ module _ (w : List ℕ) where
     lettered : r ≡ begins_with_letter w
     lettered = e ∙ ap begins_with_letter (take-length w)
 
-    pub name-unlettered : not r ≡ true → false ≡ is_name w
-    name-unlettered h = gives_false _ _ (name-lettered w) (failed lettered h)
+    pub name-unlettered : r ≡ false → false ≡ is_name w
+    name-unlettered h = gives_false _ _ (name-lettered w) (sym lettered ∙ h)
 
-    pub name_decides : {s : Bool} → not r ≡ false → s ≡ all_of is_word_byte w → not s ≡ false
+    pub name_decides : {s : Bool} → r ≡ true → s ≡ all_of is_word_byte w → s ≡ true
         → leb (length w) 16 ≡ is_name w
     name_decides h f k =
         gives_same (leb (length w) 16) (is_name w)
-        (λ l. name_of w (passed lettered h) (passed f k) (leb-true (length w) 16 l))
+        (λ l. name_of w (sym lettered ∙ h) (sym f ∙ k) (leb-true (length w) 16 l))
         (λ n. le-leb (length w) 16 (name-short w n))
 
-  pub name_strange : {s : Bool} → s ≡ all_of is_word_byte w → not s ≡ true → false ≡ is_name w
-  name_strange f k = gives_false _ _ (name-bytes w) (failed f k)
+  pub name_strange : {s : Bool} → s ≡ all_of is_word_byte w → s ≡ false → false ≡ is_name w
+  name_strange f k = gives_false _ _ (name-bytes w) (sym f ∙ k)
 
 -- ---- whether a row is a name and zeros, where its name ends at e and r tells whether that is a name
 module _ (t : List ℕ) (a : ℕ) {e : ℕ} (k : EndsName t a e) where
@@ -110,14 +110,14 @@ module _ (t : List ℕ) (a : ℕ) {e : ℕ} (k : EndsName t a e) where
     named : r ≡ is_name (name_in t a)
     named = f ∙ ap is_name part-is
 
-    pub row_unnamed : not r ≡ true → false ≡ is_name_row t a
+    pub row_unnamed : r ≡ false → false ≡ is_name_row t a
     unfolding is_name_row
-    row_unnamed h = rw (failed named h)
+    row_unnamed h = rw (sym named ∙ h)
 
-    pub row_decides : {s : Bool} → not r ≡ false → s ≡ same_bytes (row_at t a) (padded 16 (slice (16 * a) e t))
+    pub row_decides : {s : Bool} → r ≡ true → s ≡ same_bytes (row_at t a) (padded 16 (slice (16 * a) e t))
         → s ≡ is_name_row t a
     unfolding is_name_row
-    row_decides h g = g ∙ rw (passed named h, k.2)
+    row_decides h g = g ∙ rw (sym named ∙ h, k.2)
 
 -- ---- whether a row is there before
 -- the first number that passes, if there is one

@@ -1,12 +1,11 @@
 -- The refusals of writing one after the other, and the text where there is none. Assumes nothing.
 use mathlib.Core.Path.{◌≡◌, sym, ◌∙◌}
-use mathlib.Core.Bool.{Bool, true, false, not}
+use mathlib.Core.Bool.{Bool, true, false}
 use mathlib.Core.List.{List}
 use Prim.Native.Nat.{ℕ, suc, ◌≤◌, ◌<◌}
 use native.Mathlib.Nat.{zero-add}
-use lib.Dec.{leb}
 use lib.ListN.{length}
-use borrow.Author.Tests.{le-leb, lt-leb, not-true, not-false}
+use borrow.Author.Tests.{le-leb, lt-leb}
 use Rattle.program.specs.declared.case.Case.{Case}
 use Rattle.store.specs.Lent.{Lent}
 use Rattle.reader.specs.Operation.{tables_fit}
@@ -17,29 +16,31 @@ use Rattle.spelling.proofs.Pages.{sets-writes}
 use Rattle.writing.specs.Operation.{writable, case_lines, case_text, write_refusal, WrittenAs}
 use Rattle.writing.specs.Steps.{Fit, first_page}
 
+-- where both tests hold
+pub fits : {c : Case} {t : Lent} {b w : Bool} → b ≡ tables_fit t → b ≡ true → w ≡ writable c t → w ≡ true
+    → Fit c t
+fits e h f k = record { tables-fit = sym e ∙ h; is-writable = sym f ∙ k }
+
 module _ (c : Case) (t : Lent) (out : List ℕ) where
   refused-with : (n : ℕ) → write_refusal c t (length out) ≡ suc n → WrittenAs c t out (refused_with (suc n)) out
   refused-with n e = rw e (shown-refused n (case_text c t) out)
 
   -- the tests of the tables and of the case
   module _ {b : Bool} (e : b ≡ tables_fit t) where
-    pub tables-short : not b ≡ true → WrittenAs c t out (refused_with 1) out
+    pub tables-short : b ≡ false → WrittenAs c t out (refused_with 1) out
     unfolding write_refusal
     tables-short h = refused-with 0 first
       where
         first : write_refusal c t (length out) ≡ 1
-        first = rw (← e, not-true b h)
+        first = rw (← e, h)
 
-    module _ (h : not b ≡ false) {w : Bool} (f : w ≡ writable c t) where
-      pub not-writable : not w ≡ true → WrittenAs c t out (refused_with 13) out
+    module _ (h : b ≡ true) {w : Bool} (f : w ≡ writable c t) where
+      pub not-writable : w ≡ false → WrittenAs c t out (refused_with 13) out
       unfolding write_refusal
       not-writable k = refused-with 12 second
         where
           second : write_refusal c t (length out) ≡ 13
-          second = rw (← e, not-false b h, ← f, not-true w k)
-
-      pub fit_holds : not w ≡ false → Fit c t
-      fit_holds k = record { tables-fit = sym e ∙ not-false b h; is-writable = sym f ∙ not-false w k }
+          second = rw (← e, h, ← f, k)
 
   -- the first pass, to a spare output
   module _ (f : Fit c t) {spare spare₁ : List ℕ} {g : Page} (s : Sets (case_lines c t) spare first_page g spare₁) where

@@ -1,4 +1,4 @@
--- Answers to the goals of this function. Assumes nothing.
+-- The goals of `names::find`: its loop keeps the invariant, and each way out gives what is promised. Assumes nothing.
 use borrow.Author.Rules.{rules}
 use Rattle.names.proofs.Search.{searched_none, searched_all, compared_here, compared_more}
 use Rattle.names.proofs.find.Goals as goal

@@ -1,4 +1,5 @@
--- Answers to the goals of this function. Assumes nothing.
+-- The goals of `names::intern_line`: its loop keeps the invariant, and each way out gives what is promised.
+-- Assumes nothing.
 use borrow.Author.Rules.{rules}
 use Rattle.text.proofs.Names.{name-onward, name-within, name-less}
 use Rattle.names.proofs.LineNames.{adding_all, adding_none, adding_more, adding_full}

@@ -1,4 +1,5 @@
--- Answers to the goals of this function. Assumes nothing.
+-- The goals of `names::row_is`: its loop keeps the invariant, and each way out gives what is promised.
+-- Assumes nothing.
 use borrow.Author.Rules.{rules}
 use Rattle.names.proofs.Search.{row-from-none, row-from-more, row-from-stops, row-from-ends}
 use Rattle.names.proofs.row_is.Goals as goal

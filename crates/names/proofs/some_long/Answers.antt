@@ -1,4 +1,5 @@
--- Answers to the goals of this function. Assumes nothing.
+-- The goals of `names::some_long`: its loop keeps the invariant, and each way out gives what is promised.
+-- Assumes nothing.
 use borrow.Author.Rules.{rules}
 use Rattle.text.proofs.Names.{name-onward, name-less}
 use Rattle.names.proofs.LineNames.{long-from-none, long-short, long-none, long-here}

@@ -1,4 +1,4 @@
--- The measure of the recursion.
+-- The measure of `put_decimal`: the number.
 use Rattle.output.proofs.+put_decimal.Given as goal
 
 abbrev pub decreases-put_decimal : goal.decreases-put_decimal

@@ -1,4 +1,5 @@
--- Answers to the goals of this function. Assumes nothing.
+-- The goals of `output::put_name`: its loop keeps the invariant, and each way out gives what is promised.
+-- Assumes nothing.
 use Rattle.output.proofs.Laying.{writes-length}
 use Rattle.output.proofs.Names.{naming_none, naming_room, naming_more, naming_stops, naming_ends}
 use Rattle.output.proofs.put_name.Goals as goal

@@ -1,4 +1,5 @@
--- Answers to the goals of this function. Assumes nothing.
+-- The goals of `wording::cause_lines`: its loop keeps the invariant, and each way out gives what is promised.
+-- Assumes nothing.
 use borrow.Author.Rules.{rules}
 use native.Mathlib.Omega.{arith}
 use Rattle.output.proofs.Laying.{writes-length}

@@ -1,4 +1,5 @@
--- Answers to the goals of this function. Assumes nothing.
+-- The goals of `wording::put_abducibles`: its loop keeps the invariant, and each way out gives what is promised.
+-- Assumes nothing.
 use native.Mathlib.Omega.{arith}
 use Prim.Native.Nat.{◌≤◌}
 use Rattle.words.proofs.BitWalks.{without_less}

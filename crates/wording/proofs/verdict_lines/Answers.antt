@@ -1,4 +1,5 @@
--- Answers to the goals of this function. Assumes nothing.
+-- The goals of `wording::verdict_lines`: its loop keeps the invariant, and each way out gives what is promised.
+-- Assumes nothing.
 use Rattle.output.proofs.Laying.{writes-length}
 use Rattle.wording.specs.Text.{verdict_line}
 use Rattle.wording.proofs.Listings.{line-start, line-room, line-more, line-end}

@@ -1,5 +1,4 @@
 -- `clause::draw_count` meets its contract, by the kind of the clause. Assumes nothing.
-use borrow.Author.Rules.{rules}
 use native.Mathlib.Omega.{arith}
 use Rattle.loading.proofs.Clauses.{count-few, draws_two, draws_more}
 use Rattle.loading.proofs.clause.draw_count.Goals as goal

@@ -1,7 +1,7 @@
--- Answers to the goals of this function. Assumes nothing.
-use borrow.Author.Rules.{rules}
+-- The goals of `clause::drawn_literals`: its loop keeps the invariant, and each way out gives what is promised.
+-- Assumes nothing.
 use Rattle.spelling.proofs.Pens.{spells-length}
-use Rattle.loading.proofs.LiteralTexts.{LiteralsLeft, literals-start, literal-room, literal-more, literals_end}
+use Rattle.loading.proofs.LiteralTexts.{literals-start, literal-room, literal-more, literals_end}
 use Rattle.loading.proofs.clause.drawn_literals.Goals as goal
 
 pub loop-left-init : goal.loop-left-init

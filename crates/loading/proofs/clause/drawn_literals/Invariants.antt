@@ -1,8 +1,6 @@
 -- `clause::drawn_literals` meets its contract. The loop's invariant: of the literals those left are still to be drawn
 -- and written. Assumes nothing.
-use borrow.Author.Rules.{rules}
-use Rattle.spelling.proofs.Pens.{spells-length}
-use Rattle.loading.proofs.LiteralTexts.{LiteralsLeft, literals-start, literal-room, literal-more, literals_end}
+use Rattle.loading.proofs.LiteralTexts.{LiteralsLeft}
 use Rattle.loading.proofs.clause.drawn_literals.Given as goal
 
 abbrev pub invariant-loop-left : goal.invariant-loop-left

@@ -1,5 +1,4 @@
 -- `clause::kind_drawn` meets its contract, by whether the clause is a rule. Assumes nothing.
-use borrow.Author.Rules.{rules}
 use Rattle.loading.proofs.Clauses.{kind-low, kind-high}
 use Rattle.loading.proofs.clause.kind_drawn.Goals as goal
 

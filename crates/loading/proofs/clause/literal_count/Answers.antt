@@ -1,5 +1,4 @@
 -- `clause::literal_count` meets its contract, by the kind of the clause. Assumes nothing.
-use borrow.Author.Rules.{rules}
 use Rattle.loading.proofs.Clauses.{count_none, count-some}
 use Rattle.loading.proofs.clause.literal_count.Goals as goal
 

@@ -1,5 +1,4 @@
 -- `clause::load_literal` meets its contract: a name alone, or behind "not" in brackets. Assumes nothing.
-use borrow.Author.Rules.{rules}
 use Rattle.writing.proofs.Literals.{not-room, negated-name-room, negated_close_room, negated-written}
 use Rattle.writing.proofs.Literals.{plain-name-room, plain-written}
 use Rattle.loading.proofs.clause.load_literal.Goals as goal

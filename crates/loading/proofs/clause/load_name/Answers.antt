@@ -1,5 +1,4 @@
 -- `clause::load_name` meets its contract: the gap, the letter, and the number behind it. Assumes nothing.
-use borrow.Author.Rules.{rules}
 use Rattle.loading.proofs.NameTexts.{name_gap_room, letter_room, digits-room, name-written}
 use Rattle.loading.proofs.clause.load_name.Goals as goal
 

@@ -1,7 +1,6 @@
--- Answers to the goals of this function. Assumes nothing.
-use borrow.Author.Rules.{rules}
-use Prim.Native.Nat.{◌-◌}
-use Rattle.loading.proofs.States.{AtDraw, draw-start, draw-more, draw-end}
+-- The goals of `draws::state_after`: its loop keeps the invariant, and each way out gives what is promised.
+-- Assumes nothing.
+use Rattle.loading.proofs.States.{draw-start, draw-more, draw-end}
 use Rattle.loading.proofs.draws.state_after.Goals as goal
 
 pub loop-done-init : goal.loop-done-init

@@ -1,7 +1,6 @@
 -- `draws::state_after` meets its contract. The loop's invariant: the draws done led to the state. Assumes nothing.
-use borrow.Author.Rules.{rules}
 use Prim.Native.Nat.{◌-◌}
-use Rattle.loading.proofs.States.{AtDraw, draw-start, draw-more, draw-end}
+use Rattle.loading.proofs.States.{AtDraw}
 use Rattle.loading.proofs.draws.state_after.Given as goal
 
 abbrev pub invariant-loop-done : goal.invariant-loop-done

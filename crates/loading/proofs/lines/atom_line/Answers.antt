@@ -1,15 +1,12 @@
 -- `lines::atom_line` meets its contract: its word, the name, and its end. Assumes nothing.
-use borrow.Author.Rules.{rules}
 use Rattle.writing.proofs.LineTexts.{begin_room, part_room, close_room, line-written, atom-form}
 use Rattle.loading.proofs.lines.atom_line.Goals as goal
 
 pub begin-p-requires : goal.begin-p-requires
-begin-p-requires c =
-    begin_room (atom-form _) c.args.g c.requires
+begin-p-requires c = begin_room (atom-form _) c.args.g c.requires
 
 pub load_name-q-requires : goal.load_name-q-requires
-load_name-q-requires c =
-    part_room (atom-form _) c.args.g c.begin-p.ensures c.requires
+load_name-q-requires c = part_room (atom-form _) c.args.g c.begin-p.ensures c.requires
 
 pub close-requires : goal.close-requires
 close-requires c =

@@ -1,12 +1,8 @@
--- Answers to the goals of this function. Assumes nothing.
-use borrow.Author.Rules.{rules}
-use mathlib.Core.List.{map}
-use Prim.Native.Nat.{◌-◌}
+-- The goals of `lines::atom_lines`: its loop keeps the invariant, and each way out gives what is promised.
+-- Assumes nothing.
 use native.Mathlib.Omega.{arith}
 use Rattle.spelling.proofs.Pages.{sets-length}
-use Rattle.writing.specs.Lines.{line_text}
-use Rattle.writing.proofs.Growing.{AtEntry, entry-start, entry-room, entry_more, entry-end}
-use Rattle.loading.specs.Load.{atom_lines}
+use Rattle.writing.proofs.Growing.{entry-start, entry-room, entry_more, entry-end}
 use Rattle.loading.proofs.LineTexts.{atoms-grow}
 use Rattle.loading.proofs.lines.atom_lines.Goals as goal
 
@@ -14,8 +10,7 @@ pub loop-atom-init : goal.loop-atom-init
 loop-atom-init c = entry-start atoms-grow _ _ _
 
 pub atom_line-page-requires : goal.atom_line-page-requires
-atom_line-page-requires c =
-    entry-room atoms-grow c.loop-atom.invariant (omega arith) c.requires
+atom_line-page-requires c = entry-room atoms-grow c.loop-atom.invariant (omega arith) c.requires
 
 pub loop-atom-preserved : goal.loop-atom-preserved
 loop-atom-preserved c =

@@ -1,7 +1,8 @@
--- Answers to the goals of this function. Assumes nothing.
+-- The goals of `lines::drawn_clauses`: its loop keeps the invariant, and each way out gives what is promised.
+-- Assumes nothing.
 use borrow.Author.Rules.{rules}
 use Rattle.spelling.proofs.Pages.{sets-length}
-use Rattle.loading.proofs.LineTexts.{ClausesLeft, clauses-start, clause-room, clause-more, clauses-end}
+use Rattle.loading.proofs.LineTexts.{clauses-start, clause-room, clause-more, clauses-end}
 use Rattle.loading.proofs.lines.drawn_clauses.Goals as goal
 
 pub loop-left-init : goal.loop-left-init

@@ -1,8 +1,6 @@
 -- `lines::drawn_clauses` meets its contract. The loop's invariant: of the clauses those left are still to be drawn and
 -- written. Assumes nothing.
-use borrow.Author.Rules.{rules}
-use Rattle.spelling.proofs.Pages.{sets-length}
-use Rattle.loading.proofs.LineTexts.{ClausesLeft, clauses-start, clause-room, clause-more, clauses-end}
+use Rattle.loading.proofs.LineTexts.{ClausesLeft}
 use Rattle.loading.proofs.lines.drawn_clauses.Given as goal
 
 abbrev pub invariant-loop-left : goal.invariant-loop-left

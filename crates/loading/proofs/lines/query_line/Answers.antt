@@ -1,16 +1,13 @@
 -- `lines::query_line` meets its contract: its word, the name, and its end. Assumes nothing.
-use borrow.Author.Rules.{rules}
 use Rattle.writing.proofs.LineTexts.{begin_room, part_room, close_room, line-written}
 use Rattle.loading.proofs.LineTexts.{first-query-form}
 use Rattle.loading.proofs.lines.query_line.Goals as goal
 
 pub begin-p-requires : goal.begin-p-requires
-begin-p-requires c =
-    begin_room first-query-form c.args.g c.requires
+begin-p-requires c = begin_room first-query-form c.args.g c.requires
 
 pub load_name-q-requires : goal.load_name-q-requires
-load_name-q-requires c =
-    part_room first-query-form c.args.g c.begin-p.ensures c.requires
+load_name-q-requires c = part_room first-query-form c.args.g c.begin-p.ensures c.requires
 
 pub close-requires : goal.close-requires
 close-requires c =

@@ -1,10 +1,7 @@
 -- `body::literals` meets its contract. The loop's invariant: of the literals those on the atoms left are still to be
 -- written. Assumes nothing.
-use borrow.Author.Rules.{rules}
-use Rattle.words.proofs.BitWalks.{without_less}
 use Rattle.names.specs.Row.{name_in}
-use Rattle.spelling.proofs.Pens.{spells-length}
-use Rattle.writing.proofs.Bits.{AtLiteral, literal-start, literal-room, literal-more, literal-end}
+use Rattle.writing.proofs.Bits.{AtLiteral}
 use Rattle.writing.proofs.body.literals.Given as goal
 
 abbrev pub invariant-loop-left : goal.invariant-loop-left

@@ -1,5 +1,4 @@
 -- `body::open_word` meets its contract: a bracket, and the word behind it. Assumes nothing.
-use borrow.Author.Rules.{rules}
 use Rattle.writing.proofs.Literals.{open_room, opened-room, opened-written}
 use Rattle.writing.proofs.body.open_word.Goals as goal
 

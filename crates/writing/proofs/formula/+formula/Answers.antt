@@ -1,9 +1,6 @@
 -- `formula::formula` meets its contract, by laws of the room for its parts and of what they leave; the measure is the
 -- number of nodes left. Assumes nothing.
-use Prim.Native.Nat.{ℕ, ◌<◌, ◌-◌}
 use native.Mathlib.Omega.{arith}
-use lib.ListN.{length}
-use borrow.Author.Rules.{rules}
 use Rattle.writing.proofs.Formulas.{place-within, name-room, word_room, operand-room, not-room, second-room}
 use Rattle.writing.proofs.Formulas.{form-room, name-written, not_written, form-written}
 use Rattle.writing.proofs.formula.+formula.Goals as goal

@@ -1,5 +1,5 @@
--- The measure of the recursion.
-use Prim.Native.Nat.{ℕ, ◌<◌, ◌-◌}
+-- The measure of `formula`: the number of nodes left.
+use Prim.Native.Nat.{◌-◌}
 use lib.ListN.{length}
 use Rattle.writing.proofs.formula.+formula.Given as goal
 

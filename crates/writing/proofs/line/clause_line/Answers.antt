@@ -1,5 +1,4 @@
 -- `line::clause_line` meets its contract: its word, the head, the literals, and its end. Assumes nothing.
-use borrow.Author.Rules.{rules}
 use mathlib.Core.List.{[], ◌∷◌}
 use native.Mathlib.Omega.{arith}
 use Rattle.text.specs.Tokens.{Token}
@@ -9,8 +8,7 @@ use Rattle.writing.proofs.LineTexts.{second-room, clause-form}
 use Rattle.writing.proofs.line.clause_line.Goals as goal
 
 pub begin_clause-p-requires : goal.begin_clause-p-requires
-begin_clause-p-requires c =
-    (c.requires.0, begin_room (clause-form _ _ _) c.args.g c.requires.2)
+begin_clause-p-requires c = (c.requires.0, begin_room (clause-form _ _ _) c.args.g c.requires.2)
 
 pub name-q-requires : goal.name-q-requires
 name-q-requires c = (

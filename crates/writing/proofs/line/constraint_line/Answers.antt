@@ -1,5 +1,4 @@
 -- `line::constraint_line` meets its contract: its word, the literals, and its end. Assumes nothing.
-use borrow.Author.Rules.{rules}
 use Rattle.writing.proofs.LineTexts.{begin_room, part_room, close_room, line-written, constraint-form}
 use Rattle.writing.proofs.line.constraint_line.Goals as goal
 

@@ -1,5 +1,4 @@
 -- `line::cost_line` meets its contract: its word, the name, two numbers, and its end. Assumes nothing.
-use borrow.Author.Rules.{rules}
 use mathlib.Core.List.{[], ◌∷◌}
 use Rattle.text.specs.Tokens.{Token}
 use Rattle.spelling.proofs.Pens.{spells-both}
@@ -8,8 +7,7 @@ use Rattle.writing.proofs.LineTexts.{second-room, cost-form}
 use Rattle.writing.proofs.line.cost_line.Goals as goal
 
 pub begin-p-requires : goal.begin-p-requires
-begin-p-requires c =
-    begin_room (cost-form _ _ _) c.args.g c.requires.1
+begin-p-requires c = begin_room (cost-form _ _ _) c.args.g c.requires.1
 
 pub name-q-requires : goal.name-q-requires
 name-q-requires c = (

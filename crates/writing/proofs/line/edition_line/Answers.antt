@@ -1,11 +1,9 @@
 -- `line::edition_line` meets its contract: its word, the number, and its end. Assumes nothing.
-use borrow.Author.Rules.{rules}
 use Rattle.writing.proofs.LineTexts.{begin_room, part_room, close_room, line-written, edition-form}
 use Rattle.writing.proofs.line.edition_line.Goals as goal
 
 pub begin-p-requires : goal.begin-p-requires
-begin-p-requires c =
-    begin_room (edition-form _ c.requires.0) c.args.g c.requires.1
+begin-p-requires c = begin_room (edition-form _ c.requires.0) c.args.g c.requires.1
 
 pub number-q-requires : goal.number-q-requires
 number-q-requires c =

@@ -1,12 +1,10 @@
 -- `line::query_line` meets its contract: its word, the formula, and its end. Assumes nothing.
-use borrow.Author.Rules.{rules}
 use Rattle.writing.proofs.LineTexts.{begin_room, part_room, close_room, line-written, query-form}
 use Rattle.writing.proofs.Formulas.{one-room, one_written}
 use Rattle.writing.proofs.line.query_line.Goals as goal
 
 pub begin-p-requires : goal.begin-p-requires
-begin-p-requires c =
-    begin_room (query-form _) c.args.g c.requires.2
+begin-p-requires c = begin_room (query-form _) c.args.g c.requires.2
 
 pub formula-s-requires : goal.formula-s-requires
 formula-s-requires c = (

@@ -1,11 +1,9 @@
 -- `line::seen_line` meets its contract: its word, the literal, and its end. Assumes nothing.
-use borrow.Author.Rules.{rules}
 use Rattle.writing.proofs.LineTexts.{begin_room, part_room, close_room, line-written, seen-form}
 use Rattle.writing.proofs.line.seen_line.Goals as goal
 
 pub begin-p-requires : goal.begin-p-requires
-begin-p-requires c =
-    begin_room (seen-form _) c.args.g c.requires.1
+begin-p-requires c = begin_room (seen-form _) c.args.g c.requires.1
 
 pub literal-q-requires : goal.literal-q-requires
 literal-q-requires c =

@@ -1,6 +1,6 @@
 -- `lines::case_lines` meets its contract: the lines of each kind behind those of the kinds before it.
 -- Assumes nothing.
-use Rattle.store.specs.Lent.{Lent, lent}
+use Rattle.store.specs.Lent.{lent}
 use Rattle.spelling.proofs.Pages.{sets-length}
 use Rattle.writing.proofs.Fitting.{fit_atoms, fit_names, fit_prices, fit_formula, fit_clauses, fit_kinds}
 use Rattle.writing.proofs.Fitting.{fit_constraints, fit_bars, fit_queries}

@@ -1,10 +1,8 @@
--- Answers to the goals of this function. Assumes nothing.
-use borrow.Author.Rules.{rules}
-use Prim.Native.Nat.{◌-◌}
+-- The goals of `lines::clause_lines`: its loop keeps the invariant, and each way out gives what is promised.
+-- Assumes nothing.
 use native.Mathlib.Omega.{arith}
 use Rattle.spelling.proofs.Pages.{sets-length}
-use Rattle.writing.specs.Steps.{clause_texts}
-use Rattle.writing.proofs.Growing.{AtEntry, list_grows, entry-start, entry-room, entry_more, entry-end}
+use Rattle.writing.proofs.Growing.{list_grows, entry-start, entry-room, entry_more, entry-end}
 use Rattle.writing.proofs.lines.clause_lines.Goals as goal
 
 pub loop-k-init : goal.loop-k-init

@@ -1,11 +1,8 @@
 -- `lines::constraint_lines` meets its contract. The loop's invariant: the lines of
 -- the first entries are written. Assumes nothing.
-use borrow.Author.Rules.{rules}
 use Prim.Native.Nat.{◌-◌}
-use native.Mathlib.Omega.{arith}
-use Rattle.spelling.proofs.Pages.{sets-length}
 use Rattle.writing.specs.Steps.{constraint_texts}
-use Rattle.writing.proofs.Growing.{AtEntry, list_grows, entry-start, entry-room, entry_more, entry-end}
+use Rattle.writing.proofs.Growing.{AtEntry}
 use Rattle.writing.proofs.lines.constraint_lines.Given as goal
 
 abbrev pub invariant-loop-k : goal.invariant-loop-k

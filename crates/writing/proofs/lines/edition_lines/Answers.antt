@@ -1,5 +1,4 @@
 -- `lines::edition_lines` meets its contract: a line where the edition is 2. Assumes nothing.
-use borrow.Author.Rules.{rules}
 use mathlib.Core.Path.{◌≡◌}
 use native.Mathlib.Omega.{arith}
 use borrow.Author.Tests.{eq-eqb, ne_eqb}
@@ -7,8 +6,7 @@ use Rattle.writing.proofs.CaseTexts.{line_absent, line-room-there, line-there}
 use Rattle.writing.proofs.lines.edition_lines.Goals as goal
 
 pub returns-then-edition-ne2 : goal.returns-then-edition-ne2
-returns-then-edition-ne2 c =
-    line_absent _ (ne_eqb c.args.edition 2 (λ e. omega arith))
+returns-then-edition-ne2 c = line_absent _ (ne_eqb c.args.edition 2 (λ e. omega arith))
 
 pub edition_line-requires : goal.edition_line-requires
 edition_line-requires c =

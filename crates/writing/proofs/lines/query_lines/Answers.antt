@@ -1,23 +1,19 @@
--- Answers to the goals of this function. Assumes nothing.
-use borrow.Author.Rules.{rules}
-use Prim.Native.Nat.{◌-◌}
+-- The goals of `lines::query_lines`: its loop keeps the invariant, and each way out gives what is promised.
+-- Assumes nothing.
 use native.Mathlib.Omega.{arith}
 use Rattle.spelling.proofs.Pages.{sets-length}
-use Rattle.writing.specs.Steps.{query_texts}
 use Rattle.writing.proofs.Formulas.{lent_one, lent-room, lent_written}
-use Rattle.writing.proofs.Growing.{AtEntry, list_grows, entry-start, entry-room, entry_more, entry-end}
+use Rattle.writing.proofs.Growing.{list_grows, entry-start, entry-room, entry_more, entry-end}
 use Rattle.writing.proofs.lines.query_lines.Goals as goal
 
 pub loop-q-init : goal.loop-q-init
 loop-q-init c = entry-start (list_grows _) _ _ _
 
 pub overflow_add-end : goal.overflow_add-end
-overflow_add-end c =
-    omega (arith, (c.requires.3 c.loop-q.q (omega arith)).0)
+overflow_add-end c = omega (arith, (c.requires.3 c.loop-q.q (omega arith)).0)
 
 pub slice_bounds-query_line-end : goal.slice_bounds-query_line-end
-slice_bounds-query_line-end c =
-    omega (arith, (c.requires.3 c.loop-q.q (omega arith)).0)
+slice_bounds-query_line-end c = omega (arith, (c.requires.3 c.loop-q.q (omega arith)).0)
 
 pub query_line-page-requires : goal.query_line-page-requires
 query_line-page-requires c =

@@ -1,12 +1,9 @@
--- Answers to the goals of this function. Assumes nothing.
-use borrow.Author.Rules.{rules}
+-- The goals of `lines::seen_lines`: its loop keeps the invariant, and each way out gives what is promised.
+-- Assumes nothing.
 use native.Mathlib.Omega.{arith}
 use Rattle.words.proofs.BitWalks.{without_less}
-use Rattle.grammar.specs.Line.{Line, Literal}
-use Rattle.names.specs.Row.{name_in}
 use Rattle.spelling.proofs.Pages.{sets-length}
-use Rattle.writing.specs.Lines.{line_text}
-use Rattle.writing.proofs.Bits.{AtAtomLine, atom-line-start, atom-line-room, atom-line-more, atom-line-end}
+use Rattle.writing.proofs.Bits.{atom-line-start, atom-line-room, atom-line-more, atom-line-end}
 use Rattle.writing.proofs.lines.seen_lines.Goals as goal
 
 pub loop-left-init : goal.loop-left-init
@@ -19,8 +16,7 @@ seen_line-page-requires c = (
 )
 
 pub loop-left-smaller : goal.loop-left-smaller
-loop-left-smaller c =
-    rw c.without-left.ensures (without_less _ _ c.lowest_bit-a.ensures.bit)
+loop-left-smaller c = rw c.without-left.ensures (without_less _ _ c.lowest_bit-a.ensures.bit)
 
 pub loop-left-preserved : goal.loop-left-preserved
 loop-left-preserved c =

@@ -1,18 +1,15 @@
 -- `lines::seen_lines` meets its contract. The loop's invariant: of the lines those
 -- of the atoms left are still to be written. Assumes nothing.
-use borrow.Author.Rules.{rules}
-use native.Mathlib.Omega.{arith}
-use Rattle.words.proofs.BitWalks.{without_less}
 use Rattle.grammar.specs.Line.{Line, Literal}
 use Rattle.names.specs.Row.{name_in}
-use Rattle.spelling.proofs.Pages.{sets-length}
 use Rattle.writing.specs.Lines.{line_text}
-use Rattle.writing.proofs.Bits.{AtAtomLine, atom-line-start, atom-line-room, atom-line-more, atom-line-end}
+use Rattle.writing.proofs.Bits.{AtAtomLine}
 use Rattle.writing.proofs.lines.seen_lines.Given as goal
 
 abbrev pub invariant-loop-left : goal.invariant-loop-left
 invariant-loop-left l =
-    AtAtomLine (λ a. line_text (Line.seen (Literal.literal l.negated (name_in l.names a)))) l.atoms l.initial.out l.initial.page l.left l.page l.out
+    AtAtomLine (λ a. line_text (Line.seen (Literal.literal l.negated (name_in l.names a)))) l.atoms
+    l.initial.out l.initial.page l.left l.page l.out
 
 abbrev pub decreases-loop-left : goal.decreases-loop-left
 decreases-loop-left l = l.left

@@ -15,4 +15,4 @@ returns-then-not-all_word_bytes c = search (rules, name_strange)
 
 pub returns : goal.returns
 returns c =
-    name_decides _ c.is_name.ensures c.if-not-is_name.false-raw c.all_word_bytes.ensures c.if-not-all_word_bytes.false-raw
+    name_decides _ c.is_name.ensures c.if-not-is_name.false c.all_word_bytes.ensures c.if-not-all_word_bytes.false

@@ -1,8 +1,6 @@
--- Answers to the goals of this function. Assumes nothing.
-use borrow.Author.Rules.{rules}
-use Prim.Native.Nat.{◌-◌}
-use Rattle.program.proofs.Entries.{Tested, tested-none, tested-more, tested-failed, tested-all}
-use Rattle.writing.specs.Operation.{is_writable_atom}
+-- The goals of `writable::atoms_writable`: its loop keeps the invariant, and each way out gives what is promised.
+-- Assumes nothing.
+use Rattle.program.proofs.Entries.{tested-none, tested-more, tested-failed, tested-all}
 use Rattle.writing.proofs.writable.atoms_writable.Goals as goal
 
 pub loop-a-init : goal.loop-a-init

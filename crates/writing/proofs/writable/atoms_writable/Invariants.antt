@@ -1,8 +1,7 @@
 -- `writable::atoms_writable` meets its contract. The loop's invariant: every atom passed is writable (`Tested`).
 -- Assumes nothing.
-use borrow.Author.Rules.{rules}
 use Prim.Native.Nat.{◌-◌}
-use Rattle.program.proofs.Entries.{Tested, tested-none, tested-more, tested-failed, tested-all}
+use Rattle.program.proofs.Entries.{Tested}
 use Rattle.writing.specs.Operation.{is_writable_atom}
 use Rattle.writing.proofs.writable.atoms_writable.Given as goal
 

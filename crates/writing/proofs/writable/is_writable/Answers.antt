@@ -7,12 +7,10 @@ pub is_sound-requires : goal.is_sound-requires
 is_sound-requires c = fit_full _ c.requires
 
 pub returns-then-not-is_sound : goal.returns-then-not-is_sound
-returns-then-not-is_sound c = unsound_unwritable _ _ c.is_sound.ensures c.if-not-is_sound.true-raw
+returns-then-not-is_sound c = unsound_unwritable _ _ c.is_sound.ensures c.if-not-is_sound.true
 
 pub atoms_writable-requires : goal.atoms_writable-requires
-atoms_writable-requires c =
-    atoms-held _ c.requires _ c.is_sound.ensures c.if-not-is_sound.false-raw
+atoms_writable-requires c = atoms-held _ c.requires _ c.is_sound.ensures c.if-not-is_sound.false
 
 pub returns : goal.returns
-returns c =
-    atoms_decide _ _ c.is_sound.ensures c.if-not-is_sound.false-raw c.atoms_writable.ensures
+returns c = atoms_decide _ _ c.is_sound.ensures c.if-not-is_sound.false c.atoms_writable.ensures

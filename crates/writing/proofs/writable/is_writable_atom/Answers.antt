@@ -1,6 +1,5 @@
 -- `writable::is_writable_atom` meets its contract: a test that fails leaves no writable atom, and where the first two
 -- hold the price decides. Assumes nothing.
-use borrow.Author.Rules.{rules}
 use Rattle.writing.proofs.WritableCases.{atom_unnamed, atom_repeated, price_decides}
 use Rattle.writing.proofs.writable.is_writable_atom.Goals as goal
 

@@ -1,7 +1,6 @@
--- Answers to the goals of this function. Assumes nothing.
-use borrow.Author.Rules.{rules}
-use Prim.Native.Nat.{◌-◌}
-use Rattle.writing.proofs.Names.{NameFrom, name-from-none, name-from-more, name-from-stops, name-from-ends}
+-- The goals of `writable::name_end`: its loop keeps the invariant, and each way out gives what is promised.
+-- Assumes nothing.
+use Rattle.writing.proofs.Names.{name-from-none, name-from-more, name-from-stops, name-from-ends}
 use Rattle.writing.proofs.writable.name_end.Goals as goal
 
 pub loop-i-init : goal.loop-i-init

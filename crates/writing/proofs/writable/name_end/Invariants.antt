@@ -1,8 +1,7 @@
 -- `writable::name_end` meets its contract. The invariant is `NameFrom`: the name is the row's first i bytes and what
 -- stands before the first zero behind them. Assumes nothing.
-use borrow.Author.Rules.{rules}
 use Prim.Native.Nat.{◌-◌}
-use Rattle.writing.proofs.Names.{NameFrom, name-from-none, name-from-more, name-from-stops, name-from-ends}
+use Rattle.writing.proofs.Names.{NameFrom}
 use Rattle.writing.proofs.writable.name_end.Given as goal
 
 abbrev pub invariant-loop-i : goal.invariant-loop-i
