@@ -9,8 +9,5 @@ use Rattle.embed.proofs.causes_generate.Goals as goal
 pub returns-then-answer-lt-LENGTH_WORDS : goal.returns-then-answer-lt-LENGTH_WORDS
 returns-then-answer-lt-LENGTH_WORDS c = GenerateOut.short (omega arith) refl refl refl
 
-pub generate-a-requires : goal.generate-a-requires
-generate-a-requires c = tt
-
 pub returns : goal.returns
 returns c = search GenerateOut.done

@@ -8,13 +8,10 @@ use Rattle.embed.proofs.Exports.{layers_done}
 use Rattle.embed.proofs.causes_layers.Goals as goal
 
 pub returns-then-fields-lt23 : goal.returns-then-fields-lt23
-returns-then-fields-lt23 c = LayersOut.short-record (omega arith) refl refl
+returns-then-fields-lt23 c = LayersOut.short_record (omega arith) refl refl
 
 pub returns-then-answer-lt66 : goal.returns-then-answer-lt66
 returns-then-answer-lt66 c = LayersOut.short (omega arith) refl refl
-
-pub layers-a-requires : goal.layers-a-requires
-layers-a-requires c = tt
 
 pub returns : goal.returns
 returns c = search layers_done

@@ -8,13 +8,10 @@ use Rattle.embed.proofs.Exports.{question_done}
 use Rattle.embed.proofs.causes_question.Goals as goal
 
 pub returns-then-fields-lt23 : goal.returns-then-fields-lt23
-returns-then-fields-lt23 c = QuestionOut.short-record (omega arith) refl refl refl refl
+returns-then-fields-lt23 c = QuestionOut.short_record (omega arith) refl refl refl refl
 
 pub returns-then-answer-lt22 : goal.returns-then-answer-lt22
 returns-then-answer-lt22 c = QuestionOut.short (omega arith) refl refl refl refl
-
-pub ask-a-requires : goal.ask-a-requires
-ask-a-requires c = tt
 
 pub returns : goal.returns
 returns c = search question_done

@@ -9,8 +9,5 @@ use Rattle.embed.proofs.causes_read.Goals as goal
 pub returns-then-answer-lt24 : goal.returns-then-answer-lt24
 returns-then-answer-lt24 c = ReadOut.short (omega arith) refl refl refl
 
-pub read-a-requires : goal.read-a-requires
-read-a-requires c = tt
-
 pub returns : goal.returns
 returns c = search ReadOut.done

@@ -9,8 +9,5 @@ use Rattle.embed.proofs.causes_report.Goals as goal
 pub returns-then-answer-lt-LENGTH_WORDS : goal.returns-then-answer-lt-LENGTH_WORDS
 returns-then-answer-lt-LENGTH_WORDS c = ReportOut.short (omega arith) refl refl refl
 
-pub report-a-requires : goal.report-a-requires
-report-a-requires c = tt
-
 pub returns : goal.returns
 returns c = search ReportOut.done

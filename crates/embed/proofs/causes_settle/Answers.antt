@@ -8,13 +8,10 @@ use Rattle.embed.proofs.Exports.{settle_done}
 use Rattle.embed.proofs.causes_settle.Goals as goal
 
 pub returns-then-fields-lt23 : goal.returns-then-fields-lt23
-returns-then-fields-lt23 c = SettleOut.short-record (omega arith) refl refl
+returns-then-fields-lt23 c = SettleOut.short_record (omega arith) refl refl
 
 pub returns-then-answer-lt4 : goal.returns-then-answer-lt4
 returns-then-answer-lt4 c = SettleOut.short (omega arith) refl refl
-
-pub settle_one-a-requires : goal.settle_one-a-requires
-settle_one-a-requires c = tt
 
 pub returns : goal.returns
 returns c = search settle_done

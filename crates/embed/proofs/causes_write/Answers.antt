@@ -8,13 +8,10 @@ use Rattle.embed.proofs.Exports.{write_done}
 use Rattle.embed.proofs.causes_write.Goals as goal
 
 pub returns-then-fields-lt23 : goal.returns-then-fields-lt23
-returns-then-fields-lt23 c = WriteOut.short-record (omega arith) refl refl refl
+returns-then-fields-lt23 c = WriteOut.short_record (omega arith) refl refl refl
 
 pub returns-then-answer-lt-LENGTH_WORDS : goal.returns-then-answer-lt-LENGTH_WORDS
 returns-then-answer-lt-LENGTH_WORDS c = WriteOut.short (omega arith) refl refl refl
-
-pub write-a-requires : goal.write-a-requires
-write-a-requires c = tt
 
 pub returns : goal.returns
 returns c = search write_done

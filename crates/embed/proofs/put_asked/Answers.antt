@@ -4,8 +4,5 @@ use native.Mathlib.Omega.{arith}
 use Rattle.embed.proofs.Exports.{asked_put}
 use Rattle.embed.proofs.put_asked.Goals as goal
 
-pub put_words-requires : goal.put_words-requires
-put_words-requires c = omega (arith, slice-aggregate-put-words c)
-
 pub returns : goal.returns
-returns c = search (asked_put, slice-aggregate-put-words)
+returns c = asked_put c.args.a c.args.answer.now (omega arith) c.put_words.ensures c.put_words-2.ensures

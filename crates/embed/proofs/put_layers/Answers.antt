@@ -4,8 +4,5 @@ use native.Mathlib.Omega.{arith}
 use Rattle.embed.proofs.Exports.{layers_put}
 use Rattle.embed.proofs.put_layers.Goals as goal
 
-pub put_words-requires-2 : goal.put_words-requires-2
-put_words-requires-2 c = omega (arith, slice-aggregate-put-words-2 c)
-
 pub returns : goal.returns
 returns c = search layers_put

@@ -4,8 +4,5 @@ use native.Mathlib.Omega.{arith}
 use Rattle.embed.proofs.Exports.{nodes_put}
 use Rattle.embed.proofs.put_nodes.Goals as goal
 
-pub put_counts-requires : goal.put_counts-requires
-put_counts-requires c = omega (arith, slice-aggregate-put-counts c)
-
 pub returns : goal.returns
-returns c = search (nodes_put, slice-aggregate-put-counts)
+returns c = nodes_put c.args.c c.args.answer.now (omega arith) c.put_counts.ensures c.put_words.ensures
