@@ -24,7 +24,7 @@ use Rattle.report.specs.Report.{clause_table, name_of}
 use Rattle.report.specs.Operation.{ReportShown}
 use Rattle.report.specs.Sizes.{FullTables}
 use Rattle.report.proofs.Accepted.{said-table}
-use Rattle.report.proofs.Reported.{Accepted, refused-shown, refused_silent, accepted-sound}
+use Rattle.report.proofs.Reported.{Accepted, accepted_report, refused-shown, refused_silent, accepted-sound}
 use Rattle.layering.specs.declared.operation.Answer.{Answer}
 use Rattle.layering.specs.Operation.{layers_refusal, numbers_answer, ring_answer, Layering}
 use Rattle.layering.proofs.Answers.{refusal-none}
@@ -126,3 +126,8 @@ module _ {f : List ℕ} {u : Lent} {r : reader.Answer} (a : Accepted f u r) {q :
 
   pub accepted_shows : Shows f u.names q
   accepted_shows = rw answer-is (shows_by (layered_said a.said) told_entries few told text_of)
+
+-- a file that is read without a refusal, and the answer q of *layers*
+pub read_shows : {f : List ℕ} {t u : Lent} {r : reader.Answer} → FullTables t → ReadAs f t u r → r.refusal ≡ 0
+    → {q : Answer} → Layering r.found u.clauses u.constraints u.formula q → Shows f u.names q
+read_shows x h k l = accepted_shows (accepted_report x h k) l

@@ -5,14 +5,14 @@ use mathlib.Core.List.{List, [], ◌∷◌}
 use Prim.Native.Nat.{ℕ, ◌≤◌, ◌<◌}
 use native.Mathlib.Omega.{arith}
 use lib.Dec.{eqb}
-use lib.ListN.{length, get_or}
+use lib.ListN.{get_or}
 use Rattle.words.specs.Choice.{pick}
 use Rattle.words.proofs.Tests.{by_test}
 use Rattle.program.specs.Case.{price_size}
 use Rattle.text.specs.Lines.{lines, is_comment}
 use Rattle.text.specs.Tokens.{tokens}
 use Rattle.text.proofs.Each.{Each, each_append}
-use Rattle.table.specs.Filled.{filled, padded}
+use Rattle.table.specs.Filled.{padded}
 use Rattle.table.proofs.Filled.{filled-exact, padded-length}
 use Rattle.grammar.specs.Line.{Line}
 use Rattle.grammar.specs.Bringing.{brings}

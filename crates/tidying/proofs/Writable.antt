@@ -1,6 +1,6 @@
 -- The case of an accepted file is one that can be written: its tables fit, it is sound, its names are names and differ,
 -- and its prices are low. Assumes nothing.
-use mathlib.Core.Path.{◌≡◌, refl, sym, ap, ◌∙◌}
+use mathlib.Core.Path.{◌≡◌, sym, ap, ◌∙◌}
 use mathlib.Core.Bool.{true, false}
 use mathlib.Core.List.{List, []}
 use Prim.Native.Nat.{ℕ, ◌≤◌, ◌<◌}
@@ -22,7 +22,6 @@ use Rattle.names.proofs.Rows.{filled_row}
 use Rattle.store.specs.Prices.{prices_of}
 use Rattle.store.specs.Saying.{Said}
 use Rattle.store.specs.Tables.{clause_words, constraint_words, formula_parts, case_said}
-use Rattle.checks.specs.Naming.{is_name}
 use Rattle.reader.specs.Reading.{Outcome, read_file}
 use Rattle.reader.specs.Operation.{tables_fit}
 use Rattle.reader.proofs.Theorems.{accepted-names}

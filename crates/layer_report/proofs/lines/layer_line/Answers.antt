@@ -1,6 +1,5 @@
 -- `layer_line` meets its contract: the line is its opening, the name, a space, the number, and its end.
 -- Assumes nothing.
-use borrow.Author.Rules.{rules}
 use native.Mathlib.Omega.{arith}
 use Rattle.layer_report.proofs.Texts.{layer_room, layer_written}
 use Rattle.layer_report.proofs.lines.layer_line.Goals as goal

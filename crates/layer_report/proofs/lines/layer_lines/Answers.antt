@@ -1,11 +1,8 @@
--- Answers to the goals of this function. Assumes nothing.
+-- `layer_lines` meets its contract, line by line (`AtAtom`). Assumes nothing.
 use borrow.Author.Rules.{rules}
-use Prim.Native.Nat.{◌-◌}
 use native.Mathlib.Omega.{arith}
-use lib.ListN.{length}
-use Rattle.names.specs.Row.{name_in}
 use Rattle.output.proofs.Laying.{writes-length}
-use Rattle.layer_report.proofs.Texts.{AtAtom, atom-start, atom-room, atom-more, atom-end}
+use Rattle.layer_report.proofs.Texts.{atom-start, atom-room, atom-more, atom-end}
 use Rattle.layer_report.proofs.lines.layer_lines.Goals as goal
 
 pub loop-atom-init : goal.loop-atom-init

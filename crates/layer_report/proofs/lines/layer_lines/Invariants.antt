@@ -1,12 +1,8 @@
--- `layer_lines` meets its contract. The loop's invariant: what is written so far, and the lines from the next atom on,
--- make up the whole. Assumes nothing.
-use borrow.Author.Rules.{rules}
+-- The loop's invariant: what is written so far, and the lines from the next atom on, make up the whole.
 use Prim.Native.Nat.{◌-◌}
-use native.Mathlib.Omega.{arith}
 use lib.ListN.{length}
 use Rattle.names.specs.Row.{name_in}
-use Rattle.output.proofs.Laying.{writes-length}
-use Rattle.layer_report.proofs.Texts.{AtAtom, atom-start, atom-room, atom-more, atom-end}
+use Rattle.layer_report.proofs.Texts.{AtAtom}
 use Rattle.layer_report.proofs.lines.layer_lines.Given as goal
 
 abbrev pub invariant-loop-atom : goal.invariant-loop-atom

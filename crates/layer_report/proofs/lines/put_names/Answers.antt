@@ -1,9 +1,6 @@
--- Answers to the goals of this function. Assumes nothing.
-use borrow.Author.Rules.{rules}
-use Prim.Native.Nat.{◌-◌}
-use lib.ListN.{length}
+-- `put_names` meets its contract, name by name (`AtName`). Assumes nothing.
 use Rattle.output.proofs.Laying.{writes-length}
-use Rattle.layer_report.proofs.Texts.{AtName, name-start, name-row, space_room, name-room}
+use Rattle.layer_report.proofs.Texts.{name-start, name-row, space_room, name-room}
 use Rattle.layer_report.proofs.Texts.{name-more, name-end}
 use Rattle.layer_report.proofs.lines.put_names.Goals as goal
 

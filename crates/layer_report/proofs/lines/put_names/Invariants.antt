@@ -1,11 +1,7 @@
--- `put_names` meets its contract. The loop's invariant: what is written so far, and the names from the next entry on,
--- make up the whole. Assumes nothing.
-use borrow.Author.Rules.{rules}
+-- The loop's invariant: what is written so far, and the names from the next entry on, make up the whole.
 use Prim.Native.Nat.{◌-◌}
 use lib.ListN.{length}
-use Rattle.output.proofs.Laying.{writes-length}
-use Rattle.layer_report.proofs.Texts.{AtName, name-start, name-row, space_room, name-room}
-use Rattle.layer_report.proofs.Texts.{name-more, name-end}
+use Rattle.layer_report.proofs.Texts.{AtName}
 use Rattle.layer_report.proofs.lines.put_names.Given as goal
 
 abbrev pub invariant-loop-k : goal.invariant-loop-k
