@@ -1,5 +1,6 @@
 -- `operation::write` meets its contract: a law for each refusal, and for the text. Assumes nothing.
 use mathlib.Core.Path.{sym, ◌∙◌}
+use native.Mathlib.Omega.{arith}
 use Rattle.spelling.proofs.Pages.{sets-length}
 use Rattle.writing.proofs.Fitting.{fit_room}
 use Rattle.writing.proofs.Refusals.{tables-short, not-writable, fits, line-long, text-long, output_short}
@@ -29,12 +30,12 @@ returns-then-page c =
 pub returns-then-page-gt32768 : goal.returns-then-page-gt32768
 returns-then-page-gt32768 c =
     let fit = fits c.tables_fit.ensures c.if-not-tables_fit.false c.is_writable.ensures c.if-not-is_writable.false in
-    text-long _ _ _ fit c.case_lines-page.ensures c.if-page.false c.if-page-gt32768.true
+    text-long _ _ _ fit c.case_lines-page.ensures c.if-page.false (omega arith)
 
 pub returns-then-out-page : goal.returns-then-out-page
 returns-then-out-page c =
     let fit = fits c.tables_fit.ensures c.if-not-tables_fit.false c.is_writable.ensures c.if-not-is_writable.false in
-    output_short _ _ _ fit c.case_lines-page.ensures c.if-page.false c.if-page-gt32768.false c.if-out-page.true
+    output_short _ _ _ fit c.case_lines-page.ensures c.if-page.false (omega arith) c.if-out-page.true
 
 pub case_lines-requires : goal.case_lines-requires
 case_lines-requires c =
@@ -47,5 +48,5 @@ shape_of-out c = search sets-length
 pub returns : goal.returns
 returns c =
     let fit = fits c.tables_fit.ensures c.if-not-tables_fit.false c.is_writable.ensures c.if-not-is_writable.false in
-    text-written _ _ _ fit c.case_lines-page.ensures c.if-page.false c.if-page-gt32768.false c.if-out-page.false
+    text-written _ _ _ fit c.case_lines-page.ensures c.if-page.false (omega arith) c.if-out-page.false
     c.case_lines.ensures
