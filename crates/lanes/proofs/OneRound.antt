@@ -53,4 +53,5 @@ module _ (cl : List ℕ) (n heads : ℕ) (t f t₁ f₁ : List ℕ) (r : Changed
       ∙ ap₂ ◌||◌
       (ap₂ differs (has_word 64 (at t₁ j) a m ∙ e.trues_are j a l m) (has_word 64 (at t j) a m))
       (ap₂ differs (has_word 64 (at f₁ j) a m ∙ e.falses_are j a l m) (has_word 64 (at f j) a m))
-      ∙ chosen-differs (has heads a) (at t j a) (at f j a) (is_true (ruled cl n t f j a)) (is_false (ruled cl n t f j a))
+      ∙ chosen-differs (has heads a) (at t j a) (at f j a) (is_true (ruled cl n t f j a))
+      (is_false (ruled cl n t f j a))

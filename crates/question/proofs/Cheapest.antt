@@ -1,5 +1,5 @@
 -- The cheapest of the minimal settings below n, as the walk gathers them: one setting more at a time. Assumes nothing.
-use mathlib.Core.Path.{◌≡◌, refl, sym, ap, subst, ◌∙◌}
+use mathlib.Core.Path.{◌≡◌, refl, sym, subst, ◌∙◌}
 use mathlib.Core.Bool.{Bool, true, false, true≢false}
 use mathlib.Core.List.{List, [], ◌∷◌, ◌++◌, append-nil}
 use mathlib.Core.Logic.{⊎_elim}
@@ -97,7 +97,8 @@ module _ (J : Judge) (f : ℕ → ℕ) (cs : List ℕ) where
   exact-some n [] g m = absurd (g m)
   exact-some n (s ∷ l) c m = c
 
-  exact_none : (n : ℕ) (l : List ℕ) → Exact n l → (SomeMinimal J cs n → ⊥) → (cheapest_of f l ≡ 0) × (lowest_cost f l ≡ 0)
+  exact_none : (n : ℕ) (l : List ℕ) → Exact n l → (SomeMinimal J cs n → ⊥)
+      → (cheapest_of f l ≡ 0) × (lowest_cost f l ≡ 0)
   exact_none n [] g z = (cheapest_none f, lowest_none f)
   exact_none n (s ∷ l) c z = absurd (z (cheapest_of f (s ∷ l), c.below, c.is-minimal))
 

@@ -82,7 +82,8 @@ module _ (cl : List ℕ) (n heads : ℕ) (t f : List ℕ) where
   -- one head less is left, which changed some lanes
   lanes_next : (j : ℕ) (u w : Bool) (left a : ℕ) → BitOf left a
       → w ≡ (u || open_at t f j a && is_decided (ruled cl n t f j a))
-      → (any 64 (fresh is_decided cl n (without_bit left a) t f j) || w) ≡ (any 64 (fresh is_decided cl n left t f j) || u)
+      → (any 64 (fresh is_decided cl n (without_bit left a) t f j) || w)
+      ≡ (any 64 (fresh is_decided cl n left t f j) || u)
   lanes_next j u w left a b e =
       let rest = any 64 (fresh is_decided cl n (without_bit left a) t f j) in
       ap (λ (y : Bool). rest || y) e

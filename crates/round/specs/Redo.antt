@@ -60,8 +60,10 @@ pub record Decided (cl : List ℕ) (n heads : ℕ) (t f ut uf : List ℕ) (r : C
 
 pub record Committed (w : ℕ) (ut uf t f t₁ f₁ : List ℕ) : Type 0 where
   pub sizes : Sizes t₁ f₁
-  pub trues_are : (a : ℕ) → a < 64 → get_or t₁ a 0 ≡ pick (has w a) (bit_or (get_or t a 0) (get_or ut a 0)) (get_or t a 0)
-  pub falses_are : (a : ℕ) → a < 64 → get_or f₁ a 0 ≡ pick (has w a) (bit_or (get_or f a 0) (get_or uf a 0)) (get_or f a 0)
+  pub trues_are : (a : ℕ) → a < 64
+      → get_or t₁ a 0 ≡ pick (has w a) (bit_or (get_or t a 0) (get_or ut a 0)) (get_or t a 0)
+  pub falses_are : (a : ℕ) → a < 64
+      → get_or f₁ a 0 ≡ pick (has w a) (bit_or (get_or f a 0) (get_or uf a 0)) (get_or f a 0)
 
 pub record Redone (cl : List ℕ) (n heads : ℕ) (t f t₁ f₁ : List ℕ) (r : Changed) : Type 0 where
   pub trues_are : (j a : ℕ) → j < 64 → a < 64 → at t₁ j a ≡ (at t j a || fresh is_true cl n heads t f j a)

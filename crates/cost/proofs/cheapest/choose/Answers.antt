@@ -1,4 +1,4 @@
--- Answers to the goals of this function. Assumes nothing.
+-- `choose` meets its contract: each minimal setting in turn is weighed against the cheapest. Assumes nothing.
 use Rattle.words.proofs.BitWalks.{without_less}
 use Rattle.cost.proofs.Least.{chosen-free}
 use Rattle.cost.proofs.Choosing.{choosing_start, choosing_next, choosing_end}

@@ -1,4 +1,4 @@
--- Answers to the goals of this function. Assumes nothing.
+-- `priced_in` meets its contract: each atom in turn is gathered where it has a price. Assumes nothing.
 use mathlib.Core.Path.{refl, sym, ◌∙◌}
 use native.Mathlib.Omega.{arith}
 use Rattle.words.proofs.Gathering.{gathering_start, gathering_next, gathering_end}

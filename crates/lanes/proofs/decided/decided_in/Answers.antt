@@ -1,4 +1,4 @@
--- Answers to the goals of this function. Assumes nothing.
+-- `decided_in` meets its contract: each atom in turn is counted in the lanes where it is decided. Assumes nothing.
 use native.Mathlib.Omega.{arith}
 use Rattle.lanes.proofs.Counting.{counting_start, counting_small, counting_next, counting_end}
 use Rattle.lanes.proofs.decided.decided_in.Goals as goal

@@ -11,5 +11,4 @@ invariant-loop-c l =
     Settling l.clauses l.n (added_in l.x l.y) l.m l.t l.f l.c l.k l.total × Sizes l.ut l.uf
 
 abbrev pub decreases-loop-c : goal.decreases-loop-c
-decreases-loop-c l =
-    64 - l.k
+decreases-loop-c l = 64 - l.k

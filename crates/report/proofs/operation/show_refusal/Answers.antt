@@ -1,6 +1,5 @@
 -- `show_refusal` meets its contract: the text's length is known from writing it to a spare output, and the test on it
 -- decides. Assumes nothing.
-use borrow.Author.Rules.{rules}
 use Rattle.report.proofs.Showing.{report_short, report_written}
 use Rattle.report.proofs.operation.show_refusal.Goals as goal
 

@@ -1,4 +1,4 @@
--- Answers to the goals of this function. Assumes nothing.
+-- `begin` meets its contract: each atom in turn goes the first round in each lane (`Beginning`). Assumes nothing.
 use native.Mathlib.Omega.{arith}
 use Rattle.round.proofs.Beginning.{beginning_start, beginning_next, beginning_end}
 use Rattle.round.proofs.begin.begin.Goals as goal

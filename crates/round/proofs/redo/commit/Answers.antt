@@ -1,4 +1,4 @@
--- Answers to the goals of this function. Assumes nothing.
+-- `commit` meets its contract: each atom of the word is taken into either plane (`Committing`). Assumes nothing.
 use Rattle.words.proofs.BitWalks.{without_less}
 use Rattle.round.proofs.Committing.{committing_start, committing_next, committing_end}
 use Rattle.round.proofs.redo.commit.Goals as goal

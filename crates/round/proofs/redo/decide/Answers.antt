@@ -1,4 +1,4 @@
--- Answers to the goals of this function. Assumes nothing.
+-- `decide` meets its contract: each head in turn is taken, and what it notes is kept (`Deciding`). Assumes nothing.
 use Rattle.words.proofs.BitWalks.{without_less}
 use Rattle.round.proofs.Deciding.{deciding_start, deciding_next, deciding_end}
 use Rattle.round.proofs.redo.decide.Goals as goal

@@ -1,19 +1,15 @@
--- Answers to the goals of this function. Assumes nothing.
+-- `visit_all` meets its contract: each call is given what it asks, and each block keeps `Walking`. Assumes nothing.
 use mathlib.Core.Path.{refl}
-use Prim.Native.Nat.{◌-◌}
 use native.Mathlib.Omega.{arith}
 use lib.ListN.{get_or-replicate}
-use borrow.Author.Rules.{rules}
 use Rattle.program.proofs.Soundness.{sound-formulas}
-use Rattle.lanes.proofs.LaneRounds.{sums}
 use Rattle.verdict.proofs.Leaving.{list_kept}
 use Rattle.walk.proofs.Bounds.{constraints_fit}
-use Rattle.walk.proofs.Blocks.{Walking, walking_start, end-few, weights_few, word-inside, walking_room}
+use Rattle.walk.proofs.Blocks.{walking_start, end-few, weights_few, word-inside, walking_room}
 use Rattle.walk.proofs.Blocks.{walking_work, lanes_planes, rounds_fit, decided_fit, walking_next}
 use Rattle.walk.proofs.Blocks.{walking_end}
 use Rattle.walk.proofs.walk.visit_all.Goals as goal
 
--- ---- the needs
 pub none-requires : goal.none-requires
 none-requires c =
     sound-formulas _ _ _ _ c.requires.0.is-sound
@@ -47,19 +43,15 @@ run-block-requires c =
 
 pub overflow_add-rounds : goal.overflow_add-rounds
 overflow_add-rounds c =
-    omega (
-      arith,
-      rounds_fit c.requires.0 c.loop-s.invariant c.loop-s-test.true c.lanes_of-m.ensures
-          (c.fill-next.ensures _ c.loop-s.invariant.added_is).0 c.run-block.ensures,
-    )
+    let x = c.fill-next.ensures _ c.loop-s.invariant.added_is in
+    omega (arith, rounds_fit c.requires.0 c.loop-s.invariant c.loop-s-test.true c.lanes_of-m.ensures x.0
+        c.run-block.ensures)
 
 pub overflow_add-decided : goal.overflow_add-decided
 overflow_add-decided c =
-    omega (
-      arith,
-      decided_fit c.requires.0 c.loop-s.invariant c.loop-s-test.true c.lanes_of-m.ensures
-          (c.fill-next.ensures _ c.loop-s.invariant.added_is).0 c.run-block.ensures,
-    )
+    let x = c.fill-next.ensures _ c.loop-s.invariant.added_is in
+    omega (arith, decided_fit c.requires.0 c.loop-s.invariant c.loop-s-test.true c.lanes_of-m.ensures x.0
+        c.run-block.ensures)
 
 pub explaining-e-requires : goal.explaining-e-requires
 explaining-e-requires c =

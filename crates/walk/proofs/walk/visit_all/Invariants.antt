@@ -1,17 +1,8 @@
 -- `visit_all` meets its contract: a block is filled, settled, judged and visited, the cheapest is chosen, and the walk
 -- stands 64 settings on (`Walking`). The measure is the settings to come. Assumes nothing.
-use mathlib.Core.Path.{refl}
 use Prim.Native.Nat.{◌-◌}
-use native.Mathlib.Omega.{arith}
-use lib.ListN.{get_or-replicate}
-use borrow.Author.Rules.{rules}
-use Rattle.program.proofs.Soundness.{sound-formulas}
 use Rattle.lanes.proofs.LaneRounds.{sums}
-use Rattle.verdict.proofs.Leaving.{list_kept}
-use Rattle.walk.proofs.Bounds.{constraints_fit}
-use Rattle.walk.proofs.Blocks.{Walking, walking_start, end-few, weights_few, word-inside, walking_room}
-use Rattle.walk.proofs.Blocks.{walking_work, lanes_planes, rounds_fit, decided_fit, walking_next}
-use Rattle.walk.proofs.Blocks.{walking_end}
+use Rattle.walk.proofs.Blocks.{Walking}
 use Rattle.walk.proofs.walk.visit_all.Given as goal
 
 abbrev pub invariant-loop-s : goal.invariant-loop-s

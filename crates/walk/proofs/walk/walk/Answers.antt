@@ -7,7 +7,6 @@ use Rattle.walk.proofs.Bounds.{clauses_fit}
 use Rattle.verdict.proofs.Leaving.{list_kept, work_kept}
 use Rattle.walk.proofs.walk.walk.Goals as goal
 
--- ---- the needs
 pub prepare-opening-requires : goal.prepare-opening-requires
 prepare-opening-requires c =
     let p = c.requires.0 in
