@@ -23,7 +23,8 @@ RingSaid st l = RingIn (case_said st) (clause_table st) l
 
 unfoldable pub layers_said : List ℕ → Said → List ℕ
 layers_said l st =
-    pick (layered_said st) (numbers_text (name_of st) (numbers_in (case_said st) (clause_table st))) (ring_text (name_of st) l)
+    pick (layered_said st) (numbers_text (name_of st) (numbers_in (case_said st) (clause_table st)))
+    (ring_text (name_of st) l)
 
 abbrev pub layers_text : List ℕ → List ℕ → List ℕ
 layers_text l f = file_text (layers_said l) f

@@ -45,48 +45,48 @@ abbrev low : List Row
 low = m1 ∷ m1_overridden ∷ both_or_neither ∷ m2 ∷ m3 ∷ []
 
 low_rows : results low ≡ expected low
-unfolding ones ones_in has word value_of literals_below nodes with_node spelled formula_of clause_at clauses_of added_below
-    heads_of causes_among assumed_only causes_in causes_of atoms_from choices_for product digits digit_of settings_of additions_of
-    few_settings bodies_of
-    some_true all_false next_value step rounds round_count settled observed_true all_met explains_under set_explains subset_of
-    proper_of some_proper minimal minimals_below sum true_in_all false_in_all verdict_of verdicts_of list_of
-    nodes_of is_word_byte is_allowed all_of same_bytes lines_from is_comment tokens_from padded names_from some_long place_of
-    with_name with_names rows_of node_of begins_with_letter depth_of with_form items_of literals_of line_of some_on atoms_by
-    encoded_by said_by look_refusal form_refusal line_refusal said_after clause_words ending read_lines read_file constraint_words
-    formula_parts is_sentence are_named is_line number_from is_number flat_words supplement has_cost price_in prices_of
-    is_second_cost last_or cost_of cheaper cheapest_of lowest_cost
+unfolding ones ones_in has word value_of literals_below nodes with_node spelled formula_of clause_at clauses_of
+    added_below heads_of causes_among assumed_only causes_in causes_of atoms_from choices_for product digits
+    digit_of settings_of additions_of few_settings bodies_of some_true all_false next_value step rounds round_count
+    settled observed_true all_met explains_under set_explains subset_of proper_of some_proper minimal minimals_below
+    sum true_in_all false_in_all verdict_of verdicts_of list_of nodes_of is_word_byte is_allowed all_of same_bytes
+    lines_from is_comment tokens_from padded names_from some_long place_of with_name with_names rows_of node_of
+    begins_with_letter depth_of with_form items_of literals_of line_of some_on atoms_by encoded_by said_by
+    look_refusal form_refusal line_refusal said_after clause_words ending read_lines read_file constraint_words
+    formula_parts is_sentence are_named is_line number_from is_number flat_words supplement has_cost price_in
+    prices_of is_second_cost last_or cost_of cheaper cheapest_of lowest_cost
 low_rows = refl
 
 abbrev middle : List Row
 middle = m4 ∷ m4_priced ∷ m5 ∷ []
 
 middle-rows : results middle ≡ expected middle
-unfolding ones ones_in has word value_of literals_below nodes with_node spelled formula_of clause_at clauses_of added_below
-    heads_of causes_among assumed_only causes_in causes_of atoms_from choices_for product digits digit_of settings_of additions_of
-    few_settings bodies_of
-    some_true all_false next_value step rounds round_count settled observed_true all_met explains_under set_explains subset_of
-    proper_of some_proper minimal minimals_below sum true_in_all false_in_all verdict_of verdicts_of list_of
-    nodes_of is_word_byte is_allowed all_of same_bytes lines_from is_comment tokens_from padded names_from some_long place_of
-    with_name with_names rows_of node_of begins_with_letter depth_of with_form items_of literals_of line_of some_on atoms_by
-    encoded_by said_by look_refusal form_refusal line_refusal said_after clause_words ending read_lines read_file constraint_words
-    formula_parts is_sentence are_named is_line number_from is_number flat_words supplement has_cost price_in prices_of
-    is_second_cost last_or cost_of cheaper cheapest_of lowest_cost
+unfolding ones ones_in has word value_of literals_below nodes with_node spelled formula_of clause_at clauses_of
+    added_below heads_of causes_among assumed_only causes_in causes_of atoms_from choices_for product digits
+    digit_of settings_of additions_of few_settings bodies_of some_true all_false next_value step rounds round_count
+    settled observed_true all_met explains_under set_explains subset_of proper_of some_proper minimal minimals_below
+    sum true_in_all false_in_all verdict_of verdicts_of list_of nodes_of is_word_byte is_allowed all_of same_bytes
+    lines_from is_comment tokens_from padded names_from some_long place_of with_name with_names rows_of node_of
+    begins_with_letter depth_of with_form items_of literals_of line_of some_on atoms_by encoded_by said_by
+    look_refusal form_refusal line_refusal said_after clause_words ending read_lines read_file constraint_words
+    formula_parts is_sentence are_named is_line number_from is_number flat_words supplement has_cost price_in
+    prices_of is_second_cost last_or cost_of cheaper cheapest_of lowest_cost
 middle-rows = refl
 
 abbrev high : List Row
 high = m6 ∷ m6_avoid ∷ m7 ∷ m8 ∷ m9 ∷ m10 ∷ []
 
 high-rows : results high ≡ expected high
-unfolding ones ones_in has word value_of literals_below nodes with_node spelled formula_of clause_at clauses_of added_below
-    heads_of causes_among assumed_only causes_in causes_of atoms_from choices_for product digits digit_of settings_of additions_of
-    few_settings bodies_of
-    some_true all_false next_value step rounds round_count settled observed_true all_met explains_under set_explains subset_of
-    proper_of some_proper minimal minimals_below sum true_in_all false_in_all verdict_of verdicts_of list_of
-    nodes_of is_word_byte is_allowed all_of same_bytes lines_from is_comment tokens_from padded names_from some_long place_of
-    with_name with_names rows_of node_of begins_with_letter depth_of with_form items_of literals_of line_of some_on atoms_by
-    encoded_by said_by look_refusal form_refusal line_refusal said_after clause_words ending read_lines read_file constraint_words
-    formula_parts is_sentence are_named is_line number_from is_number flat_words supplement has_cost price_in prices_of
-    is_second_cost last_or cost_of cheaper cheapest_of lowest_cost
+unfolding ones ones_in has word value_of literals_below nodes with_node spelled formula_of clause_at clauses_of
+    added_below heads_of causes_among assumed_only causes_in causes_of atoms_from choices_for product digits
+    digit_of settings_of additions_of few_settings bodies_of some_true all_false next_value step rounds round_count
+    settled observed_true all_met explains_under set_explains subset_of proper_of some_proper minimal minimals_below
+    sum true_in_all false_in_all verdict_of verdicts_of list_of nodes_of is_word_byte is_allowed all_of same_bytes
+    lines_from is_comment tokens_from padded names_from some_long place_of with_name with_names rows_of node_of
+    begins_with_letter depth_of with_form items_of literals_of line_of some_on atoms_by encoded_by said_by
+    look_refusal form_refusal line_refusal said_after clause_words ending read_lines read_file constraint_words
+    formula_parts is_sentence are_named is_line number_from is_number flat_words supplement has_cost price_in
+    prices_of is_second_cost last_or cost_of cheaper cheapest_of lowest_cost
 high-rows = refl
 
 pub marked-rows : MarkedRows

@@ -103,6 +103,10 @@ module _ {k : Counts} {v : ℕ → Value} where
   }
 
   module _ {r : Counts} {left : ℕ} (t : Telling k v r left) where
+    -- a query to come is asked
+    pub telling-asked : {q : ℕ} → BitOf left q → BitOf (bit_or k.follows k.denied) q
+    telling-asked {q} b = record { small = b.small; there = t.left-asked q b.there }
+
     -- query q is told
     next : {q : ℕ} (x : Value) → BitOf left q → x ≡ v q → Telling k v (told_with r q x) (without_bit left q)
     next {q} x b e = record {

@@ -1,4 +1,4 @@
--- Answers to the goals of this function. Assumes nothing.
+-- The goals of `cover`: its loop keeps the invariant, and ends with the settings covered. Assumes nothing.
 use mathlib.Core.Path.{refl, sym, subst}
 use mathlib.Core.List.{List}
 use Prim.Native.Nat.{ℕ, ◌<◌}
@@ -32,11 +32,9 @@ bounds-row-b-in-loop-word c = omega arith
 
 pub loop-word-smaller : goal.loop-word-smaller
 loop-word-smaller c =
-    let the_within : c.args.b < length c.args.row.now =
-    omega (arith, c.requires.0) in
-    let the_stands : let a = c.args in Stands a.row.now a.b a.e a.causes a.weights.now a.x.now a.y.now c.loop-word.row c.loop-word.word =
-    c.loop-word.invariant.2 c.args.row.now (the_within) refl in
-    stands_less (the_within) (the_stands) c.dropped-larger.ensures (omega arith) (omega arith) c.if-all-word.false
+    let w : c.args.b < length c.args.row.now = omega (arith, c.requires.0) in
+    stands_less w (c.loop-word.invariant.2 c.args.row.now w refl) c.dropped-larger.ensures (omega arith) (omega arith)
+    c.if-all-word.false
 
 pub loop-word-preserved : goal.loop-word-preserved
 loop-word-preserved c =
@@ -48,8 +46,6 @@ loop-word-preserved c =
 
 pub returns : goal.returns
 returns c =
-    let the_within : c.args.b < length c.args.row.now =
-    omega (arith, c.requires.0) in
-    let the_stands : let a = c.args in Stands a.row.now a.b a.e a.causes a.weights.now a.x.now a.y.now c.loop-word.row c.loop-word.word =
-    c.loop-word.invariant.2 c.args.row.now (the_within) refl in
-    stands_end (the_within) (the_stands) c.dropped-larger.ensures c.requires.0 c.if-all-word.true
+    let w : c.args.b < length c.args.row.now = omega (arith, c.requires.0) in
+    stands_end w (c.loop-word.invariant.2 c.args.row.now w refl) c.dropped-larger.ensures c.requires.0
+    c.if-all-word.true

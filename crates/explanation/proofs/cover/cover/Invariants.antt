@@ -11,7 +11,8 @@ use Rattle.explanation.proofs.cover.cover.Given as goal
 -- row₀ is the row at the loop's start, whose word b is e; r is the row at entry
 abbrev pub invariant-loop-word : goal.invariant-loop-word
 invariant-loop-word l = (length l.row ≡ 1848) × (l.word < 2 ^ 64)
-    × ((r : List ℕ) → l.b < length r → l.initial.row ≡ set r l.b l.e → Stands r l.b l.e l.causes l.weights l.x l.y l.row l.word)
+    × ((r : List ℕ) → l.b < length r → l.initial.row ≡ set r l.b l.e
+    → Stands r l.b l.e l.causes l.weights l.x l.y l.row l.word)
 
 abbrev pub decreases-loop-word : goal.decreases-loop-word
 decreases-loop-word l = 64 - ones l.word

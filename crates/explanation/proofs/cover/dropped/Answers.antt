@@ -1,7 +1,5 @@
--- Answers to the goals of this function. Assumes nothing.
-use Prim.Native.Nat.{◌*◌, ◌≤◌}
+-- The goals of `dropped`: no place below the row's first is read, and its loop keeps the invariant. Assumes nothing.
 use native.Mathlib.Omega.{arith}
-use lib.ListN.{get_or}
 use Rattle.words.proofs.BitWalks.{without_less}
 use Rattle.explanation.proofs.Rows.{dropping_start, dropping_next, dropping_end}
 use Rattle.explanation.proofs.cover.dropped.Goals as goal
@@ -11,33 +9,23 @@ loop-left-init c = dropping_start
 
 pub overflow_sub-place : goal.overflow_sub-place
 overflow_sub-place c =
-    let the_low : let a = c.args in 2 * get_or a.weights.now c.lowest_bit-a.result 0 ≤ a.place =
-    c.requires.1 _ (c.loop-left.invariant.within _ c.lowest_bit-a.ensures.bit) in
-    omega (arith, the_low)
+    omega (arith, c.requires.1 _ (c.loop-left.invariant.within _ c.lowest_bit-a.ensures.bit))
 
 pub bits-requires : goal.bits-requires
 bits-requires c =
-    let the_low : let a = c.args in 2 * get_or a.weights.now c.lowest_bit-a.result 0 ≤ a.place =
-    c.requires.1 _ (c.loop-left.invariant.within _ c.lowest_bit-a.ensures.bit) in
-    omega (arith, the_low)
+    omega (arith, c.requires.1 _ (c.loop-left.invariant.within _ c.lowest_bit-a.ensures.bit))
 
 pub overflow_mul-w : goal.overflow_mul-w
 overflow_mul-w c =
-    let the_low : let a = c.args in 2 * get_or a.weights.now c.lowest_bit-a.result 0 ≤ a.place =
-    c.requires.1 _ (c.loop-left.invariant.within _ c.lowest_bit-a.ensures.bit) in
-    omega (arith, the_low)
+    omega (arith, c.requires.1 _ (c.loop-left.invariant.within _ c.lowest_bit-a.ensures.bit))
 
 pub overflow_sub-place-in-loop-left : goal.overflow_sub-place-in-loop-left
 overflow_sub-place-in-loop-left c =
-    let the_low : let a = c.args in 2 * get_or a.weights.now c.lowest_bit-a.result 0 ≤ a.place =
-    c.requires.1 _ (c.loop-left.invariant.within _ c.lowest_bit-a.ensures.bit) in
-    omega (arith, the_low)
+    omega (arith, c.requires.1 _ (c.loop-left.invariant.within _ c.lowest_bit-a.ensures.bit))
 
 pub bits-requires-in-loop-left : goal.bits-requires-in-loop-left
 bits-requires-in-loop-left c =
-    let the_low : let a = c.args in 2 * get_or a.weights.now c.lowest_bit-a.result 0 ≤ a.place =
-    c.requires.1 _ (c.loop-left.invariant.within _ c.lowest_bit-a.ensures.bit) in
-    omega (arith, the_low)
+    omega (arith, c.requires.1 _ (c.loop-left.invariant.within _ c.lowest_bit-a.ensures.bit))
 
 pub loop-left-smaller : goal.loop-left-smaller
 loop-left-smaller c =

@@ -1,4 +1,4 @@
--- Answers to the goals of this function. Assumes nothing.
+-- The goals of `all_met`: its loop keeps the invariant, and ends with every constraint passed. Assumes nothing.
 use native.Mathlib.Omega.{arith}
 use borrow.Author.Rules.{rules}
 use Rattle.explanation.proofs.Explaining.{passing_start, passing_next, passing_end}

@@ -1,4 +1,4 @@
--- Answers to the goals of this function. Assumes nothing.
+-- The goals of `weigh`: its loop keeps the invariant, and ends with every cause weighed. Assumes nothing.
 use native.Mathlib.Omega.{arith}
 use Rattle.words.proofs.BitWalks.{without_less}
 use Rattle.explanation.proofs.Weighing.{weighed_start, weight-few, weighed_next, weighed_end}

@@ -1,14 +1,13 @@
--- Answers to the goals of this function. Assumes nothing.
+-- The goals of `hold`: only queries that are asked are valued, and its loop keeps the invariant. Assumes nothing.
 use mathlib.Core.Path.{ap, ◌∙◌}
 use native.Mathlib.Omega.{arith}
-use Rattle.words.specs.OneBit.{BitOf}
 use Rattle.words.proofs.BitWalks.{without_less}
 use Rattle.logic.specs.declared.interpretation.Interpretation.{Interpretation}
 use Rattle.planes.specs.Planes.{column}
 use Rattle.verdict.specs.Counting.{counts_with}
 use Rattle.verdict.specs.Lane.{query_under}
-use Rattle.verdict.proofs.Holding.{telling_start, telling_next, telling_end}
-use Rattle.verdict.proofs.Asking.{asked, asked-nodes, asked-formula}
+use Rattle.verdict.proofs.Holding.{telling_start, telling-asked, telling_next, telling_end}
+use Rattle.verdict.proofs.Asking.{asked-nodes, asked-formula}
 use Rattle.verdict.proofs.query.hold.Goals as goal
 
 pub returns-then-left-eq0 : goal.returns-then-left-eq0
@@ -23,41 +22,25 @@ loop-left-init c = telling_start (omega arith) (omega arith)
 
 pub query_value-requires : goal.query_value-requires
 query_value-requires c =
-    let the_lowest : BitOf c.loop-left.left c.lowest_bit-q.result =
-    c.lowest_bit-q.ensures.bit in
-    let the_bit_asked : BitOf (asked c.args.counts) c.lowest_bit-q.result =
-    record {
-      small = (the_lowest).small;
-      there = c.loop-left.invariant.left-asked _ (the_lowest).there;
-    } in
     let p = c.requires.2 in
-    let b = the_bit_asked in
+    let b = telling-asked c.loop-left.invariant c.lowest_bit-q.ensures.bit in
     (p.asked-few _ b, asked-nodes p b, p.table-long)
 
 pub with-told-requires : goal.with-told-requires
-with-told-requires c =
-    let the_lowest : BitOf c.loop-left.left c.lowest_bit-q.result =
-    c.lowest_bit-q.ensures.bit in
-    (the_lowest).small
+with-told-requires c = c.lowest_bit-q.ensures.bit.small
 
 pub loop-left-smaller : goal.loop-left-smaller
 loop-left-smaller c =
-    let the_lowest : BitOf c.loop-left.left c.lowest_bit-q.result =
-    c.lowest_bit-q.ensures.bit in
-    rw (c.without_lowest-left.ensures _ c.lowest_bit-q.ensures) (without_less _ _ (the_lowest))
+    let h = c.lowest_bit-q.ensures in
+    rw (c.without_lowest-left.ensures _ h) (without_less _ _ h.bit)
 
 pub loop-left-preserved : goal.loop-left-preserved
 loop-left-preserved c =
-    let the_lowest : BitOf c.loop-left.left c.lowest_bit-q.result =
-    c.lowest_bit-q.ensures.bit in
-    let the_bit_asked : BitOf (asked c.args.counts) c.lowest_bit-q.result =
-    record {
-      small = (the_lowest).small;
-      there = c.loop-left.invariant.left-asked _ (the_lowest).there;
-    } in
-    telling_next c.loop-left.invariant (the_lowest)
-    (c.query_value.ensures c.requires.2.atoms (asked-formula c.requires.2 (the_bit_asked)))
-    c.with-told.ensures (c.without_lowest-left.ensures _ c.lowest_bit-q.ensures)
+    let h = c.lowest_bit-q.ensures in
+    let b = telling-asked c.loop-left.invariant h.bit in
+    telling_next c.loop-left.invariant h.bit
+    (c.query_value.ensures c.requires.2.atoms (asked-formula c.requires.2 b))
+    c.with-told.ensures (c.without_lowest-left.ensures _ h)
 
 pub returns : goal.returns
 returns c =

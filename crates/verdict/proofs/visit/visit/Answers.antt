@@ -1,4 +1,4 @@
--- Answers to the goals of this function. Assumes nothing.
+-- The goals of `visit`: its loop keeps the invariant, and ends with every lane visited. Assumes nothing.
 use native.Mathlib.Omega.{arith}
 use Rattle.verdict.proofs.Visiting.{visiting_start, visiting_next, visiting_end}
 use Rattle.verdict.proofs.visit.visit.Goals as goal

@@ -1,4 +1,4 @@
--- Answers to the goals of this function. Assumes nothing.
+-- The goals of `verdicts`: its loop keeps the invariant, and ends with every query numbered. Assumes nothing.
 use native.Mathlib.Omega.{arith}
 use Rattle.verdict.proofs.Numbers.{numbered-none, numbered_more, numbered-all}
 use Rattle.verdict.proofs.counts.Counts.verdicts.Goals as goal
