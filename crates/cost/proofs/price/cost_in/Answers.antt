@@ -13,9 +13,9 @@ overflow_add-cost c =
     let a = c.args in
     let i = c.lowest_bit-a.result in
     let price : c.price_if-cost.result ≡ price_at a.prices.now a.x.now a.y.now a.j i =
-        price-is a.prices.now a.x.now a.y.now a.j i c.test-added.ensures c.price_if-cost.ensures in
+    price-is a.prices.now a.x.now a.y.now a.j i c.test-added.ensures c.price_if-cost.ensures in
     let few = paying_few c.loop-left.invariant c.lowest_bit-a.ensures.bit price
-        (λ k. omega (arith, c.type_inv.prices k)) in
+    (λ k. omega (arith, c.type_inv.prices k)) in
     omega (arith, few)
 
 pub loop-left-smaller : goal.loop-left-smaller
@@ -28,7 +28,7 @@ loop-left-preserved c =
     let a = c.args in
     let i = c.lowest_bit-a.result in
     let price : c.price_if-cost.result ≡ price_at a.prices.now a.x.now a.y.now a.j i =
-        price-is a.prices.now a.x.now a.y.now a.j i c.test-added.ensures c.price_if-cost.ensures in
+    price-is a.prices.now a.x.now a.y.now a.j i c.test-added.ensures c.price_if-cost.ensures in
     let b = c.lowest_bit-a.ensures in
     rw (c.without_lowest-left.ensures _ b) (paying_next c.loop-left.invariant b.bit price)
 

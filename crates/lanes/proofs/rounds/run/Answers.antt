@@ -39,9 +39,9 @@ decided_in-decided-requires c =
 pub overflow_add-total : goal.overflow_add-total
 overflow_add-total c =
     let counted : c.count-total.result ≡ ones (bit_and c.loop-c.c.lanes c.lowest-valid.result) =
-        c.count-total.ensures in
+    c.count-total.ensures in
     let total = settling_total _ _ _ _ c.requires.5 _ _ _ _ _ c.loop-c.invariant.0 c.lowest-valid.result
-        (omega arith) (omega arith) in
+    (omega arith) (omega arith) in
     omega (arith, counted, total)
 
 pub touched-heads-requires : goal.touched-heads-requires
@@ -57,25 +57,25 @@ redo-c-requires c =
 pub overflow_add-k : goal.overflow_add-k
 overflow_add-k c =
     let few : c.loop-c.k < 64 =
-        settling_few _ _ _ _ c.requires.5 _ _ _ _ _ c.loop-c.invariant.0 (omega arith) (λ e. omega arith) in
+    settling_few _ _ _ _ c.requires.5 _ _ _ _ _ c.loop-c.invariant.0 (omega arith) (λ e. omega arith) in
     omega (arith, few)
 
 pub loop-c-smaller : goal.loop-c-smaller
 loop-c-smaller c =
     let few : c.loop-c.k < 64 =
-        settling_few _ _ _ _ c.requires.5 _ _ _ _ _ c.loop-c.invariant.0 (omega arith) (λ e. omega arith) in
+    settling_few _ _ _ _ c.requires.5 _ _ _ _ _ c.loop-c.invariant.0 (omega arith) (λ e. omega arith) in
     omega (arith, few)
 
 pub loop-c-preserved : goal.loop-c-preserved
 loop-c-preserved c =
     let counted : c.count-total.result ≡ ones (bit_and c.loop-c.c.lanes c.lowest-valid.result) =
-        c.count-total.ensures in
+    c.count-total.ensures in
     let heads : c.touched-heads.result ≡ touched_from c.args.clauses.now c.args.n c.loop-c.c.atoms =
-        c.touched-heads.ensures ∙ touched-from _ _ c.args.dependents.now c.requires.0.dependents_are _ in
+    c.touched-heads.ensures ∙ touched-from _ _ c.args.dependents.now c.requires.0.dependents_are _ in
     let valid = c.lowest-valid.ensures in
     let e = c.redo-c.ensures in
     let next = settling_next _ _ _ _ c.requires.5 _ _ _ _ _ c.loop-c.invariant.0 _ _ _ _ _ (omega arith)
-        (omega arith) valid heads e.sizes.0 e.redone in
+    (omega arith) valid heads e.sizes.0 e.redone in
     (rw counted next, e.sizes.1)
 
 pub returns : goal.returns

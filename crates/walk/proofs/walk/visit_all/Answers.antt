@@ -44,14 +44,20 @@ run-block-requires c =
 pub overflow_add-rounds : goal.overflow_add-rounds
 overflow_add-rounds c =
     let x = c.fill-next.ensures _ c.loop-s.invariant.added_is in
-    omega (arith, rounds_fit c.requires.0 c.loop-s.invariant c.loop-s-test.true c.lanes_of-m.ensures x.0
-        c.run-block.ensures)
+    omega (
+      arith,
+      rounds_fit c.requires.0 c.loop-s.invariant c.loop-s-test.true c.lanes_of-m.ensures x.0
+          c.run-block.ensures,
+    )
 
 pub overflow_add-decided : goal.overflow_add-decided
 overflow_add-decided c =
     let x = c.fill-next.ensures _ c.loop-s.invariant.added_is in
-    omega (arith, decided_fit c.requires.0 c.loop-s.invariant c.loop-s-test.true c.lanes_of-m.ensures x.0
-        c.run-block.ensures)
+    omega (
+      arith,
+      decided_fit c.requires.0 c.loop-s.invariant c.loop-s-test.true c.lanes_of-m.ensures x.0
+          c.run-block.ensures,
+    )
 
 pub explaining-e-requires : goal.explaining-e-requires
 explaining-e-requires c =
