@@ -4,10 +4,13 @@
 
 ghost use Rattle.std.specs.Prelude.{◌<◌, length, take};
 ghost use Rattle.std.specs.Counts.{IsPrefixLen};
-ghost use Rattle.causes.specs.Program.{Answered, ReportOf};
+ghost use Rattle.system.specs.Writing.{WritesText};
+ghost use Rattle.input.specs.Answering.{IsAnswered};
+ghost use Rattle.causes.specs.Program.{Answered, IsReport, ReportOf, WritesReport};
 
-use input::{Input, read_input};
-use libc::{STDERR_FILENO, STDOUT_FILENO};
+use input::{Fault, Input, end, read_input};
+use std::io::{self, Read, Write};
+use system::{argument_count, tell_fault, write_whole};
 
 // Room for a byte more than a file may have (refusal 2), for the report of ten causes and less, and for every report
 // (crates/report/specs/Claims.antt).
@@ -25,53 +28,61 @@ fn answer(file: &[u8], out: &mut [u8; REPORT_ROOM]) -> usize
     a.length
 }
 
-// Writes to standard output a text that is the report of the input. The buffer and what reading gave only say of which.
-fn write_report(file: &[u8], input: Input, text: &[u8]) -> bool
+// Writes a text that is the report of the input. The buffer and what reading gave only say of which.
+fn write_report<W: Write>(to: &mut W, file: &[u8], input: Input, text: &[u8]) -> io::Result<()>
     requires { ReportOf (length file.now) (take input.count file.now) text.now }
+    ensures { WritesText result (W.contents to.old) (W.contents to.new) text.now }
 {
-    io::write_all(STDOUT_FILENO, text)
+    write_whole(to, text)
 }
 
-// Writes to standard output the report of the input, whatever its length.
-fn write_long(file: &[u8], input: Input) -> bool
+// Writes the report of the input, whatever its length.
+fn write_long<W: Write>(to: &mut W, file: &[u8], input: Input) -> io::Result<()>
     requires { IsPrefixLen input.count file.now × (32768 < length file.now) }
+    ensures { WritesReport (length file.now) (take input.count file.now) result (W.contents to.old) (W.contents to.new) }
 {
     let read = input.count;
     let mut out = [0u8; REPORT_ROOM];
     let length = answer(&file[..read], &mut out);
-    write_report(file, input, &out[..length])
+    write_report(to, file, input, &out[..length])
 }
 
 // Reads the input, and writes its report.
-fn run() {
+fn run<R: Read, W: Write>(from: &mut R, to: &mut W) -> Result<(), Fault>
+    ensures { IsAnswered IsReport (R.remaining from.old) result (W.contents to.old) (W.contents to.new) }
+{
     let mut file = [0u8; FILE_ROOM];
-    let input = read_input(&mut file);
+    let input = read_input(from, &mut file);
     let n = input.count;
-    if input.failed {
-        os::fail(b"causes: standard input");
-        return;
+    if let Some(error) = input.fault {
+        return Err(Fault::Input(error));
     }
     let mut out = [0u8; USUAL_ROOM];
     let a = report::operation::report(&file[..n], &mut out);
-    if a.refusal != 0 {
-        if !write_long(&file, input) {
-            os::fail(b"causes: standard output");
-        }
-        return;
+    let is_long = a.refusal != 0;
+    if is_long {
+        return end(write_long(to, &file, input));
     }
     let length = a.length;
-    if !write_report(&file, input, &out[..length]) {
-        os::fail(b"causes: standard output");
-    }
+    end(write_report(to, &file, input, &out[..length]))
 }
 
-fn main() {
-    if os::arg_count() > 1 {
-        io::write_all(
-            STDERR_FILENO,
+fn main(rt: HostRuntime) {
+    let mut errors = rt.stderr();
+    if argument_count(&rt) > 1 {
+        let _ = write_whole(
+            &mut errors,
             b"causes: takes no argument, call it so: causes < FILE\n",
         );
         return;
     }
-    run()
+    match run(&mut rt.stdin(), &mut rt.stdout()) {
+        Ok(()) => {}
+        Err(Fault::Input(error)) => {
+            let _ = tell_fault(&mut errors, "causes: standard input", error);
+        }
+        Err(Fault::Output(error)) => {
+            let _ = tell_fault(&mut errors, "causes: standard output", error);
+        }
+    }
 }

@@ -3,14 +3,14 @@
 // or a line cannot be written, it says so on standard error and ends.
 #![tactic(auto)]
 
-ghost use Rattle.std.specs.Prelude.{◌≤◌, OnOk};
-ghost use Rattle.std.specs.Io.KnownBytes.{Appends};
+ghost use Rattle.std.specs.Prelude.{◌≤◌};
+ghost use Rattle.system.specs.Writing.{WritesText};
 ghost use Rattle.compare.specs.Program.{outcome_line};
 
 use names::compare::{Compared, compare};
 use std::env::Env;
 use std::io::{self, Write};
-use system::{argument, argument_count, tell};
+use system::{argument, argument_count, tell_fault, write_whole};
 
 // How the first e bytes of a word compare with row 1.
 fn compare_row(names: &[u8; 1024], word: &[u8; 32], e: usize) -> Compared
@@ -21,12 +21,12 @@ fn compare_row(names: &[u8; 1024], word: &[u8; 32], e: usize) -> Compared
 
 // Writes the line of an outcome.
 fn write_outcome<W: Write>(to: &mut W, c: Compared) -> io::Result<()>
-    ensures { OnOk result (Appends (W.contents to.old) (W.contents to.new) (outcome_line c)) }
+    ensures { WritesText result (W.contents to.old) (W.contents to.new) (outcome_line c) }
 {
     match c {
-        Compared::EndsDiffer => to.write_all(b"ends differ\n"),
-        Compared::Another => to.write_all(b"another\n"),
-        Compared::Same => to.write_all(b"same\n"),
+        Compared::EndsDiffer => write_whole(to, b"ends differ\n"),
+        Compared::Another => write_whole(to, b"another\n"),
+        Compared::Same => write_whole(to, b"same\n"),
     }
 }
 
@@ -43,7 +43,8 @@ fn compare_pair<W: Write, E: Write>(
     let e = argument(arguments, i, &mut word);
     let n = argument(arguments, j, &mut entry);
     if e == 0 || n == 0 {
-        let _ = errors.write_all(
+        let _ = write_whole(
+            errors,
             b"compare: takes pairs of a word of 1 to 32 bytes and an entry of 1 to 16\n",
         );
         return false;
@@ -51,7 +52,7 @@ fn compare_pair<W: Write, E: Write>(
     let mut names = [b'a'; 1024];
     table::put_row(&mut names, 16, 16, &entry, 0, n);
     if let Err(error) = write_outcome(to, compare_row(&names, &word, e)) {
-        tell(errors, "compare: standard output", error);
+        let _ = tell_fault(errors, "compare: standard output", error);
         return false;
     }
     true

@@ -1,2 +1,4 @@
--- Reading: what reading standard input promises.
+-- Reading: what reading the input promises.
+-- Answering: what a program that answers its input promises.
 pub mod Reading
+pub mod Answering

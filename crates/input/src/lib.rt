@@ -1,7 +1,8 @@
-// Reading a reader, standard input above all, into a lent buffer, for the programs.
+// Reading the input, standard input above all, into a lent buffer, for the programs that answer it.
 #![tactic(auto)]
 
-ghost use Rattle.std.specs.Prelude.{◌<◌, length, take, IsNone, IsSome};
+ghost use Rattle.std.specs.Prelude.{◌≡◌, ◌<◌, length, take, IsNone, IsSome, MatchResult, Ok, Err};
+ghost use Rattle.input.specs.declared.Fault.TheVariants.{Output};
 ghost use Rattle.std.specs.Io.KnownBytes.{Consumes, IsAtEnd};
 ghost use Rattle.input.specs.Reading.{Stopped};
 
@@ -14,6 +15,23 @@ pub struct Input {
     pub count: usize,
     pub last: usize,
     pub fault: Option<io::Error>,
+}
+
+// Why a program has not answered its input: the input could not be read, or the answer not be written whole.
+#[derive(Clone, Copy)]
+pub enum Fault {
+    Input(io::Error),
+    Output(io::Error),
+}
+
+// What a program ends with, by the outcome of writing its answer.
+pub fn end(written: io::Result<()>) -> Result<(), Fault>
+    ensures { MatchResult written (λ u. result ≡ Ok u) (λ e. result ≡ Err (Output e)) }
+{
+    match written {
+        Ok(()) => Ok(()),
+        Err(error) => Err(Fault::Output(error)),
+    }
 }
 
 // Reads the input until the buffer is full, the input ends or a read fails. An interrupted read counts as a failed one.

@@ -4,10 +4,14 @@
 #![tactic(auto)]
 
 ghost use Rattle.std.specs.Prelude.{length, take};
+ghost use Rattle.system.specs.Writing.{WritesText};
+ghost use Rattle.input.specs.Answering.{IsAnswered};
+ghost use Rattle.layer_report.specs.Report.{LayersOf};
 ghost use Rattle.layers.specs.Program.{Answered, LayersRead};
 
-use input::{Input, read_input};
-use libc::{STDERR_FILENO, STDOUT_FILENO};
+use input::{Fault, Input, end, read_input};
+use std::io::{self, Read, Write};
+use system::{argument_count, tell_fault, write_whole};
 
 // Room for a byte more than a file may have (refusal 2), and for every text (crates/layer_report/specs/Claims.antt).
 const FILE_ROOM: usize = 32769;
@@ -22,36 +26,50 @@ fn answer(file: &[u8], out: &mut [u8; TEXT_ROOM]) -> usize
     a.length
 }
 
-// Writes to standard output a text that is one of the input. The buffer and what reading gave only say of which.
-fn write_text(file: &[u8; FILE_ROOM], input: Input, text: &[u8]) -> bool
+// Writes a text that is one of the input. The buffer and what reading gave only say of which.
+fn write_text<W: Write>(
+    to: &mut W,
+    file: &[u8; FILE_ROOM],
+    input: Input,
+    text: &[u8],
+) -> io::Result<()>
     requires { LayersRead (length file.now) (take input.count file.now) text.now }
+    ensures { WritesText result (W.contents to.old) (W.contents to.new) text.now }
 {
-    io::write_all(STDOUT_FILENO, text)
+    write_whole(to, text)
 }
 
 // Reads the input, and writes its text.
-fn run() {
+fn run<R: Read, W: Write>(from: &mut R, to: &mut W) -> Result<(), Fault>
+    ensures { IsAnswered LayersOf (R.remaining from.old) result (W.contents to.old) (W.contents to.new) }
+{
     let mut file = [0u8; FILE_ROOM];
-    let input = read_input(&mut file);
+    let input = read_input(from, &mut file);
     let n = input.count;
-    if input.failed {
-        os::fail(b"layers: standard input");
-        return;
+    if let Some(error) = input.fault {
+        return Err(Fault::Input(error));
     }
     let mut out = [0u8; TEXT_ROOM];
     let length = answer(&file[..n], &mut out);
-    if !write_text(&file, input, &out[..length]) {
-        os::fail(b"layers: standard output");
-    }
+    end(write_text(to, &file, input, &out[..length]))
 }
 
-fn main() {
-    if os::arg_count() > 1 {
-        io::write_all(
-            STDERR_FILENO,
+fn main(rt: HostRuntime) {
+    let mut errors = rt.stderr();
+    if argument_count(&rt) > 1 {
+        let _ = write_whole(
+            &mut errors,
             b"layers: takes no argument, call it so: layers < FILE\n",
         );
         return;
     }
-    run()
+    match run(&mut rt.stdin(), &mut rt.stdout()) {
+        Ok(()) => {}
+        Err(Fault::Input(error)) => {
+            let _ = tell_fault(&mut errors, "layers: standard input", error);
+        }
+        Err(Fault::Output(error)) => {
+            let _ = tell_fault(&mut errors, "layers: standard output", error);
+        }
+    }
 }

@@ -1,7 +1,9 @@
-// What the programs ask of the system besides their input: their arguments, and a line to standard error.
+// What the programs ask of the system besides their input: their arguments, and writing.
 #![tactic(auto)]
 
+ghost use Rattle.std.specs.Prelude.{OnOk};
 ghost use Rattle.std.specs.Counts.{IsPrefixLen};
+ghost use Rattle.system.specs.Writing.{WritesText, TellsFault};
 
 use std::env::{Env, FillError};
 use std::io::{self, Cursor, Write};
@@ -23,13 +25,31 @@ pub fn argument(env: &impl Env, i: usize, buf: &mut [u8]) -> usize
     env.arg(i, buf).unwrap_or(0)
 }
 
-// Writes a line to standard error: what failed, a colon and the words of its error.
-pub fn tell(to: &mut impl Write, what: &str, error: io::Error) {
+// Writes all of a text, or stops at the first call of write that fails or takes nothing. An interrupted one counts as
+// failed.
+pub fn write_whole<W: Write>(to: &mut W, text: &[u8]) -> io::Result<()>
+    ensures { WritesText result (W.contents to.old) (W.contents to.new) text.now }
+{
+    let mut done: usize = 0;
+    while done < text.len() {
+        let n = to.write(&text[done..])?;
+        if n == 0 {
+            return Err(io::Error::from(io::ErrorKind::WriteZero));
+        }
+        done += n;
+    }
+    Ok(())
+}
+
+// Writes a line, for standard error: what failed, a colon and the words of its error.
+pub fn tell_fault<W: Write>(to: &mut W, what: &str, error: io::Error) -> io::Result<()>
+    ensures { OnOk result (TellsFault what.now (W.contents to.old) (W.contents to.new)) }
+{
     let mut text = Cursor::new([0u8; ERROR_ROOM]);
     let _ = write!(text, "{error}");
     let length = text.position().min(ERROR_ROOM as u64) as usize;
     let words = words_of(&text.get_ref()[..length]);
-    let _ = writeln!(to, "{what}: {words}");
+    writeln!(to, "{what}: {words}")
 }
 
 // Room for the text of an error.

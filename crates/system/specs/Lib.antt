@@ -1,0 +1,2 @@
+-- Writing: what writing a text promises.
+pub mod Writing
