@@ -1,5 +1,4 @@
 -- `embed::case_in` meets its contract: six words, the counts in the 16 behind them, and the edition. Assumes nothing.
-use borrow.Author.Rules.{rules}
 use Rattle.embed.proofs.case_in.Goals as goal
 
 pub returns : goal.returns

@@ -1,6 +1,5 @@
 -- `embed::causes_generate` meets its contract: the words are too few, or what `generate` answers is put to words.
 -- Assumes nothing.
-use borrow.Author.Rules.{rules}
 use mathlib.Core.Path.{refl}
 use native.Mathlib.Omega.{arith}
 use Rattle.embed.specs.Operation.{GenerateOut}

@@ -1,6 +1,5 @@
 -- `embed::causes_question` meets its contract: words are too few, or what `ask` answers is put to words.
 -- Assumes nothing.
-use borrow.Author.Rules.{rules}
 use mathlib.Core.Path.{refl}
 use native.Mathlib.Omega.{arith}
 use Rattle.embed.specs.Operation.{QuestionOut}

@@ -1,6 +1,5 @@
 -- `embed::causes_read` meets its contract: the words are too few, or what `read` answers is put to words.
 -- Assumes nothing.
-use borrow.Author.Rules.{rules}
 use mathlib.Core.Path.{refl}
 use native.Mathlib.Omega.{arith}
 use Rattle.embed.specs.Operation.{ReadOut}

@@ -1,6 +1,5 @@
 -- `embed::causes_write` meets its contract: words are too few, or what `write` answers is put to words.
 -- Assumes nothing.
-use borrow.Author.Rules.{rules}
 use mathlib.Core.Path.{refl}
 use native.Mathlib.Omega.{arith}
 use Rattle.embed.specs.Operation.{WriteOut}

@@ -1,5 +1,4 @@
 -- `embed::put_asked` meets its contract: the verdict numbers, and six words behind them. Assumes nothing.
-use borrow.Author.Rules.{rules}
 use native.Mathlib.Omega.{arith}
 use Rattle.embed.proofs.Exports.{asked_put}
 use Rattle.embed.proofs.put_asked.Goals as goal

@@ -1,6 +1,5 @@
 -- `embed::put_found` meets its contract: the line and six words of the record, and the others behind them.
 -- Assumes nothing.
-use borrow.Author.Rules.{rules}
 use Rattle.embed.proofs.Exports.{found_put}
 use Rattle.embed.proofs.put_found.Goals as goal
 

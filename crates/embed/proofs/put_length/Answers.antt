@@ -1,5 +1,4 @@
 -- `embed::put_length` meets its contract: the word is the length of the answer. Assumes nothing.
-use borrow.Author.Rules.{rules}
 use Rattle.embed.proofs.put_length.Goals as goal
 
 pub returns : goal.returns

@@ -1,5 +1,4 @@
 -- `embed::put_nodes` meets its contract: the node counts, and the edition behind them. Assumes nothing.
-use borrow.Author.Rules.{rules}
 use native.Mathlib.Omega.{arith}
 use Rattle.embed.proofs.Exports.{nodes_put}
 use Rattle.embed.proofs.put_nodes.Goals as goal

@@ -1,5 +1,4 @@
 -- `embed::put_settled` meets its contract: the four words are those of the answer. Assumes nothing.
-use borrow.Author.Rules.{rules}
 use Rattle.embed.proofs.put_settled.Goals as goal
 
 pub returns : goal.returns

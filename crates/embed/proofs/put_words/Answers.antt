@@ -1,10 +1,7 @@
 -- Answers to the goals of this function. Assumes nothing.
-use borrow.Author.Rules.{rules}
 use mathlib.Core.Path.{refl}
-use Prim.Native.Nat.{◌-◌}
 use native.Mathlib.Omega.{arith}
-use lib.ListN.{length}
-use Rattle.embed.proofs.Putting.{InFront, in_front_none, in_front_more, in_front_all}
+use Rattle.embed.proofs.Putting.{in_front_none, in_front_more, in_front_all}
 use Rattle.embed.proofs.put_words.Goals as goal
 
 pub loop-i-init : goal.loop-i-init
