@@ -5,8 +5,5 @@ use native.Mathlib.Omega.{arith}
 use Rattle.embed.specs.Operation.{GenerateOut}
 use Rattle.embed.proofs.causes_generate.Goals as goal
 
-pub returns-then-answer-lt-LENGTH_WORDS : goal.returns-then-answer-lt-LENGTH_WORDS
-returns-then-answer-lt-LENGTH_WORDS c = GenerateOut.short (omega arith) refl refl refl
-
 pub returns : goal.returns
-returns c = search GenerateOut.done
+returns c = GenerateOut.done (omega arith) _ c.generate-a.ensures refl c.put_length.ensures

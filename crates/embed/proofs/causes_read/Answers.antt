@@ -5,8 +5,5 @@ use native.Mathlib.Omega.{arith}
 use Rattle.embed.specs.Operation.{ReadOut}
 use Rattle.embed.proofs.causes_read.Goals as goal
 
-pub returns-then-answer-lt24 : goal.returns-then-answer-lt24
-returns-then-answer-lt24 c = ReadOut.short (omega arith) refl refl refl
-
 pub returns : goal.returns
-returns c = search ReadOut.done
+returns c = ReadOut.done (omega arith) _ c.read-a.ensures refl c.put_found.ensures

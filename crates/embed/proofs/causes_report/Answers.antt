@@ -5,8 +5,5 @@ use native.Mathlib.Omega.{arith}
 use Rattle.embed.specs.Operation.{ReportOut}
 use Rattle.embed.proofs.causes_report.Goals as goal
 
-pub returns-then-answer-lt-LENGTH_WORDS : goal.returns-then-answer-lt-LENGTH_WORDS
-returns-then-answer-lt-LENGTH_WORDS c = ReportOut.short (omega arith) refl refl refl
-
 pub returns : goal.returns
-returns c = search ReportOut.done
+returns c = ReportOut.done (omega arith) _ c.report-a.ensures refl c.put_length.ensures

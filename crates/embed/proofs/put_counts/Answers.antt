@@ -1,4 +1,4 @@
--- Answers to the goals of this function. Assumes nothing.
+-- The goals of `embed::put_counts`: the counts, one after the other, are in front, and then all. Assumes nothing.
 use mathlib.Core.Path.{refl}
 use native.Mathlib.Omega.{arith}
 use Rattle.embed.proofs.Putting.{in_front_none, in_front_more, in_front_all}
