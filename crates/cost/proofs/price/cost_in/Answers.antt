@@ -1,8 +1,7 @@
 -- `cost_in` meets its contract: each atom of `priced` in turn is paid where it is added. Assumes nothing.
-use mathlib.Core.Path.{◌≡◌}
 use native.Mathlib.Omega.{arith}
 use Rattle.words.proofs.BitWalks.{without_less}
-use Rattle.cost.proofs.Costs.{price_at, price-is, paying_start, paying_next, paying_few, paying_end}
+use Rattle.cost.proofs.Costs.{price-is, paying_start, paying_next, paying_few, paying_end}
 use Rattle.cost.proofs.price.cost_in.Goals as goal
 
 pub loop-left-init : goal.loop-left-init
@@ -12,11 +11,9 @@ pub overflow_add-cost : goal.overflow_add-cost
 overflow_add-cost c =
     let a = c.args in
     let i = c.lowest_bit-a.result in
-    let price : c.price_if-cost.result ≡ price_at a.prices.now a.x.now a.y.now a.j i =
-    price-is a.prices.now a.x.now a.y.now a.j i c.test-added.ensures c.price_if-cost.ensures in
-    let few = paying_few c.loop-left.invariant c.lowest_bit-a.ensures.bit price
-    (λ k. omega (arith, c.type_inv.prices k)) in
-    omega (arith, few)
+    let price = price-is a.prices.now a.x.now a.y.now a.j i c.test-added.ensures c.price_if-cost.ensures in
+    let next = paying_few c.loop-left.invariant c.lowest_bit-a.ensures.bit price in
+    omega (arith, next (λ k. omega (arith, c.type_inv.prices k)))
 
 pub loop-left-smaller : goal.loop-left-smaller
 loop-left-smaller c =
@@ -27,8 +24,7 @@ pub loop-left-preserved : goal.loop-left-preserved
 loop-left-preserved c =
     let a = c.args in
     let i = c.lowest_bit-a.result in
-    let price : c.price_if-cost.result ≡ price_at a.prices.now a.x.now a.y.now a.j i =
-    price-is a.prices.now a.x.now a.y.now a.j i c.test-added.ensures c.price_if-cost.ensures in
+    let price = price-is a.prices.now a.x.now a.y.now a.j i c.test-added.ensures c.price_if-cost.ensures in
     let b = c.lowest_bit-a.ensures in
     rw (c.without_lowest-left.ensures _ b) (paying_next c.loop-left.invariant b.bit price)
 

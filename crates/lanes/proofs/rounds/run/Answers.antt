@@ -1,10 +1,11 @@
 -- `run` meets its contract: each round keeps `Settling`, and what it says bounds the sums. Assumes nothing.
 use mathlib.Core.Path.{◌≡◌, refl, ◌∙◌}
-use Prim.Native.Nat.{◌≤◌, ◌<◌}
+use Prim.Native.Nat.{◌≤◌}
 use native.Mathlib.Omega.{arith}
 use lib.Bits.{bit_and}
 use lib.Count.{ones}
 use borrow.Author.Rules.{rules}
+use Rattle.std.proofs.lemmas.Bool.Decides.{nat_tests}
 use Rattle.prepared.specs.Dependents.{touched_from}
 use Rattle.prepared.proofs.Filling.{dependents_words}
 use Rattle.prepared.proofs.Touching.{touched-from}
@@ -38,10 +39,10 @@ decided_in-decided-requires c =
 
 pub overflow_add-total : goal.overflow_add-total
 overflow_add-total c =
-    let counted : c.count-total.result ≡ ones (bit_and c.loop-c.c.lanes c.lowest-valid.result) =
-    c.count-total.ensures in
-    let total = settling_total _ _ _ _ c.requires.5 _ _ _ _ _ c.loop-c.invariant.0 c.lowest-valid.result
-    (omega arith) (omega arith) in
+    let valid = c.lowest-valid.result in
+    let counted : c.count-total.result ≡ ones (bit_and c.loop-c.c.lanes valid) = c.count-total.ensures in
+    let i = c.loop-c.invariant.0 in
+    let total = settling_total _ _ _ _ c.requires.5 _ _ _ _ _ i valid (omega arith) (omega arith) in
     omega (arith, counted, total)
 
 pub touched-heads-requires : goal.touched-heads-requires
@@ -56,27 +57,29 @@ redo-c-requires c =
 
 pub overflow_add-k : goal.overflow_add-k
 overflow_add-k c =
-    let few : c.loop-c.k < 64 =
-    settling_few _ _ _ _ c.requires.5 _ _ _ _ _ c.loop-c.invariant.0 (omega arith) (λ e. omega arith) in
+    let i = c.loop-c.invariant.0 in
+    let few = settling_few _ _ _ _ c.requires.5 _ _ _ _ _ i (omega arith) (λ e. grind (arith, nat_tests)) in
     omega (arith, few)
 
 pub loop-c-smaller : goal.loop-c-smaller
 loop-c-smaller c =
-    let few : c.loop-c.k < 64 =
-    settling_few _ _ _ _ c.requires.5 _ _ _ _ _ c.loop-c.invariant.0 (omega arith) (λ e. omega arith) in
+    let i = c.loop-c.invariant.0 in
+    let few = settling_few _ _ _ _ c.requires.5 _ _ _ _ _ i (omega arith) (λ e. grind (arith, nat_tests)) in
     omega (arith, few)
 
 pub loop-c-preserved : goal.loop-c-preserved
 loop-c-preserved c =
-    let counted : c.count-total.result ≡ ones (bit_and c.loop-c.c.lanes c.lowest-valid.result) =
-    c.count-total.ensures in
-    let heads : c.touched-heads.result ≡ touched_from c.args.clauses.now c.args.n c.loop-c.c.atoms =
-    c.touched-heads.ensures ∙ touched-from _ _ c.args.dependents.now c.requires.0.dependents_are _ in
-    let valid = c.lowest-valid.ensures in
+    let a = c.args in
+    let i = c.loop-c.invariant.0 in
     let e = c.redo-c.ensures in
-    let next = settling_next _ _ _ _ c.requires.5 _ _ _ _ _ c.loop-c.invariant.0 _ _ _ _ _ (omega arith)
-    (omega arith) valid heads e.sizes.0 e.redone in
-    (rw counted next, e.sizes.1)
+    let counted = c.count-total.ensures in
+    let dependents = touched-from _ _ a.dependents.now c.requires.0.dependents_are _ in
+    let heads : c.touched-heads.result ≡ touched_from a.clauses.now a.n c.loop-c.c.atoms =
+    c.touched-heads.ensures ∙ dependents in (
+      rw counted (settling_next _ _ _ _ c.requires.5 _ _ _ _ _ i _ _ _ _ _ (omega arith) (omega arith)
+          c.lowest-valid.ensures heads e.sizes.0 e.redone),
+      e.sizes.1,
+    )
 
 pub returns : goal.returns
 returns c =

@@ -43,31 +43,23 @@ run-block-requires c =
 
 pub overflow_add-rounds : goal.overflow_add-rounds
 overflow_add-rounds c =
-    let x = c.fill-next.ensures _ c.loop-s.invariant.added_is in
-    omega (
-      arith,
-      rounds_fit c.requires.0 c.loop-s.invariant c.loop-s-test.true c.lanes_of-m.ensures x.0
-          c.run-block.ensures,
-    )
+    let i = c.loop-s.invariant in
+    let x = (c.fill-next.ensures _ i.added_is).0 in
+    omega (arith, rounds_fit c.requires.0 i c.loop-s-test.true c.lanes_of-m.ensures x c.run-block.ensures)
 
 pub overflow_add-decided : goal.overflow_add-decided
 overflow_add-decided c =
-    let x = c.fill-next.ensures _ c.loop-s.invariant.added_is in
-    omega (
-      arith,
-      decided_fit c.requires.0 c.loop-s.invariant c.loop-s-test.true c.lanes_of-m.ensures x.0
-          c.run-block.ensures,
-    )
+    let i = c.loop-s.invariant in
+    let x = (c.fill-next.ensures _ i.added_is).0 in
+    omega (arith, decided_fit c.requires.0 i c.loop-s-test.true c.lanes_of-m.ensures x c.run-block.ensures)
 
 pub explaining-e-requires : goal.explaining-e-requires
 explaining-e-requires c =
     let p = c.requires.0 in
-    let n = constraints_fit _ _ _ _ p.is-sound in (
-      lanes_planes p c.loop-s.invariant c.loop-s-test.true c.lanes_of-m.ensures
-          (c.fill-next.ensures _ c.loop-s.invariant.added_is).0 c.run-block.ensures,
-      n.0,
-      n.1,
-    )
+    let i = c.loop-s.invariant in
+    let n = constraints_fit _ _ _ _ p.is-sound in
+    let x = (c.fill-next.ensures _ i.added_is).0 in
+    (lanes_planes p i c.loop-s-test.true c.lanes_of-m.ensures x c.run-block.ensures, n.0, n.1)
 
 pub cover-larger-requires : goal.cover-larger-requires
 cover-larger-requires c =
