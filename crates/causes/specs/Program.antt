@@ -1,9 +1,10 @@
 -- What the program's functions promise of what it reads and writes: all but that the system's calls move the bytes.
 -- From: document 01, "The program `causes`".
 --
---   Answered f r out    the first r bytes of the output are the report of the file f
---   IsReport i t        t is the report of the input i
---   ReportOf room b t   t is the report of every input of which b are the first room bytes, or all where it has fewer
+--   Answered f r out                the first r bytes of the output are the report of the file f
+--   IsReport i t                    t is the report of the input i
+--   ReportOf room b t               t is the report of every input of which b are the first room bytes, or all where it
+--                                   has fewer
 --   WritesReport room b r old new   with the outcome r a text was written that is such a report
 use Rattle.std.specs.Prelude.{◌≡◌, List, ℕ, take, Result, Option}
 use Rattle.std.specs.Counts.{IsPrefixLen}

@@ -39,7 +39,8 @@ fn write_report<W: Write>(to: &mut W, file: &[u8], input: Input, text: &[u8]) ->
 // Writes the report of the input, whatever its length.
 fn write_long<W: Write>(to: &mut W, file: &[u8], input: Input) -> io::Result<()>
     requires { IsPrefixLen input.count file.now × (32768 < length file.now) }
-    ensures { WritesReport (length file.now) (take input.count file.now) result (W.contents to.old) (W.contents to.new) }
+    ensures { WritesReport (length file.now) (take input.count file.now) result (W.contents to.old)
+        (W.contents to.new) }
 {
     let read = input.count;
     let mut out = [0u8; REPORT_ROOM];

@@ -156,6 +156,7 @@ other-atom at l (Cost a e p d) y o f = absurd (miss others 6 tt o)
 other-atom at l (Atom a e) y o f = rw f.1
 other-atom at l (Edition n) y o f = rw f.2
 
-pub atom-none : {l na : List ℕ} {x : Form} {n : ℕ} → Formed l x → OneOf others (tag_of the_type x) → CostAtomIs l na n 64
+pub atom-none : {l na : List ℕ} {x : Form} {n : ℕ} → Formed l x → OneOf others (tag_of the_type x)
+    → CostAtomIs l na n 64
 atom-none {l} {na} {x} {n} f o =
     record { atom-is = λ _. sym (other-atom (row_of na n) l x (line_of (tokens l)) o f.form-is) }

@@ -1,7 +1,7 @@
 -- The number of a line's refusal by the checks 6, 7 and 20 and by those from 8 to 10, one law for each way out of
 -- `text_refusal`, `price_fits` and `room_refusal`.
 --
---   cost_checks q s b    the checks 16, 17 and 10
+--   cost_checks q s b   the checks 16, 17 and 10
 --   Roomy n cl co b     there is room for names, clauses and constraints
 -- Assumes nothing.
 use mathlib.Core.Path.{◌≡◌, sym, ◌∙◌}

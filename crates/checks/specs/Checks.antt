@@ -3,17 +3,18 @@
 -- 9 and before 10"), [8] ("16 now means P or the price worked out over 2,000,000, or S over 100"), [9] (20,
 -- "checked after 7 and before 8"), [10] ("21 when a second edition line comes, checked after 10").
 --
---   look_checks l       the checks 3 to 5 of the line l, which need nothing of what was read
---   look_refusal l      the number of the first of them that fails, 0 where all pass
---   said_with st ts     st with the names of the tokens ts, in order of first appearance, and with what their line says
---   price_fits p s      the price p, the price worked out with the supplement s, and s are not too high
---   text_checks ws b    the checks 6, 7 and 20 of a line with the names ws that brings b
---   room_checks ..      the checks from 8 to 10, by how many names there are with the line, by what there is before it,
---                      and by whether it is a second cost
---   edition_checks n b  the check 21, by the number n of edition lines before it
---   form_checks st ts   the checks from 6 on of the tokens ts behind st; form_refusal st ts as look_refusal l
---   line_refusal st l   the number of the first check that the line l fails behind st, 0 where it passes all
---   said_after st l     what was read with the line l, which passes its checks; a comment says nothing
+--   look_checks l        the checks 3 to 5 of the line l, which need nothing of what was read
+--   look_refusal l       the number of the first of them that fails, 0 where all pass
+--   said_with st ts      st with the names of the tokens ts, in order of first appearance, and with what their line
+--                        says
+--   price_fits p s       the price p, the price worked out with the supplement s, and s are not too high
+--   text_checks ws b     the checks 6, 7 and 20 of a line with the names ws that brings b
+--   room_checks ..       the checks from 8 to 10, by how many names there are with the line, by what there is before
+--                        it, and by whether it is a second cost
+--   edition_checks n b   the check 21, by the number n of edition lines before it
+--   form_checks st ts    the checks from 6 on of the tokens ts behind st; form_refusal st ts as look_refusal l
+--   line_refusal st l    the number of the first check that the line l fails behind st, 0 where it passes all
+--   said_after st l      what was read with the line l, which passes its checks; a comment says nothing
 use Rattle.std.specs.Prelude.{Bool, not, ◌&&◌, List, [], ◌∷◌, ◌++◌, ℕ, ◌+◌, leb, length}
 use Rattle.words.specs.Choice.{pick, first_of, Check, check, first_failed}
 use Rattle.text.specs.Bytes.{is_allowed, all_of}

@@ -2,7 +2,7 @@
 --
 --   settings_at first w n   the settings of the lanes of w below n, in rising order; first is the setting of lane 0
 --   lane_settings k         the settings of all lanes of k
---   MinimalIn ..           k has the minimal ones of the first m settings from first on
+--   MinimalIn ..            k has the minimal ones of the first m settings from first on
 use Rattle.std.specs.Prelude.{◌≡◌, not, ◌&&◌, List, [], ◌++◌, ℕ, zero, suc, ◌+◌, ◌<◌, ltb}
 use Rattle.words.specs.Choice.{cons_if}
 use Rattle.words.specs.Bits.{has}

@@ -3,10 +3,10 @@
 -- has it, both 0 if nothing explains").
 --
 --   cheaper f s l     the first of least cost among s and the settings of l
---   cheapest_of f l    the first of least cost in l, 0 where l is empty
---   lowest_cost f l    what it costs, 0 where l is empty
+--   cheapest_of f l   the first of least cost in l, 0 where l is empty
+--   lowest_cost f l   what it costs, 0 where l is empty
 --   some l            whether l has a setting
---   none_chosen        before the first setting
+--   none_chosen       before the first setting
 --   Chosen f l k      k is the cheapest of l, and whether there is one
 use Rattle.std.specs.Prelude.{◌≡◌, Bool, true, false, List, [], ◌∷◌, ℕ, ltb}
 use Rattle.words.specs.Choice.{pick}

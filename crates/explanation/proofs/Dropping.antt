@@ -189,7 +189,8 @@ either-from tw w (suc n) a s q h = go (has w a) (λ t r. either-from tw w n (suc
     c = choice_of tw a
 
     go : (t : Bool)
-        → ((t : ℕ) (r : ℕ → Bool) → (some_drop r tw l t 1 || some_drop r tw l t 2) ≡ some_dropped r (choices_for tw l) t)
+        → ((t : ℕ) (r : ℕ → Bool)
+        → (some_drop r tw l t 1 || some_drop r tw l t 2) ≡ some_dropped r (choices_for tw l) t)
         → let k = cons_if t a l in (some_drop q tw k s 1 || some_drop q tw k s 2) ≡ some_dropped q (choices_for tw k) s
     go true ih =
         either_cons q tw a l s (omega arith) (digit-none tw w a n (suc a) (s / c) (λ k i e f. omega arith))

@@ -69,7 +69,8 @@ unfolding subset_of
 subset_refl [] s = refl
 subset_refl (c ∷ cs) s = ap₂ ◌&&◌ (digit_refl (s % c)) (subset_refl cs (s / c))
 
-pub subset_trans : (cs : List ℕ) (r s t : ℕ) → subset_of cs r s ≡ true → subset_of cs s t ≡ true → subset_of cs r t ≡ true
+pub subset_trans : (cs : List ℕ) (r s t : ℕ) → subset_of cs r s ≡ true → subset_of cs s t ≡ true
+    → subset_of cs r t ≡ true
 unfolding subset_of
 subset_trans [] r s t h k = refl
 subset_trans (c ∷ cs) r s t h k =

@@ -2,9 +2,9 @@
 -- itself included, explains; and a proper subset explains exactly where a setting with one digit dropped is covered.
 --
 --   covers p cs s         s or a proper subset of s passes the test p
---   some_dropped q cs s    some setting that lacks one digit of s passes the test q
---   weight_in tw l a       what the digit of the cause a counts, where l are the causes in rising order and those of
---                         tw have two choices
+--   some_dropped q cs s   some setting that lacks one digit of s passes the test q
+--   weight_in tw l a      what the digit of the cause a counts, where l are the causes in rising order and those of tw
+--                         have two choices
 --   Weights w t           the table t has the weight of each cause of w
 --   Decodes w s x         s is a setting of the causes w, and adds x
 use Rattle.std.specs.Prelude.{◌≡◌, Bool, false, not, ◌&&◌, ◌||◌, List, [], ◌∷◌, ℕ, ◌+◌, ◌*◌, ◌/◌, ◌%◌, ◌<◌, eqb, get_or}

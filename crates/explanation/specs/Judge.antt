@@ -2,9 +2,9 @@
 -- From: document 01, "Causes, settings, explanations" ("Under a setting") and "The question"; document 02, [6] (the
 -- decided atoms).
 --
---   Judge            whether each setting explains, what settling answers for it, and the value of each of a number of
---                    queries under it
---   judge_of          the judge of a case
+--   Judge      whether each setting explains, what settling answers for it, and the value of each of a number of
+--              queries under it
+--   judge_of   the judge of a case
 use Rattle.std.specs.Prelude.{Bool, List, ℕ}
 use Rattle.logic.specs.declared.value.Value.{Value}
 use Rattle.logic.specs.Formula.{value_of}

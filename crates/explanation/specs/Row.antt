@@ -4,11 +4,11 @@
 --   row_bit row k          the bit at place k of the row
 --   setting_bit row s      the bit of setting s
 --   CoveredRow p cs n row the bits of the settings below n say which are covered
---   Glued low high r z    z has the 64 bits from bit r of low on, with high behind low
---   dropped_at ..          the cause a has a digit in lane j whose dropping leads to a bit of the row
---   Droppable ..          r has the lanes in which that is so for some cause
---   Block ..              what is known of the 64 settings from first on, whose bits are word b of the row
---   Covers ..             what bringing them into the row answers and leaves
+--   Glued low high r z   z has the 64 bits from bit r of low on, with high behind low
+--   dropped_at ..        the cause a has a digit in lane j whose dropping leads to a bit of the row
+--   Droppable ..         r has the lanes in which that is so for some cause
+--   Block ..             what is known of the 64 settings from first on, whose bits are word b of the row
+--   Covers ..            what bringing them into the row answers and leaves
 use Rattle.std.specs.Prelude.{◌≡◌, Bool, ◌&&◌, ◌||◌, List, ℕ, ◌+◌, ◌-◌, ◌*◌, ◌/◌, ◌%◌, ◌<◌, min, ltb, length, get_or}
 use Rattle.words.specs.Choice.{pick}
 use Rattle.words.specs.Below.{any}
@@ -35,7 +35,8 @@ Glued low high r z = (j : ℕ) → j < 64 → has z j ≡ pick (ltb (r + j) 64) 
 -- x and y are the planes of the facts and the assumptions, place that of lane 0
 abbrev pub dropped_at : List ℕ → ℕ → List ℕ → List ℕ → List ℕ → ℕ → ℕ → Bool
 dropped_at row place weights x y j a =
-    at x j a && row_bit row (place - get_or weights a 0 + j) || at y j a && row_bit row (place - 2 * get_or weights a 0 + j)
+    at x j a && row_bit row (place - get_or weights a 0 + j)
+    || at y j a && row_bit row (place - 2 * get_or weights a 0 + j)
 
 pub record Droppable (row : List ℕ) (place causes : ℕ) (weights x y : List ℕ) (r : ℕ) : Type 0 where
   pub lanes_are : (j : ℕ) → j < 64 → has r j ≡ any 64 (λ a. has causes a && dropped_at row place weights x y j a)

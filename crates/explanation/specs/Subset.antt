@@ -1,10 +1,10 @@
 -- Subsets of a setting, and minimal explanations.
 -- From: document 01, "Causes, settings, explanations".
 --
---   subset_of cs t s    each digit of t to the bases cs is 0 or that of s
---   proper_of cs t s    t is a subset of s and another setting
---   some_proper p cs s  some proper subset of s among the settings passes the test p
---   minimal J cs s     s explains, and no proper subset of s explains
+--   subset_of cs t s     each digit of t to the bases cs is 0 or that of s
+--   proper_of cs t s     t is a subset of s and another setting
+--   some_proper p cs s   some proper subset of s among the settings passes the test p
+--   minimal J cs s       s explains, and no proper subset of s explains
 use Rattle.std.specs.Prelude.{Bool, true, not, ◌&&◌, ◌||◌, List, [], ◌∷◌, ℕ, ◌/◌, ◌%◌, eqb}
 use Rattle.words.specs.Below.{any}
 use Rattle.program.specs.Setting.{product}

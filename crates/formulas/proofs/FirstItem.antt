@@ -1,9 +1,9 @@
 -- What items begin with, by the token that was found in front of them.
 --
---   Filled x        x is none or not empty
---   name_first x     x begins with a name
---   Unclosed ts     the items of the tokens ts begin with no closing bracket
---   NotClose r, NotWord r, NotEnd r, EndOrClose r     what the token r that was found is not, or is
+--   Filled x                                        x is none or not empty
+--   name_first x                                    x begins with a name
+--   Unclosed ts                                     the items of the tokens ts begin with no closing bracket
+--   NotClose r, NotWord r, NotEnd r, EndOrClose r   what the token r that was found is not, or is
 -- Assumes nothing.
 use mathlib.Core.Path.{◌≡◌, refl}
 use mathlib.Core.Bool.{Bool, true, false}

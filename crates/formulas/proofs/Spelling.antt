@@ -1,9 +1,9 @@
 -- Formulas are read as they are spelled: the tokens of a formula are read as this formula, and the items that tokens
 -- are read as spell these tokens.
 --
---   spelled_items m     the tokens of the items m
---   AreSentences m     the formulas of m pass is_sentence
---   Spells ts x        the items x, if any, are of formulas, and their tokens are ts
+--   spelled_items m   the tokens of the items m
+--   AreSentences m    the formulas of m pass is_sentence
+--   Spells ts x       the items x, if any, are of formulas, and their tokens are ts
 -- Assumes nothing.
 use mathlib.Core.Path.{◌≡◌, refl, ap, ◌∙◌}
 use mathlib.Core.Bool.{true}

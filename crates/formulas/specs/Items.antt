@@ -1,8 +1,8 @@
 -- Formulas read from tokens. That this reads exactly what formulas spell is a claim of grammar (LineExact).
 --
 --   Item            what tokens are read as: a formula, or the closing bracket of a form around it
---   with_form k x    the form with node k in front of the items x
---   items_of ts      the formulas and closing brackets that the tokens ts are, one after the other, or none
+--   with_form k x   the form with node k in front of the items x
+--   items_of ts     the formulas and closing brackets that the tokens ts are, one after the other, or none
 use Rattle.std.specs.Prelude.{List, [], ◌∷◌, ℕ, eqb, ltb}
 use Rattle.std.proofs.Math.Option.{Option}
 use Rattle.words.specs.Choice.{pick}

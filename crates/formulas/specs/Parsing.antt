@@ -1,10 +1,10 @@
 -- What parsing a formula from a place of a line finds, in the code's places.
 --
---   begins_formula x      the items begin with a formula
---   size_of f             the number of nodes of f: its names and its forms
---   HeadAt l at r        r is what the formula at place at of the line l begins with, or none
---   Parsed l at r        r is the formula at place at of the line l, with its depth and the place behind it, or none
---   Closed l at d r      r is a form of depth d whose closing bracket is at or behind place at, or none
+--   begins_formula x   the items begin with a formula
+--   size_of f          the number of nodes of f: its names and its forms
+--   HeadAt l at r      r is what the formula at place at of the line l begins with, or none
+--   Parsed l at r      r is the formula at place at of the line l, with its depth and the place behind it, or none
+--   Closed l at d r    r is a form of depth d whose closing bracket is at or behind place at, or none
 use Rattle.std.specs.Prelude.{◌≡◌, Bool, true, false, List, [], ◌∷◌, ℕ, ◌+◌, ◌*◌, ◌≤◌, ◌<◌, length, drop}
 use Rattle.std.proofs.Math.Option.{Option}
 use Rattle.std.proofs.Math.Seq.{slice}

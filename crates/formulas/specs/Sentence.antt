@@ -1,12 +1,12 @@
 -- Formulas over names, and how a line spells them.
 -- From: document 01, "The file" ("F is N, `(not F)`, or `(and F F)`, likewise or, then, same").
 --
---   Sentence             a formula over names: F
---   form_tokens w ts      the tokens of the form with the word w and with the tokens ts behind it
---   tokens_of f           the tokens of the formula f
---   sentence_names f      the names of the formula f in order
---   depth_of f            a name has depth 1, a form one more than its deepest operand
---   is_sentence f         the names of f are names, and its nodes are those of the words
+--   Sentence           a formula over names: F
+--   form_tokens w ts   the tokens of the form with the word w and with the tokens ts behind it
+--   tokens_of f        the tokens of the formula f
+--   sentence_names f   the names of the formula f in order
+--   depth_of f         a name has depth 1, a form one more than its deepest operand
+--   is_sentence f      the names of f are names, and its nodes are those of the words
 use Rattle.std.specs.Prelude.{Bool, ◌&&◌, List, [], ◌∷◌, ◌++◌, ℕ, ◌+◌, ◌-◌, max, leb, get_or}
 use Rattle.text.specs.Bytes.{bytes}
 use Rattle.text.specs.Tokens.{Token}

@@ -1,8 +1,8 @@
 -- Words in a table of bytes, each behind its length, as the code has them.
 --
---   word_end t        the place behind the first word of the table t
---   word_rows t n     the first n words of the table t
---   HasWords t n     the table t has n words
+--   word_end t      the place behind the first word of the table t
+--   word_rows t n   the first n words of the table t
+--   HasWords t n    the table t has n words
 use Rattle.std.specs.Prelude.{List, [], ◌∷◌, ℕ, zero, suc, ◌+◌, ◌≤◌, length, take, drop, get_or}
 
 abbrev pub word_end : List ℕ → ℕ

@@ -50,7 +50,8 @@ cost-spells (w ∷ (p ∷ (s ∷ (v ∷ ws)))) = inl refl
 -- What is spelled is read
 
 pub cost-words : (w p s : List ℕ) → is_cost w p s ≡ true
-    → with_words 7 (flat_words (Token.word w ∷ (Token.word p ∷ (Token.word s ∷ (Token.closing ∷ []))))) ≡ Line.cost w p s
+    → with_words 7 (flat_words (Token.word w ∷ (Token.word p ∷ (Token.word s ∷ (Token.closing ∷ [])))))
+    ≡ Line.cost w p s
 unfolding flat_words
 cost-words w p s h = rw h
 

@@ -1,11 +1,11 @@
 -- The words of a flat line: how they are spelled, and what a line is where none are left, or more.
 --
---   Wordless x         the words x are none, or no word
---   Followed x         the words x are none, or there is a word
+--   Wordless x          the words x are none, or no word
+--   Followed x          the words x are none, or there is a word
 --   flat_tokens ws      the tokens of a flat line from its words ws on
---   FlatSpells ts x    the words x, if any, are spelled by ts
---   LineSpells k ws x  the line x is no form, or spelled by the word of kind k and the words ws
---   OneWord k          a line of kind k with a second word is no form
+--   FlatSpells ts x     the words x, if any, are spelled by ts
+--   LineSpells k ws x   the line x is no form, or spelled by the word of kind k and the words ws
+--   OneWord k           a line of kind k with a second word is no form
 -- Assumes nothing.
 use mathlib.Core.Path.{◌≡◌, refl, sym, ap, ◌∙◌, subst}
 use mathlib.Core.Bool.{true, false, true≢false}

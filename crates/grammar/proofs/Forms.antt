@@ -52,7 +52,8 @@ closing-filled (Option.some (i ∷ l)) h = refl
 module _ {l : List ℕ} {at : ℕ} {r : Next} (t : Found l at r) where
   pub ends-unclosed : OneOf (0 ∷ (1 ∷ (3 ∷ []))) (tag_of the_type r) → false ≡ ends_line l at
   unfolding ends_line
-  ends-unclosed h = sym (unclosed-ends (items_of (tokens (drop at l))) ((found-unclosed t h).unclosed (Sentence.name [])))
+  ends-unclosed h =
+      sym (unclosed-ends (items_of (tokens (drop at l))) ((found-unclosed t h).unclosed (Sentence.name [])))
 
   module _ {i : ℕ} (e : r ≡ Close i) {s : Next} (u : Found l i s) where
     pub ends_more : OneOf (1 ∷ (2 ∷ (3 ∷ []))) (tag_of the_type s) → false ≡ ends_line l at

@@ -2,10 +2,10 @@
 -- a query has at most half as many nodes as the line has tokens, and an edition is one.
 --
 --   brings_of x      what a line of the form x brings
---   Bodied ls       there is a literal
---   ClauseShaped k  the literals of a clause of kind k are as many as it takes
---   Shaped n x      the bodies of the line x have a literal, a constraint its kind, a query at most n / 2 nodes, an
---                   edition line its edition
+--   Bodied ls        there is a literal
+--   ClauseShaped k   the literals of a clause of kind k are as many as it takes
+--   Shaped n x       the bodies of the line x have a literal, a constraint its kind, a query at most n / 2 nodes, an
+--                    edition line its edition
 -- Assumes nothing.
 use mathlib.Core.Path.{◌≡◌, refl, sym, ap, ◌∙◌, subst}
 use mathlib.Core.Bool.{true, false}

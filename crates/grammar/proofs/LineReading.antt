@@ -42,7 +42,8 @@ among-literal (Literal.literal false w) (Option.some m) = refl
 among-literal (Literal.literal true w) Option.none = refl
 among-literal (Literal.literal true w) (Option.some m) = refl
 
-body-read : (ls : List Literal) → are_named ls ≡ true → body_in (body_tokens ls ++ (Token.closing ∷ [])) ≡ Option.some ls
+body-read : (ls : List Literal) → are_named ls ≡ true
+    → body_in (body_tokens ls ++ (Token.closing ∷ [])) ≡ Option.some ls
 unfolding body_tokens are_named literals_of
 body-read [] h = ap literals_among closing-read
 body-read (x ∷ ls) h =

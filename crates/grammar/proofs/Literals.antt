@@ -1,7 +1,7 @@
 -- Laws of the literals that tokens are: one for each way out of `negated_name` and `literal`, and those that `body_at`
 -- has passed.
 --
---   behind_all ls x     the literals ls with those of x behind them
+--   behind_all ls x    the literals ls with those of x behind them
 --   Counted l at i n   the literals from place at on are n literals and those from place i on
 -- Assumes nothing.
 use mathlib.Core.Path.{◌≡◌, refl, sym, ap, ◌∙◌, subst}
@@ -90,7 +90,8 @@ module _ {l : List ℕ} {at : ℕ} {r : Next} (t : Found l at r) where
   opened_wordless h = no_literal (ap literals_among (found-behind t h))
 
   module _ {a e k : ℕ} (w : r ≡ Word a e) (q : k ≡ node_of (slice a e l)) where
-    opened-form : body_in (Token.opening ∷ tokens (drop at l)) ≡ literals_among (with_form k (items_of (tokens (drop e l))))
+    opened-form : body_in (Token.opening ∷ tokens (drop at l))
+        ≡ literals_among (with_form k (items_of (tokens (drop e l))))
     opened-form = rw ((found_as t w).tokens_are, items_form, q)
 
     pub opened-other : (k ≡ 64 → ⊥) → NegationFound l at lit.NoLiteral

@@ -23,7 +23,8 @@ use Rattle.formulas.proofs.NameSentence.{name-tokens, name-is-sentence}
 use Rattle.formulas.proofs.Spelling.{spelled_items, AreSentences, Spells, items_spell}
 use Rattle.grammar.specs.Line.{Literal, Line, line_words, body_tokens, line_tokens, are_named, takes}
 use Rattle.grammar.specs.Line.{is_line}
-use Rattle.grammar.specs.LineOf.{with_sentence, literals_of, with_body, seen_of, clause_of, query_of, body_line, of_kind}
+use Rattle.grammar.specs.LineOf.{with_sentence, literals_of, with_body, seen_of, clause_of, query_of, body_line}
+use Rattle.grammar.specs.LineOf.{of_kind}
 use Rattle.grammar.specs.LineOf.{with_items, flat_words, cost_line, atom_line, edition_line, with_words, behind_word}
 use Rattle.grammar.specs.LineOf.{kind_of, line_of, is_no_form}
 use Rattle.grammar.proofs.KindLaws.{kind-word}

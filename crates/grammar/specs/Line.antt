@@ -6,10 +6,10 @@
 --
 --   Literal         a name or its negation: L
 --   Line            what a line is: skipped, one of the ten forms, or no form
---   line_tokens x    the tokens of the line x; a skipped one has none
---   is_edition e     e is the number of an edition
---   is_line x        x is a skipped line or one of the forms, with names where names stand and literals where they must
---   line_names x     the names of the line x in order
+--   line_tokens x   the tokens of the line x; a skipped one has none
+--   is_edition e    e is the number of an edition
+--   is_line x       x is a skipped line or one of the forms, with names where names stand and literals where they must
+--   line_names x    the names of the line x in order
 use Rattle.std.specs.Prelude.{Bool, true, false, ◌&&◌, ◌||◌, List, [], ◌∷◌, ◌++◌, ℕ, ◌+◌, eqb, ltb, length, get_or}
 use Rattle.words.specs.Choice.{pick}
 use Rattle.text.specs.Bytes.{bytes}

@@ -1,12 +1,12 @@
 -- The form of a line, read from its tokens. That this reads exactly the lines that forms spell is a claim (LineExact).
 --
---   literals_of l    the literals that the items l are, up to the line's closing bracket, or that they are none
---   flat_words ts    the words that the tokens ts are, up to the line's closing bracket, or that they are none
---   kind_of w        the kind of the line with the word w: 0 true, 1 false, 2 if, 3 never, 4 avoid, 5 seen, 6 query,
---                   7 cost, 8 atom, 9 edition; otherwise 10
+--   literals_of l   the literals that the items l are, up to the line's closing bracket, or that they are none
+--   flat_words ts   the words that the tokens ts are, up to the line's closing bracket, or that they are none
+--   kind_of w       the kind of the line with the word w: 0 true, 1 false, 2 if, 3 never, 4 avoid, 5 seen, 6 query, 7
+--                   cost, 8 atom, 9 edition; otherwise 10
 --   behind_word k ts the line of kind k with the tokens ts behind its word
---   line_of ts       the line with the tokens ts
---   is_no_form x      the line x is no form
+--   line_of ts     the line with the tokens ts
+--   is_no_form x   the line x is no form
 use Rattle.std.specs.Prelude.{Bool, true, false, List, [], ◌∷◌, ℕ, ◌-◌, eqb, ltb, length}
 use Rattle.std.proofs.Math.Option.{Option}
 use Rattle.words.specs.Choice.{pick}

@@ -1,11 +1,11 @@
 -- What parsing a line from a place finds, in the code's places.
 --
 --   body_in ts            the literals that the tokens ts are, up to the line's closing bracket, or that they are none
---   LiteralFound l at r  r is the literal at place at of the line l, or the body's end, or neither
---   BodyFound l at k r   r is the number of the literals from place at to the line's end, as many as a line of kind k
---                        takes, or that there are none
---   NumeralFound l at r  r is the number at place at of the flat line l, with the place behind it, or none
---   FormFound l r        r is the form of the line l, with the places of its parts
+--   LiteralFound l at r   r is the literal at place at of the line l, or the body's end, or neither
+--   BodyFound l at k r    r is the number of the literals from place at to the line's end, as many as a line of kind k
+--                         takes, or that there are none
+--   NumeralFound l at r   r is the number at place at of the flat line l, with the place behind it, or none
+--   FormFound l r         r is the form of the line l, with the places of its parts
 use Rattle.std.specs.Prelude.{◌≡◌, Bool, true, false, List, [], ◌∷◌, ℕ, ◌≤◌, ◌<◌, length, drop}
 use Rattle.std.proofs.Math.Option.{Option}
 use Rattle.std.proofs.Math.Seq.{slice}

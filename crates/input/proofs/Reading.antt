@@ -1,6 +1,7 @@
 -- What one call of read adds to the bytes read: they stay the buffer's first, and the first that the reader had.
 -- Assumes nothing.
-use Rattle.std.proofs.Common.{◌≡◌, ℕ, ◌+◌, ◌-◌, ◌≤◌, List, ◌++◌, length, take, sym, ap, ◌∙◌, subst, le_refl, drop_at, drop, length-take-le, Result, Ok, Err}
+use Rattle.std.proofs.Common.{◌≡◌, ℕ, ◌+◌, ◌-◌, ◌≤◌, List, ◌++◌, length, take, sym, ap, ◌∙◌, subst, le_refl, drop_at}
+use Rattle.std.proofs.Common.{drop, length-take-le, Result, Ok, Err}
 use Rattle.std.proofs.lemmas.Slice.{take-put_mid_below}
 use Rattle.std.proofs.KnownBytes.{Consumes-trans}
 use Rattle.std.specs.Io.{ReadsAtMost}
@@ -38,6 +39,7 @@ module _ {E : Type 0} (r : Result ℕ E) (n : ℕ) (e : n ≡ result_unwrap_or r
   read_on a xs x y z c within before =
       subst (Consumes x z) (sym (take_overwritten a n xs ys within read_fits)) (grown r e c)
     where
-      grown : (r : Result ℕ E) → n ≡ result_unwrap_or r 0 → ReadConsumes y z r ys → Consumes x z (take a xs ++ take n ys)
+      grown : (r : Result ℕ E) → n ≡ result_unwrap_or r 0 → ReadConsumes y z r ys
+          → Consumes x z (take a xs ++ take n ys)
       grown (Ok m) e c = rw e (Consumes-trans x y z _ _ before c.0)
       grown (Err u) e c = absurd (some e)

@@ -12,4 +12,5 @@ abbrev pub IsAnswered : (List ℕ → List ℕ → Type 0) → Option (List ℕ)
     → Option (List ℕ) → Type 0
 IsAnswered P i (Ok u) old new = IfSome i (λ xs. (t : List ℕ) × P xs t × Appends old new t)
 IsAnswered P i (Err (Input e)) old new = Keeps old new
-IsAnswered P i (Err (Output e)) old new = IfSome i (λ xs. (t : List ℕ) × P xs t × ((k : ℕ) × Appends old new (take k t)))
+IsAnswered P i (Err (Output e)) old new =
+    IfSome i (λ xs. (t : List ℕ) × P xs t × ((k : ℕ) × Appends old new (take k t)))

@@ -1,8 +1,8 @@
 -- What the inner functions of the layer report ask of the entries of an answer, and write.
 --
---   Atoms l                l are atoms
+--   Atoms l                 l are atoms
 --   entries_text name b l   the text of the numbers l of a layered case, or of the ring l, as b says
---   Told names b l         what is asked of the table of names, and of these entries
+--   Told names b l          what is asked of the table of names, and of these entries
 use Rattle.std.specs.Prelude.{◌≡◌, Bool, false, List, ℕ, ◌≤◌, ◌<◌, length, get_or}
 use Rattle.words.specs.Choice.{pick}
 use Rattle.program.specs.Case.{name_size}

@@ -1,11 +1,11 @@
 -- From the bytes of a file to the text of its layers.
 -- From: document 02, request [3].
 --
---   layered_said st         what a file says is layered
---   RingSaid st l          l is a ring of what a file says
---   layers_said l st        the text of what a file says; l is the ring told where it isn't layered
---   layers_text l f         the text of the file f
---   LayersOf f t           t is the text of the file f; which ring it tells stays free
+--   layered_said st    what a file says is layered
+--   RingSaid st l      l is a ring of what a file says
+--   layers_said l st   the text of what a file says; l is the ring told where it isn't layered
+--   layers_text l f    the text of the file f
+--   LayersOf f t       t is the text of the file f; which ring it tells stays free
 use Rattle.std.specs.Prelude.{◌≡◌, Bool, false, List, ℕ}
 use Rattle.words.specs.Choice.{pick}
 use Rattle.store.specs.Saying.{Said}

@@ -1,13 +1,13 @@
 -- What is claimed of layers beyond the contract of *layers*. Proved in proofs/Theorems.antt.
 -- From: document 02, request [3].
 --
---   NumbersOf c cl v     v numbers the atoms of the case: each head's number is greater than that of every atom in its
---                        bodies, plain or negated
---   number_of c cl a      the number that the atom a of a layered case is answered with
---   NumbersLeast         what the numbers of a layered case are
---   LayeredExact         when a case is layered
---   RingExact            what a ring bars, and how long it can be
---   AnswerExact          when the operation answers a ring, and when numbers
+--   NumbersOf c cl v   v numbers the atoms of the case: each head's number is greater than that of every atom in its
+--                      bodies, plain or negated
+--   number_of c cl a   the number that the atom a of a layered case is answered with
+--   NumbersLeast       what the numbers of a layered case are
+--   LayeredExact       when a case is layered
+--   RingExact          what a ring bars, and how long it can be
+--   AnswerExact        when the operation answers a ring, and when numbers
 use Rattle.std.specs.Prelude.{◌≡◌, true, false, List, ℕ, ◌≤◌, ◌<◌, length, take}
 use Rattle.program.specs.declared.case.Case.{Case}
 use Rattle.program.specs.Case.{head_at}

@@ -1,11 +1,11 @@
 -- Layers of a relation of dependence among n atoms, r a b where a depends on b.
 -- From: document 02, request [3]; document 003 (a numbering is its level mapping, a layered case is acyclic).
 --
---   chain_heads n r k      the atoms from which a chain of k dependencies starts, bit a for atom a
---   least_number n r a     how long the longest chain from a is, where no chain is as long as there are atoms
---   layered n r           no chain is as long as there are atoms
---   Numbering n r v       the number v a of each atom a is greater than that of every atom it depends on
---   Ring n r l            the atoms l are distinct, each depends on the next, and the last on the first
+--   chain_heads n r k    the atoms from which a chain of k dependencies starts, bit a for atom a
+--   least_number n r a   how long the longest chain from a is, where no chain is as long as there are atoms
+--   layered n r          no chain is as long as there are atoms
+--   Numbering n r v      the number v a of each atom a is greater than that of every atom it depends on
+--   Ring n r l           the atoms l are distinct, each depends on the next, and the last on the first
 use Rattle.std.specs.Prelude.{◌≡◌, Bool, true, not, ◌&&◌, List, ℕ, zero, suc, ◌+◌, ◌<◌, eqb, length, get_or}
 use Rattle.words.specs.Below.{any, first}
 use Rattle.words.specs.Bits.{has, word}

@@ -1,9 +1,9 @@
 -- What the inner functions promise of the numbers, by a table t of dependents: entry b has the atoms that depend on b.
 --
---   linked_by t a b       a depends on b by the table t
---   Given t w k u        the entries u are those of t with the number k for the atoms of w
---   Numbered n t w u     w are those of n atoms from which a chain as long as there are atoms starts; u has the least
---                        number of each other atom, and 0 elsewhere
+--   linked_by t a b    a depends on b by the table t
+--   Given t w k u      the entries u are those of t with the number k for the atoms of w
+--   Numbered n t w u   w are those of n atoms from which a chain as long as there are atoms starts; u has the least
+--                      number of each other atom, and 0 elsewhere
 use Rattle.std.specs.Prelude.{◌≡◌, Bool, not, ◌&&◌, List, ℕ, ◌<◌, ltb, length, get_or}
 use Rattle.words.specs.Choice.{pick}
 use Rattle.words.specs.Bits.{has}

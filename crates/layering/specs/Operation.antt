@@ -2,13 +2,13 @@
 -- From: document 02, request [3]; document 01, "What each operation refuses" ("For operations and tables that come
 -- later").
 --
---   layers_refusal      0, or 1 a lent table too short, 13 the case isn't sound
---   dependence c cl    which atom of the case depends on which: a clause with the one as its head names the other
---   layered_in c cl     the case is layered
---   numbers_in c cl     the least number of each atom, in atom order
---   RingIn c cl l      l is a ring of the case
---   numbers_answer      the answer of a layered case; ring_answer l that with the ring l; refused_with n a refusal's
---   Layering           the answer; which ring is answered stays free
+--   layers_refusal    0, or 1 a lent table too short, 13 the case isn't sound
+--   dependence c cl   which atom of the case depends on which: a clause with the one as its head names the other
+--   layered_in c cl   the case is layered
+--   numbers_in c cl   the least number of each atom, in atom order
+--   RingIn c cl l     l is a ring of the case
+--   numbers_answer    the answer of a layered case; ring_answer l that with the ring l; refused_with n a refusal's
+--   Layering          the answer; which ring is answered stays free
 use Rattle.std.specs.Prelude.{◌≡◌, Bool, true, false, List, [], ◌∷◌, ℕ, length, replicate}
 use Rattle.words.specs.Choice.{pick, unless_refused, check, first_failed}
 use Rattle.words.specs.Lists.{list_of}

@@ -16,7 +16,8 @@ use Rattle.loading.specs.Claims.{longest_load}
 use Rattle.loading.proofs.Generating.{unrefused-fits}
 use Rattle.load.specs.Program.{load_answer, Answered}
 
-module _ (s n c : ℕ) {out u : List ℕ} {r : Answer} (g : Generated s n c out r u) (room : length out ≡ longest_load) where
+module _ (s n c : ℕ) {out u : List ℕ} {r : Answer} (g : Generated s n c out r u)
+    (room : length out ≡ longest_load) where
   refusal : r.refusal ≡ load_refusal s n c longest_load
   refusal = g.refusal-is ∙ ap (load_refusal s n c) room
 

@@ -1,7 +1,7 @@
 -- What the program's functions promise of what it writes: all but that the system's call moves the bytes.
 -- From: document 02, [11]; document 01, "The program `causes`" ("(refused number line)").
 --
---   load_answer s n c       the text of the load with the seed s, n atoms and c clauses, or that of its refusal, with
+--   load_answer s n c      the text of the load with the seed s, n atoms and c clauses, or that of its refusal, with
 --                          line 0
 --   Answered s n c r out   the first r bytes of the output are that text
 use Rattle.std.specs.Prelude.{◌≡◌, List, ℕ, take}

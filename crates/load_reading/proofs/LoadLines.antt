@@ -27,7 +27,8 @@ use Rattle.way_back.proofs.FittingLines.{Reads, reads-append, literals_in, lines
 use Rattle.way_back.proofs.KnownNames.{Usable, known-says, known-fits, room-rows}
 use Rattle.way_back.proofs.AtomLines.{AtomWritten, atoms-read}
 use Rattle.loading.specs.Draws.{state_after}
-use Rattle.loading.specs.Load.{load_name, literal_count, clause_drawn, clauses_drawn, atom_lines, query_of_first, load_lines}
+use Rattle.loading.specs.Load.{load_name, literal_count, clause_drawn, clauses_drawn, atom_lines, query_of_first}
+use Rattle.loading.specs.Load.{load_lines}
 use Rattle.loading.specs.Load.{load_text}
 use Rattle.loading.proofs.Drawing.{clause_states, states_length, literals-length, count-le, clauses-each}
 use Rattle.loading.proofs.Names.{load_name-lettered, load_name-is-name, load_names, load_names-length}
@@ -62,7 +63,8 @@ module _ (n : ℕ) (some : 1 ≤ n) (few : n ≤ 64) (cs : List ClauseRow) (cs-f
       (rw (query_no_cost behind first)
       (room-rows behind _ refl refl (omega arith) (omega arith) (omega arith) (omega arith))) (omega arith)
 
-  query-read : Reads behind (query_of_first ∷ []) (said (load_names n) cs [] 0 0 (encoded (load_names n) first ∷ []) [] [])
+  query-read : Reads behind (query_of_first ∷ [])
+      (said (load_names n) cs [] 0 0 (encoded (load_names n) first ∷ []) [] [])
   query-read = (query-fits, known-says behind query_of_first query-usable ∙ query-said behind first)
 
 -- ---- all lines

@@ -32,7 +32,8 @@ use Rattle.loading.proofs.Drawing.{clauses-none, clauses-first}
 pub atoms-grow : Grows (λ k. map line_text (atom_lines k)) (λ k. line_text (Line.atom (load_name k)) ∷ [])
 atoms-grow = record {
   none = ap (map line_text) (list_of-none (λ a. Line.atom (load_name a)));
-  more = λ k. ap (map line_text) (list_of-more k (λ a. Line.atom (load_name a))) ∙ map-append line_text (atom_lines k) _;
+  more =
+      λ k. ap (map line_text) (list_of-more k (λ a. Line.atom (load_name a))) ∙ map-append line_text (atom_lines k) _;
 }
 
 -- ---- the line of the query

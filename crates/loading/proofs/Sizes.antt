@@ -190,7 +190,8 @@ lines_bound m xs h =
     rw (length-map xs line_text) at (text_bound m (map line_text xs) (each_map (λ l. length l ≤ m) line_text xs h))
 
 lines-append : (xs ys : List Line)
-    → length (text_of (map line_text (xs ++ ys))) ≡ length (text_of (map line_text xs)) + length (text_of (map line_text ys))
+    → length (text_of (map line_text (xs ++ ys)))
+    ≡ length (text_of (map line_text xs)) + length (text_of (map line_text ys))
 lines-append xs ys =
     ap (λ ls. length (text_of ls)) (map-append line_text xs ys)
     ∙ ap length (text-append (map line_text xs) (map line_text ys)) ∙ length-append (text_of (map line_text xs)) _

@@ -3,8 +3,8 @@
 -- operation that writes a text answers its length in bytes"); document 01, "What each operation refuses" ("For
 -- operations and tables that come later").
 --
---   is_load n c             there is a load with n atoms and c clauses
---   load_refusal s n c m    0, or 22 there is no such load, 23 the output, m bytes long, shorter than its text
+--   is_load n c            there is a load with n atoms and c clauses
+--   load_refusal s n c m   0, or 22 there is no such load, 23 the output, m bytes long, shorter than its text
 --   Generated ..           the answer and the output at exit
 use Rattle.std.specs.Prelude.{Bool, ◌&&◌, List, [], ◌∷◌, ℕ, leb, length}
 use Rattle.words.specs.Choice.{check, first_failed}

@@ -64,7 +64,8 @@ module _ (i j : Interpretation) where
       (λ a l. ap digit (has_word 64 newly_at a l))
 
   -- where j keeps what i decides, it decides as many atoms more as it decides newly
-  pub newly-more : Good i → Good j → Contained (value_at i) (value_at j) → newly_decided i j + decided_in i ≡ decided_in j
+  pub newly-more : Good i → Good j → Contained (value_at i) (value_at j)
+      → newly_decided i j + decided_in i ≡ decided_in j
   newly-more g h k =
       ap₂ ◌+◌ newly-sum (decided-sum i g)
       ∙ sum-add 64 (λ a. digit (newly_at a)) (λ a. digit (is_decided (value_at i a)))

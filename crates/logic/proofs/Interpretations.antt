@@ -95,7 +95,8 @@ pub values_good : (v : ℕ → Value) → Good (of_values v)
 values_good v = record {
   trues_fit = word_lt 64 (λ a. is_true (v a));
   falses_fit = word_lt 64 (λ a. is_false (v a));
-  disjoint = has_ext 64 _ 0 (and_lt 64 _ _ (word_lt 64 (λ a. is_true (v a))) (word_lt 64 (λ a. is_false (v a)))) (lit< tt)
+  disjoint =
+      has_ext 64 _ 0 (and_lt 64 _ _ (word_lt 64 (λ a. is_true (v a))) (word_lt 64 (λ a. is_false (v a)))) (lit< tt)
       (λ a l. has-and (word 64 (λ b. is_true (v b))) (word 64 (λ b. is_false (v b))) a
       ∙ ap₂ ◌&&◌ (has_word 64 (λ b. is_true (v b)) a l) (has_word 64 (λ b. is_false (v b)) a l)
       ∙ not-both (v a) ∙ sym (has-zero a));

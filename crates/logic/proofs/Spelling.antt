@@ -170,7 +170,8 @@ joined-depth (suc (suc zero)) f g = refl
 joined-depth (suc (suc (suc k))) f g = refl
 
 -- what stands behind a first formula
-first_rest : (f : Formula) (t : Spelling) {g : Formula} {gs : List Formula} → with_first f t ≡ Spelling.formulas (g ∷ gs)
+first_rest : (f : Formula) (t : Spelling) {g : Formula} {gs : List Formula}
+    → with_first f t ≡ Spelling.formulas (g ∷ gs)
     → t ≡ Spelling.formulas gs
 first_rest f Spelling.none e = absurd (no_formulas e)
 first_rest f (Spelling.formulas fs) e = cc

@@ -1,12 +1,12 @@
 -- Formulas as trees, their values, and the body of a clause as a formula.
 -- From: document 01, "Formulas" and "Interpretations and the step"; document 003.
 --
---   value_of v f          the value of f where v gives each atom's value
+--   value_of v f         the value of f where v gives each atom's value
 --   depth f              a name has depth 1, a form one more than its deepest operand
 --   over n f             f names only atoms below n, and holds no constant
 --   literal b a          the atom a, or its negation where b holds
 --   body plain negated   the literals of a body, joined by "and"
---   any_of fs             the formulas fs, joined by "or"
+--   any_of fs            the formulas fs, joined by "or"
 use Rattle.std.specs.Prelude.{Bool, true, false, ◌&&◌, List, [], ◌∷◌, ℕ, zero, suc, ◌+◌, max, ltb}
 use Rattle.words.specs.Bits.{has}
 use Rattle.logic.specs.declared.value.Value.{Value}

@@ -1,13 +1,13 @@
 -- Interpretations: two words, the true atoms and the false atoms, bit i for atom i.
 -- From: document 01, "Interpretations and the step"; document 02, [6] (newly decided atoms).
 --
---   nothing           the interpretation in which nothing is decided
---   value_at i a       the value of atom a in i
---   of_values v        the interpretation that gives the atoms below 64 the values v
---   decided_in i       the number of decided atoms
---   newly_decided i j  the number of atoms that are undecided in i and decided in j
---   Disjoint i        no atom is both true and false in i
---   same_in i j        i and j are the same interpretation
+--   nothing             the interpretation in which nothing is decided
+--   value_at i a        the value of atom a in i
+--   of_values v         the interpretation that gives the atoms below 64 the values v
+--   decided_in i        the number of decided atoms
+--   newly_decided i j   the number of atoms that are undecided in i and decided in j
+--   Disjoint i          no atom is both true and false in i
+--   same_in i j         i and j are the same interpretation
 use Rattle.std.specs.Prelude.{◌≡◌, Bool, true, false, not, ◌&&◌, ℕ, ◌+◌, eqb}
 use Rattle.std.specs.Int.Bits.{bit_and}
 use Rattle.std.specs.Int.Count.{ones}

@@ -3,8 +3,8 @@
 --
 --   nodes f            the nodes of f in prefix order
 --   spelled ks         the formulas that the nodes ks are, one after the other, or that they are none
---   one_formula n ks    the nodes are exactly one formula of depth at most 16 over the atoms below n
---   formula_of ks       that formula
+--   one_formula n ks   the nodes are exactly one formula of depth at most 16 over the atoms below n
+--   formula_of ks      that formula
 use Rattle.std.specs.Prelude.{Bool, false, ◌&&◌, List, [], ◌∷◌, ◌++◌, ℕ, zero, suc, ◌-◌, eqb, ltb, leb}
 use Rattle.words.specs.Choice.{pick}
 use Rattle.logic.specs.Formula.{Formula, depth, over}

@@ -1,14 +1,14 @@
 -- Truth values and the connectives on them.
 -- From: document 01, "Interpretations and the step" and "Formulas"; document 003 (Łukasiewicz logic).
 --
---   rank v             place in the order false < unknown < true, from 0
---   is_true, is_false    tests of a value
+--   rank v              place in the order false < unknown < true, from 0
+--   is_true, is_false   tests of a value
 --   is_decided v        v is true or false
---   negated v          "not"
---   lesser v w         "and"
---   greater v w        "or"
---   implies v w        "then", by the table of document 01
---   equivalent v w     "same"
+--   negated v           "not"
+--   lesser v w          "and"
+--   greater v w         "or"
+--   implies v w         "then", by the table of document 01
+--   equivalent v w      "same"
 use Rattle.std.specs.Prelude.{Bool, true, false, ◌||◌, ℕ}
 use Rattle.logic.specs.declared.value.Value.{Value}
 use Rattle.logic.specs.declared.value.Value.TheVariants.{False, Unknown, True}

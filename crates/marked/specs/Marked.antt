@@ -5,12 +5,12 @@
 -- ("M1 with edition 2"; "With x and y assumed, rules o if x and y, o if neither, and o seen, only the empty set is
 -- minimal").
 --
---   Result         refused with a number at a line, or accepted: the minimal settings, the rounds and the decided atoms
---                  over all, the lowest cost and the setting that has it, a verdict for each query
---   Row            a file's bytes and its result
---   result_of f     the result of the file f by the definitions of reading and of the question
---   marked         the fourteen rows
---   MarkedRows     the result in each of them is that of its file
+--   Result        refused with a number at a line, or accepted: the minimal settings, the rounds and the decided atoms
+--                 over all, the lowest cost and the setting that has it, a verdict for each query
+--   Row           a file's bytes and its result
+--   result_of f   the result of the file f by the definitions of reading and of the question
+--   marked        the fourteen rows
+--   MarkedRows    the result in each of them is that of its file
 use Rattle.std.specs.Prelude.{◌≡◌, List, [], ◌∷◌, ◌++◌, map, ℕ}
 use Rattle.text.specs.Bytes.{bytes}
 use Rattle.verdict.specs.declared.verdict.Verdict.{Verdict}

@@ -1,7 +1,7 @@
 -- Laws of a word compared with an entry: by its tests, and the outcome `Same` for what a row can hold of a word.
 --
---   is_same c      the outcome c is `Same`
---   NotSame c     it is one of the two others
+--   is_same c   the outcome c is `Same`
+--   NotSame c   it is one of the two others
 -- Assumes nothing.
 use mathlib.Core.Path.{◌≡◌, refl, sym, ap, ap₂, ◌∙◌}
 use mathlib.Core.Bool.{Bool, true, false, not, ◌&&◌, and_self}

@@ -1,12 +1,12 @@
 -- The rows of a names table: the names in them, the row of a name, and names put into rows.
 -- From: document 01, "Case tables" (names, 64 × 16 bytes, row i for atom i, zero-filled at the end).
 --
---   row_at t i            row i of the table t, 16 bytes
---   name_in t a           the name in row a of the table t: its bytes before the first zero, at most 16
---   row_of t n w          the first of the n rows of the table t that holds the name w, n where none does
---   Rows                 a table and how many of its rows hold names
---   rows_with s w         s with the name w, in a row behind the others unless one holds it
---   rows_through s ws     s with the names ws one after the other, up to the first for which there is no room
+--   row_at t i          row i of the table t, 16 bytes
+--   name_in t a         the name in row a of the table t: its bytes before the first zero, at most 16
+--   row_of t n w        the first of the n rows of the table t that holds the name w, n where none does
+--   Rows                a table and how many of its rows hold names
+--   rows_with s w       s with the name w, in a row behind the others unless one holds it
+--   rows_through s ws   s with the names ws one after the other, up to the first for which there is no room
 use Rattle.std.specs.Prelude.{List, [], ◌∷◌, ℕ, zero, suc, ◌+◌, ◌*◌, leb, ltb, take, drop}
 use Rattle.std.proofs.lemmas.List.Edits.{sets}
 use Rattle.std.proofs.Math.Seq.{slice}

@@ -29,7 +29,8 @@ first-kept n b (c ∷ d ∷ l) h i e = i.no_zero-first (omega arith) e
 
 one-digit : (n : ℕ) → n < 10 → InDecimal n (digit_byte (n % 10) ∷ [])
 one-digit n h = record {
-  are_digits = all_push is_digit [] _ (all-ends is_digit [] 0 (omega arith)) (is_digit-digit_byte (n % 10) (omega arith));
+  are_digits =
+      all_push is_digit [] _ (all-ends is_digit [] 0 (omega arith)) (is_digit-digit_byte (n % 10) (omega arith));
   stands_for = omega (arith, number-one (digit_byte (n % 10)));
   no_zero-first = λ k. absurd (omega arith);
 }

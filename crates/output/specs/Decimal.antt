@@ -2,7 +2,7 @@
 -- From: document 01, head ("Counts are in decimal").
 --
 --   decimal_within k n   the decimal digits of n, of which there are at most k + 1, as bytes, most significant first
---   decimal n           those of a 64-bit number, which has at most 20 (Claims, DecimalExact)
+--   decimal n            those of a 64-bit number, which has at most 20 (Claims, DecimalExact)
 use Rattle.std.specs.Prelude.{Bool, true, false, List, [], ◌∷◌, ◌++◌, ℕ, zero, suc, ◌+◌, ◌/◌, ◌%◌, ltb}
 
 -- the byte of a digit

@@ -1,9 +1,9 @@
 -- What writing to a lent output leaves in it.
 --
---   laid out at s       out with the bytes of s from place at on, as far as out goes
---   Writes s ..         the bytes s were written from a place on; the answer is the place behind them
---   text_limit           places stay below it
---   Room s at           the bytes s end at or before that limit
+--   laid out at s   out with the bytes of s from place at on, as far as out goes
+--   Writes s ..     the bytes s were written from a place on; the answer is the place behind them
+--   text_limit      places stay below it
+--   Room s at       the bytes s end at or before that limit
 use Rattle.std.specs.Prelude.{◌≡◌, List, [], ◌∷◌, ℕ, suc, ◌+◌, ◌^◌, ◌≤◌, length, set}
 
 unfoldable pub laid : List ℕ → ℕ → List ℕ → List ℕ

@@ -1,13 +1,13 @@
 -- Planes: for each atom a word, bit j of which is lane j.
 --
---   at t j a         bit j of the word of atom a
---   column t f j     the interpretation in lane j of the planes t and f
---   Planes t f       in no lane an atom is both true and false
---   Sizes t f        both planes have 64 words
---   Is r j x         the lanes r have the value x in lane j
---   Worth r w        in each lane j they have the value w j
---   some_missing t w j, some_present t w j    an atom of w is missing, is present, in lane j of the plane t
---   Joined ..        the atoms of a word joined by "and" to a value in lanes
+--   at t j a                                 bit j of the word of atom a
+--   column t f j                             the interpretation in lane j of the planes t and f
+--   Planes t f                               in no lane an atom is both true and false
+--   Sizes t f                                both planes have 64 words
+--   Is r j x                                 the lanes r have the value x in lane j
+--   Worth r w                                in each lane j they have the value w j
+--   some_missing t w j, some_present t w j   an atom of w is missing, is present, in lane j of the plane t
+--   Joined ..                                the atoms of a word joined by "and" to a value in lanes
 use Rattle.std.specs.Prelude.{◌≡◌, Bool, not, ◌&&◌, ◌||◌, List, ℕ, ◌<◌, length, get_or}
 use Rattle.words.specs.Below.{any}
 use Rattle.words.specs.Bits.{has, word}

@@ -42,7 +42,8 @@ true_first false false false b e = refl
 
 false_first : (h f s : Bool) (b : Value) → (h ≡ false → b ≡ False)
     → ((is_false (first_value h false false b) || (s && not h)) && not f) ≡ is_false (first_value h f s b)
-false_first true true s b e = and-false (is_false (greater b False) || s && false) ∙ ap is_false (sym (greater_true_r b))
+false_first true true s b e =
+    and-false (is_false (greater b False) || s && false) ∙ ap is_false (sym (greater_true_r b))
 false_first true false s b e =
     let u = is_false (greater b False) in
     and-true (u || s && false) ∙ ap (λ (t : Bool). u || t) (and-false s) ∙ or-false u

@@ -1,11 +1,11 @@
 -- The rules of a head, from the last to the first.
 --
---   rule_for cl a k         clause k is a rule with the head a
---   last_of cl a n          one more than the number of the last rule for a among the first n clauses, or 0
+--   rule_for cl a k        clause k is a rule with the head a
+--   last_of cl a n         one more than the number of the last rule for a among the first n clauses, or 0
 --   Lasts cl n t           the table t has the last rule of each head
 --   Linked cl n t          the table t leads from each clause to the last rule before it with its head
---   rule_value v cl k       the value of the literals of clause k where v gives each atom's value
---   rules_value v cl a n    the greatest value of the rules for a among the first n clauses, false if there is none
+--   rule_value v cl k      the value of the literals of clause k where v gives each atom's value
+--   rules_value v cl a n   the greatest value of the rules for a among the first n clauses, false if there is none
 use Rattle.std.specs.Prelude.{◌≡◌, Bool, ◌&&◌, List, ℕ, zero, suc, ◌<◌, eqb, leb, get_or}
 use Rattle.words.specs.Choice.{pick}
 use Rattle.logic.specs.declared.value.Value.{Value}

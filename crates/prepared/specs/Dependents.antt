@@ -2,9 +2,9 @@
 --
 --   dependents_of cl n i   the heads that depend on i by the first n clauses, bit a for atom a
 --   touched_from cl n w    the dependents of the atoms of w
---   Dependents cl n t     the table t has the dependents of each atom
---   Words t, Zeros t      the first 64 entries of t are words of 64 bits, are 0
---   Spread t w h u        u is t with the head h added to the dependents of the atoms of w
+--   Dependents cl n t      the table t has the dependents of each atom
+--   Words t, Zeros t       the first 64 entries of t are words of 64 bits, are 0
+--   Spread t w h u         u is t with the head h added to the dependents of the atoms of w
 --   touched_by t w a       the head a is among the dependents of some atom of w
 use Rattle.std.specs.Prelude.{◌≡◌, Bool, ◌&&◌, List, ℕ, ◌^◌, ◌<◌, length, get_or}
 use Rattle.words.specs.Below.{any}

@@ -2,7 +2,7 @@
 --
 --   no_additions      the set that adds nothing
 --   opening_of cl n   the first round of the first n clauses where nothing is added, and their heads
---   opened o x       the interpretation that the opening o makes with the facts and assumptions of x
+--   opened o x        the interpretation that the opening o makes with the facts and assumptions of x
 use Rattle.std.specs.Prelude.{List, ℕ, ◌-◌, ◌^◌}
 use Rattle.std.specs.Int.Bits.{bit_and, bit_or}
 use Rattle.logic.specs.declared.interpretation.Interpretation.{Interpretation}

@@ -75,7 +75,8 @@ module _ (cl : List ℕ) (n a : ℕ) (l : a < 64) where
 
     pub assumed_some : (k : ℕ) × (k < n) × (a ≡ head_at cl k)
     assumed_some =
-        let f = any_found n (λ k. eqb a (head_at cl k)) (and_true_l (headed cl n a) (not (firmly_headed cl n a)) both) in
+        let f =
+        any_found n (λ k. eqb a (head_at cl k)) (and_true_l (headed cl n a) (not (firmly_headed cl n a)) both) in
         (f.0, f.1, eqb-true a _ f.2)
 
     pub assumed_all : (k : ℕ) → k < n → a ≡ head_at cl k → kind_at cl k ≡ 1
@@ -97,7 +98,8 @@ module _ (cl : List ℕ) (n a : ℕ) (l : a < 64) where
   assumed-only k m e f =
       assumed_has cl n a l
       ∙ ap₂ (λ (b d : Bool). b && not d) (any_true n (λ j. eqb a (head_at cl j)) k m (eq-eqb a (head_at cl k) e))
-      (all-false n (λ j. eqb a (head_at cl j) && not (eqb (kind_at cl j) 1)) (λ j i. firm j i (eqb a (head_at cl j)) refl))
+      (all-false n (λ j. eqb a (head_at cl j) && not (eqb (kind_at cl j) 1))
+      (λ j i. firm j i (eqb a (head_at cl j)) refl))
     where
       firm : (j : ℕ) → j < n → (b : Bool) → eqb a (head_at cl j) ≡ b → (b && not (eqb (kind_at cl j) 1)) ≡ false
       firm j i true q = ap not (eq-eqb (kind_at cl j) 1 (f j i (eqb-true a (head_at cl j) q)))

@@ -48,7 +48,8 @@ module _ (tw w p left a r : ℕ) (m : Multiplied tw w p left) (l : LowestOf left
       let n = le-mul_of_pos_right (p * r) (settings-some tw (without_bit left a)) in
       omega (arith, h, n, with_lowest)
 
-pub multiplied_end : (tw w p left : ℕ) → Multiplied tw w p left → left ≡ 0 → p ≡ min (settings_of (causes_by tw w)) 59050
+pub multiplied_end : (tw w p left : ℕ) → Multiplied tw w p left → left ≡ 0
+    → p ≡ min (settings_of (causes_by tw w)) 59050
 multiplied_end tw w p left m z =
     let g : Multiplied tw w p 0 = rw z at m in
     let q : p ≡ settings_of (causes_by tw w) =

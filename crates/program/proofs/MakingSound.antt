@@ -55,7 +55,8 @@ pub constraints-pass : (n m : ℕ) (co : List ℕ) → ((k : ℕ) → k < m → 
 unfolding sound_constraints
 constraints-pass n m co h = every_true m _ h
 
-pub formula-passes : (n : ℕ) (ns fo : List ℕ) (q : ℕ) → get_or ns q 0 ≤ part_size → one_formula n (nodes_of ns fo q) ≡ true
+pub formula-passes : (n : ℕ) (ns fo : List ℕ) (q : ℕ) → get_or ns q 0 ≤ part_size
+    → one_formula n (nodes_of ns fo q) ≡ true
     → sound_formula n ns fo q ≡ true
 formula-passes n ns fo q l e = sym (formula-fits n ns fo q l) ∙ e
 

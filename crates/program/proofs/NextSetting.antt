@@ -77,7 +77,8 @@ module _ (tw w a : ℕ) (h : LowestOf w a) (d : ℕ) (z : eqb 0 d ≡ false) whe
 
   word_kept : (s : ℕ) → eqb (s % choice_of tw a) d ≡ false
       → digit_word tw w s d ≡ digit_word tw (without_bit w a) (s / choice_of tw a) d
-  word_kept s e = word_lowest s ∙ ap (λ (t : Bool). with_bit t (digit_word tw (without_bit w a) (s / choice_of tw a) d) a) e
+  word_kept s e =
+      word_lowest s ∙ ap (λ (t : Bool). with_bit t (digit_word tw (without_bit w a) (s / choice_of tw a) d) a) e
 
 -- ---- what a setting adds, where a is the lowest cause
 additions_lowest : (tw w a s : ℕ) → LowestOf w a

@@ -100,7 +100,8 @@ module _ (tw : ℕ) (d : ℕ → ℕ) (small : (a : ℕ) → d a < choice_of tw 
   number_lt : (l : List ℕ) → number_of tw l d < product (choices_for tw l)
   unfolding number_of choices_for product
   number_lt [] = omega arith
-  number_lt (a ∷ l) = digit_room (has tw a) (number_of tw l d) (d a) (product (choices_for tw l)) (number_lt l) (small a)
+  number_lt (a ∷ l) =
+      digit_room (has tw a) (number_of tw l d) (d a) (product (choices_for tw l)) (number_lt l) (small a)
 
   -- of the causes of w among the n atoms from a on
   number_from : ℕ → ℕ → ℕ → ℕ

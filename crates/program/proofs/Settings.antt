@@ -70,7 +70,8 @@ abbrev pub digit_from : ℕ → ℕ → ℕ → ℕ → ℕ → ℕ → ℕ
 digit_from tw w a n s b = digit_in tw (atoms_from w a n) s b
 
 pub digit_cause : (tw w a n s b : ℕ) → has w a ≡ true
-    → digit_from tw w a (suc n) s b ≡ pick (eqb b a) (s % choice_of tw a) (digit_from tw w (suc a) n (s / choice_of tw a) b)
+    → digit_from tw w a (suc n) s b
+    ≡ pick (eqb b a) (s % choice_of tw a) (digit_from tw w (suc a) n (s / choice_of tw a) b)
 unfolding atoms_from choices_for digits digit_of
 digit_cause tw w a n s b e = ap (λ (t : Bool). digit_in tw (cons_if t a (atoms_from w (suc a) n)) s b) e
 

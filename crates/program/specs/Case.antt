@@ -1,14 +1,14 @@
 -- The lent tables of a case.
 -- From: document 01, "Case tables and sound cases"; document 02, [5] (a third word for each constraint), [7] (prices).
 --
---   clause_size, ..           the sizes of the lent tables, names and prices among them
---   part_size                 the size of one formula's part of the formula table
---   tables_full cl co fo      clauses, constraints and formula have their full sizes
+--   clause_size, ..            the sizes of the lent tables, names and prices among them
+--   part_size                  the size of one formula's part of the formula table
+--   tables_full cl co fo       clauses, constraints and formula have their full sizes
 --   head_at, kind_at           head and kind of clause k: its first word is head + 64 × kind
 --   plain_at, negated_at       the plain and the negated atoms of clause k
---   forbidden, forbidden_not  the plain and the negated atoms of the body of constraint k
---   constraint_kind           the kind of constraint k: 0 never, 1 avoid
---   nodes_of ns fo q          the nodes of formula q: the first in part q of the formula table, as many as ns says
+--   forbidden, forbidden_not   the plain and the negated atoms of the body of constraint k
+--   constraint_kind            the kind of constraint k: 0 never, 1 avoid
+--   nodes_of ns fo q           the nodes of formula q: the first in part q of the formula table, as many as ns says
 use Rattle.std.specs.Prelude.{Bool, ◌&&◌, List, ℕ, ◌+◌, ◌*◌, ◌/◌, ◌%◌, leb, length, get_or, take, drop}
 
 -- the sizes of the lent tables: words of clauses and of constraints, bytes of the formulas and of the names, prices

@@ -1,13 +1,13 @@
 -- Programs: lists of clauses.
 -- From: document 01, "Interpretations and the step" (a clause is a head and a body) and "Case tables and sound cases".
 --
---   Clause               a head and a body
+--   Clause                a head and a body
 --   clause_at cl k        clause k of a table
 --   clauses_of cl n       the first n clauses of a table, in file order
 --   added_by x            the facts and the assumptions that a set of causes adds, in atom order
 --   program_with cl n x   the first n clauses of a table with a set's facts and assumptions added
 --   heads_of cl n         the heads of the first n clauses, bit i for atom i
---   names cl k b         clause k names the atom b in its body, plain or negated
+--   names cl k b          clause k names the atom b in its body, plain or negated
 --   depends_on cl n a b   some of the first n clauses has the head a and names b
 use Rattle.std.specs.Prelude.{Bool, true, false, ◌&&◌, ◌||◌, List, [], ◌∷◌, ◌++◌, ℕ, zero, suc, eqb}
 use Rattle.words.specs.Below.{any}

@@ -2,15 +2,15 @@
 -- From: document 01, "Causes, settings, explanations"; document 02, [10] ("A setting's number is read in mixed base,
 -- three or two for each cause in atom order, lowest first").
 --
---   choice_of tw a        the choice count of the cause a: two among tw (nothing, a fact), otherwise three (also an
---                        assumption)
---   choices_for tw l      a choice count for each cause of l
---   choices_of w          those of the causes w, in atom order
---   product cs           the number of settings with these choice counts
---   digits cs s          the digits of s, lowest first, to the bases cs
---   digit_of l ds a       the digit that belongs to the cause a, 0 where a is none
---   settings_of w         the number of settings of the causes w
---   additions_of w s      what setting s of the causes w adds: digit 0 nothing, 1 a fact, 2 an assumption
+--   choice_of tw a     the choice count of the cause a: two among tw (nothing, a fact), otherwise three (also an
+--                      assumption)
+--   choices_for tw l   a choice count for each cause of l
+--   choices_of w       those of the causes w, in atom order
+--   product cs         the number of settings with these choice counts
+--   digits cs s        the digits of s, lowest first, to the bases cs
+--   digit_of l ds a    the digit that belongs to the cause a, 0 where a is none
+--   settings_of w      the number of settings of the causes w
+--   additions_of w s   what setting s of the causes w adds: digit 0 nothing, 1 a fact, 2 an assumption
 use Rattle.std.specs.Prelude.{List, [], ◌∷◌, ℕ, ◌*◌, ◌/◌, ◌%◌, eqb}
 use Rattle.words.specs.Choice.{pick}
 use Rattle.words.specs.Bits.{has, word}

@@ -2,16 +2,16 @@
 -- From: document 01, "Case tables and sound cases", phrase by phrase; document 02, [5] (a constraint's third word),
 -- [10] ("the case record holds the edition, 1 or 2, any other being unsound"; "a product of at most 59,049 settings").
 --
---   is_edition e           there is an edition e: 1 or 2
---   limits_hold c          1 to 64 atoms, at most 256 clauses and 32 constraints, 1 to 16 formulas, edition 1 or 2
---   within n p q          every bit of the two words names one of n atoms
---   bare p q              neither word has a bit
---   shaped k b            facts and assumptions have no literal (b), rules have one or more; there is no other kind
---   sound_clause           a clause's three words, over n atoms
---   sound_constraint       a constraint's three words, over n atoms; its kind is 0 never or 1 avoid
---   few_settings           at most 59,049 settings
---   sound_formula          the nodes of formula q, at most 128, are exactly one formula of depth at most 16 over n atoms
---   sound c cl co fo      the case c with the tables cl, co, fo is sound
+--   is_edition e       there is an edition e: 1 or 2
+--   limits_hold c      1 to 64 atoms, at most 256 clauses and 32 constraints, 1 to 16 formulas, edition 1 or 2
+--   within n p q       every bit of the two words names one of n atoms
+--   bare p q           neither word has a bit
+--   shaped k b         facts and assumptions have no literal (b), rules have one or more; there is no other kind
+--   sound_clause       a clause's three words, over n atoms
+--   sound_constraint   a constraint's three words, over n atoms; its kind is 0 never or 1 avoid
+--   few_settings       at most 59,049 settings
+--   sound_formula      the nodes of formula q, at most 128, are exactly one formula of depth at most 16 over n atoms
+--   sound c cl co fo   the case c with the tables cl, co, fo is sound
 use Rattle.std.specs.Prelude.{Bool, false, not, ◌&&◌, List, ℕ, zero, suc, ◌*◌, ◌/◌, ◌%◌, ◌^◌, eqb, ltb, leb, get_or}
 use Rattle.words.specs.Below.{every}
 use Rattle.logic.specs.Nodes.{one_formula}

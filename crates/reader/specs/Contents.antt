@@ -8,12 +8,12 @@
 --   names_of l            the names of the line l in order; a comment has none
 --   file_names f          the names of the file f in the order of first appearance: the a-th is the name of atom a
 --   body_of ns ls         the body with the literals ls, by the names ns
---   Constraint           a constraint by its kind (0 never, 1 avoid) and its body
---   Content              clauses, constraints, observed literals, queries, costs and editions, in file order
+--   Constraint            a constraint by its kind (0 never, 1 avoid) and its body
+--   Content               clauses, constraints, observed literals, queries, costs and editions, in file order
 --   content_of ns x       what the form x says, by the names ns
 --   file_content f        what the lines of the file f say, by its names
 --   constraints_of co n   the first n constraints of a table
---   Says f c t           the record c and the tables t say what the file f says
+--   Says f c t            the record c and the tables t say what the file f says
 use Rattle.std.specs.Prelude.{◌≡◌, List, [], ◌∷◌, ◌++◌, ℕ, zero, suc, ◌+◌, ◌*◌, ◌<◌, length, get_or}
 use Rattle.std.proofs.Math.Seq.{slice}
 use Rattle.words.specs.Choice.{pick}

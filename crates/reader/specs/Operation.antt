@@ -2,10 +2,10 @@
 -- From: document 01, "What each operation refuses" (Reading), "The file" ("Reading fills unused entries with zeros");
 -- document 02, [7] (the table of prices).
 --
---   tables_fit t           the five tables are as long as their sizes
---   early_refusal f t      1 a lent table too short, 2 the file too long, 0 otherwise
---   table_left ..          a table at exit: untouched by 1 and 2, otherwise filled in its first n entries
---   ReadAs f t u r        the answer r and the tables u at exit, for the file f and the tables t at entry
+--   tables_fit t        the five tables are as long as their sizes
+--   early_refusal f t   1 a lent table too short, 2 the file too long, 0 otherwise
+--   table_left ..       a table at exit: untouched by 1 and 2, otherwise filled in its first n entries
+--   ReadAs f t u r      the answer r and the tables u at exit, for the file f and the tables t at entry
 use Rattle.std.specs.Prelude.{◌≡◌, Bool, ◌&&◌, List, [], ◌∷◌, ℕ, leb, length}
 use Rattle.words.specs.Choice.{unless_refused, check, first_failed}
 use Rattle.program.specs.Case.{clause_size, constraint_size, formula_size, name_size, price_size, tables_full}

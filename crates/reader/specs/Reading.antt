@@ -2,12 +2,12 @@
 -- From: document 01, "What each operation refuses" (Reading); document 02, [10] ("The limit in 12 and 13 becomes a
 -- product of at most 59,049 settings").
 --
---   Outcome            what a file says, or the number of a refusal and its line
---   said_in o           what an outcome says; refusal_of and line_of_refusal its number and line
---   settings_few st     there are at most 59,049 settings by what was read, in the edition that it says
---   end_checks st       the checks after the last line; end_refusal st the number of the first that fails, or 0
---   ending st          what they leave
---   read_file f         the outcome of the file f
+--   Outcome           what a file says, or the number of a refusal and its line
+--   said_in o         what an outcome says; refusal_of and line_of_refusal its number and line
+--   settings_few st   there are at most 59,049 settings by what was read, in the edition that it says
+--   end_checks st     the checks after the last line; end_refusal st the number of the first that fails, or 0
+--   ending st         what they leave
+--   read_file f       the outcome of the file f
 use Rattle.std.specs.Prelude.{Bool, List, [], ◌∷◌, ℕ, zero, suc, leb, length}
 use Rattle.words.specs.Choice.{Check, check, first_failed}
 use Rattle.program.specs.Sound.{few_settings}

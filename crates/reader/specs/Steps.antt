@@ -1,12 +1,12 @@
 -- What the code's steps of reading answer and leave.
 --
---   end_refusal_in c cl       the checks 11 and 12 of a record and its clause table
---   Countable c cl          what counting the settings of a record takes
---   Zeroed t u              the tables u are t with zeros in their sizes
---   Ready f t               the file f is not too long, and the tables t have their full sizes and hold nothing
---   refused_at n k           the answer for the refusal n at line k; answer_of o the answer for an outcome
---   FileTaken f t u r       what reading a file into tables that hold nothing answers and leaves
---   LinesRead f t u r       what reading a file into tables of full size answers and leaves
+--   end_refusal_in c cl   the checks 11 and 12 of a record and its clause table
+--   Countable c cl        what counting the settings of a record takes
+--   Zeroed t u            the tables u are t with zeros in their sizes
+--   Ready f t             the file f is not too long, and the tables t have their full sizes and hold nothing
+--   refused_at n k        the answer for the refusal n at line k; answer_of o the answer for an outcome
+--   FileTaken f t u r     what reading a file into tables that hold nothing answers and leaves
+--   LinesRead f t u r     what reading a file into tables of full size answers and leaves
 use Rattle.std.specs.Prelude.{◌≡◌, List, [], ◌∷◌, ℕ, ◌≤◌, leb, length}
 use Rattle.words.specs.Choice.{unless_refused, check, first_failed}
 use Rattle.program.specs.declared.case.Case.{Case}

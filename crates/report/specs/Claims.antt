@@ -2,11 +2,11 @@
 -- From: document 01, "The program `causes`"; document 02, [6] (the decided total), [7] (the lowest
 -- cost).
 --
---   ReportFits           how long a report can be
---   ReportCut            a file that is too long, cut behind the limit
---   verdict_on st g       the verdict on the formula g of what a file says
---   VerdictsOnQueries    the verdicts are those on the file's queries
---   OneQuery             the report of a file with one query
+--   ReportFits          how long a report can be
+--   ReportCut           a file that is too long, cut behind the limit
+--   verdict_on st g     the verdict on the formula g of what a file says
+--   VerdictsOnQueries   the verdicts are those on the file's queries
+--   OneQuery            the report of a file with one query
 use Rattle.std.specs.Prelude.{◌≡◌, List, [], ◌∷◌, ◌++◌, map, ℕ, ◌≤◌, ◌<◌, length, take}
 use Rattle.logic.specs.Formula.{Formula, value_of}
 use Rattle.program.specs.Setting.{additions_of}

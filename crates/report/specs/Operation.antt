@@ -2,9 +2,9 @@
 -- From: document 01, "The program `causes`" and "What each operation refuses" ("For operations and tables that come
 -- later").
 --
---   report_refusal      0, or 19 the lent output is shorter than the text
---   ReportShown        the answer and the output at exit, for a text
---   Reported           the same for the report of a file
+--   report_refusal   0, or 19 the lent output is shorter than the text
+--   ReportShown      the answer and the output at exit, for a text
+--   Reported         the same for the report of a file
 use Rattle.std.specs.Prelude.{List, [], ◌∷◌, ℕ, leb, length}
 use Rattle.words.specs.Choice.{check, first_failed}
 use Rattle.output.specs.declared.Answer.{Answer}

@@ -1,6 +1,6 @@
 -- The first round in lanes.
 --
---   decided_at t f j a    the atom a is decided in lane j
+--   decided_at t f j a   the atom a is decided in lane j
 --   Opens ..             the planes of the first round, and which lanes and atoms it changed
 use Rattle.std.specs.Prelude.{◌≡◌, Bool, true, not, ◌&&◌, ◌||◌, List, ℕ, ◌<◌}
 use Rattle.words.specs.Below.{any}

@@ -1,7 +1,7 @@
 -- One round in lanes.
 --
---   noted_with c a m    c with the atom a that changed in the lanes m, or in none
---   open_at t f j a     the atom a is undecided in lane j
+--   noted_with c a m   c with the atom a that changed in the lanes m, or in none
+--   open_at t f j a    the atom a is undecided in lane j
 --   Noted ..           where one head is decided among the open lanes is noted
 --   ruled ..           what the rules of an atom are worth in a lane
 --   fresh q ..         a head of a word is undecided in a lane, and what its rules are worth passes the test q

@@ -44,7 +44,8 @@ module _ (c : Case) (cl co fo : List ℕ) (s : ℕ) where
       first-failed-behind 1 case_checks e ∙ first-failed-behind 13 setting_check f
       ∙ first-failed-here 14 [] (le-ltb s (settings_of (causes_of c cl)) l)
 
-  pub refusal-none : tables_full cl co fo ≡ true → sound c cl co fo ≡ true → s < settings_of (causes_of c cl) → refusal ≡ 0
+  pub refusal-none : tables_full cl co fo ≡ true → sound c cl co fo ≡ true → s < settings_of (causes_of c cl)
+      → refusal ≡ 0
   unfolding settle_refusal
   refusal-none e f l =
       first-failed-behind 1 case_checks e ∙ first-failed-behind 13 setting_check f

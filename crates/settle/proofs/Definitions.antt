@@ -35,7 +35,8 @@ defines-append p q a = ap has_some (bodies_append p q a) ∙ some-append (bodies
 pub bodies_value-append : (v : ℕ → Value) (p q : List Clause) (a : ℕ)
     → bodies_value v (p ++ q) a ≡ greater (bodies_value v p a) (bodies_value v q a)
 bodies_value-append v p q a =
-    ap (λ (fs : List Formula). value_of v (any_of fs)) (bodies_append p q a) ∙ any_append v (bodies_of p a) (bodies_of q a)
+    ap (λ (fs : List Formula). value_of v (any_of fs)) (bodies_append p q a)
+    ∙ any_append v (bodies_of p a) (bodies_of q a)
 
 defines-one : (c : Clause) (a : ℕ) → defines (c ∷ []) a ≡ eqb a c.head
 unfolding bodies_of

@@ -44,13 +44,15 @@ pub true_any : (v : ℕ → Value) (fs : List Formula) → is_true (value_of v (
 unfolding value_of any_of some_true
 true_any v [] = refl
 true_any v (f ∷ fs) =
-    true_greater (value_of v f) (value_of v (any_of fs)) ∙ ap (λ (b : Bool). is_true (value_of v f) || b) (true_any v fs)
+    true_greater (value_of v f) (value_of v (any_of fs))
+    ∙ ap (λ (b : Bool). is_true (value_of v f) || b) (true_any v fs)
 
 pub false_any : (v : ℕ → Value) (fs : List Formula) → is_false (value_of v (any_of fs)) ≡ all_false v fs
 unfolding value_of any_of all_false
 false_any v [] = refl
 false_any v (f ∷ fs) =
-    false_greater (value_of v f) (value_of v (any_of fs)) ∙ ap (λ (b : Bool). is_false (value_of v f) && b) (false_any v fs)
+    false_greater (value_of v f) (value_of v (any_of fs))
+    ∙ ap (λ (b : Bool). is_false (value_of v f) && b) (false_any v fs)
 
 -- ---- the value that bodies give
 pub given-some : (v : ℕ → Value) (fs : List Formula) → has_some fs ≡ true → given v fs ≡ value_of v (any_of fs)

@@ -75,7 +75,8 @@ abbrev marked : List Row
 marked = m3 ∷ m9 ∷ m10 ∷ []
 
 marked-settled : map answers marked ≡ map (λ (r : Row). r.expected) marked
-unfolding has word value_of literals_below clause_at clauses_of added_below heads_of causes_among causes_in causes_of atoms_from
+unfolding has word value_of literals_below clause_at clauses_of added_below heads_of causes_among causes_in causes_of
+    atoms_from
     choices_for product digits digit_of settings_of additions_of bodies_of some_true all_false next_value step
     rounds round_count sum ones settled
 marked-settled = refl

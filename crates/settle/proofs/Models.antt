@@ -36,7 +36,8 @@ all_append v (f ∷ fs) gs =
     ∙ sym (and_assoc (is_true (value_of v f)) (all_true v fs) (all_true v gs))
 
 module _ (v : ℕ → Value) (a : ℕ) where
-  equivalence-given : (fs : List Formula) → all_true v (equivalence_of a fs) ≡ true → has_some fs ≡ true → v a ≡ given v fs
+  equivalence-given : (fs : List Formula) → all_true v (equivalence_of a fs) ≡ true → has_some fs ≡ true
+      → v a ≡ given v fs
   unfolding all_true value_of
   equivalence-given [] e h = absurd (false≢true h)
   equivalence-given (f ∷ fs) e h =

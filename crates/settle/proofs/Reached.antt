@@ -158,5 +158,6 @@ module _ (p : List Clause) (s : Steady p) where
         pub newly-ends : t.decided ≡ 0 → made i k d ≡ settled p
         unfolding settled
         newly-ends n =
-            let found = ends (ap decided_in (sym after) ∙ sym newly ∙ ap (λ (x : ℕ). x + decided_in i) n ∙ omega arith) in
+            let found =
+            ends (ap decided_in (sym after) ∙ sym newly ∙ ap (λ (x : ℕ). x + decided_in i) n ∙ omega arith) in
             settled-eq (r.is ∙ ap (rounds p) found) found (z ∙ ap (decided_sum p) found)

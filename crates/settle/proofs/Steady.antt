@@ -87,7 +87,8 @@ kind_rises (suc (suc k)) f r = r
 clause-steady : (cl : List ℕ) (k : ℕ) → Steady (clause_at cl k ∷ [])
 unfolding clause_at
 clause-steady cl k =
-    steady-one (clause_at cl k) (kind_rises (kind_at cl k) _ (λ v w h. body_mono v w h (plain_at cl k) (negated_at cl k)))
+    steady-one (clause_at cl k)
+    (kind_rises (kind_at cl k) _ (λ v w h. body_mono v w h (plain_at cl k) (negated_at cl k)))
 
 pub program-steady : (cl : List ℕ) (n : ℕ) (x : Additions) → Steady (program_with cl n x)
 program-steady cl n x =

@@ -3,8 +3,8 @@
 --
 --   weak_completion n p   for each of n atoms with clauses, the atom "same" the "or" of its bodies
 --   all_true v fs         every formula of fs is true under v
---   Model n p v          v is a model of the weak completion
---   LeastModel n p v     v is a model, and contained in every other
+--   Model n p v           v is a model of the weak completion
+--   LeastModel n p v      v is a model, and contained in every other
 use Rattle.std.specs.Prelude.{◌≡◌, Bool, true, ◌&&◌, List, [], ◌∷◌, ◌++◌, ℕ, zero, suc}
 use Rattle.logic.specs.declared.value.Value.{Value}
 use Rattle.logic.specs.Value.{is_true}

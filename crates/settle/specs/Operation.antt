@@ -1,10 +1,10 @@
 -- What the operation *settle one setting* answers, on every input.
 -- From: document 01, "What each operation refuses"; document 02, [6] (the decided atoms), [10] (14 by the product).
 --
---   settle_refusal     0, or 1 a lent table too short, 13 the case isn't sound, 14 the case has no such setting
---   program_of         the case's program with a setting's facts and assumptions added
---   refused_with n     the answer of the refusal n
---   SettledOne        the answer, part by part
+--   settle_refusal   0, or 1 a lent table too short, 13 the case isn't sound, 14 the case has no such setting
+--   program_of       the case's program with a setting's facts and assumptions added
+--   refused_with n   the answer of the refusal n
+--   SettledOne       the answer, part by part
 use Rattle.std.specs.Prelude.{◌≡◌, List, [], ◌∷◌, ℕ, ltb}
 use Rattle.words.specs.Choice.{unless_refused, check, first_failed}
 use Rattle.program.specs.declared.case.Case.{Case}

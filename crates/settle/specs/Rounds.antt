@@ -1,12 +1,12 @@
 -- Rounds: applications of the step from the interpretation in which nothing is decided.
 -- From: document 01, "Interpretations and the step"; document 02, [6] ("settling carries the sum").
 --
---   rounds p k       the interpretation after k rounds
---   unchanged p k    k and k + 1 rounds give the same
+--   rounds p k        the interpretation after k rounds
+--   unchanged p k     k and k + 1 rounds give the same
 --   round_limit       the number of rounds among which it is looked for: as many as there can be atoms
 --   round_count p     the least such k; there is one up to the limit (Claims, SetSettled)
 --   decided_sum p k   the sum of the atoms newly decided by each of the first k rounds
---   settled p        the settled interpretation with its round count and that sum
+--   settled p         the settled interpretation with its round count and that sum
 use Rattle.std.specs.Prelude.{Bool, List, ℕ, zero, suc}
 use Rattle.words.specs.Below.{first, sum}
 use Rattle.logic.specs.declared.interpretation.Interpretation.{Interpretation}

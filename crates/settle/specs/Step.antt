@@ -1,10 +1,10 @@
 -- One application of the step (the semantic operator of documents 001, 002, 004).
 -- From: document 01, "Interpretations and the step"; document 02, [6] (what a round decides newly).
 --
---   bodies_of p a       the bodies of the clauses of p that have the head a
---   some_true v fs      some formula of fs is true under v
---   all_false v fs      every formula of fs is false under v
---   next_value p v a    the value of atom a after one application to the values v
+--   bodies_of p a      the bodies of the clauses of p that have the head a
+--   some_true v fs     some formula of fs is true under v
+--   all_false v fs     every formula of fs is false under v
+--   next_value p v a   the value of atom a after one application to the values v
 --   step p i           the interpretation after i
 --   stepped p i        the step's answer: the interpretation after i, and how many atoms it decides newly
 use Rattle.std.specs.Prelude.{Bool, true, false, ◌&&◌, ◌||◌, List, [], ◌∷◌, ℕ, eqb}

@@ -32,8 +32,10 @@ long-append (l ∷ ls) ms =
 pub short-lines : (ls : List (List ℕ)) → some_long_line ls ≡ false → Each (λ l. length l ≤ 200) ls
 unfolding some_long_line
 short-lines [] h = tt
-short-lines (l ∷ ls) h =
-    (ltb-false 200 (length l) (or_false_l _ (some_long_line ls) h), short-lines ls (or_false_r (ltb 200 (length l)) _ h))
+short-lines (l ∷ ls) h = (
+  ltb-false 200 (length l) (or_false_l _ (some_long_line ls) h),
+  short-lines ls (or_false_r (ltb 200 (length l)) _ h),
+)
 
 -- Ends
 

@@ -79,7 +79,8 @@ unfolding gap_of
 gap_room e g = rw e at g
 
 module _ {b : Bool} {out : List ℕ} {at : ℕ} where
-  pub gap_written : {r : ℕ} {out₁ : List ℕ} → b ≡ true → Writes (32 ∷ []) out at r out₁ → Writes (gap_of b) out at r out₁
+  pub gap_written : {r : ℕ} {out₁ : List ℕ} → b ≡ true → Writes (32 ∷ []) out at r out₁
+      → Writes (gap_of b) out at r out₁
   unfolding gap_of
   gap_written e w = rw e w
 

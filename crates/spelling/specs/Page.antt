@@ -1,10 +1,10 @@
 -- Lines written to a page: a place of the output where a line starts, and whether a line before it is long.
 -- From: document 02, [8] ("18 when a written line would pass 200 bytes without its LF").
 --
---   some_long_line ls      some line of ls is over 200 bytes
---   start_of g            the pen at the start of the page g
---   Ends g p ..          the line that started at the page g was ended at the pen p; the answer is the page behind it
---   Sets ls ..           the lines ls were written from the page g on; the answer is the page behind them
+--   some_long_line ls   some line of ls is over 200 bytes
+--   start_of g          the pen at the start of the page g
+--   Ends g p ..         the line that started at the page g was ended at the pen p; the answer is the page behind it
+--   Sets ls ..          the lines ls were written from the page g on; the answer is the page behind them
 use Rattle.std.specs.Prelude.{◌≡◌, Bool, false, ◌||◌, List, [], ◌∷◌, ℕ, ◌+◌, ◌-◌, ltb, length}
 use Rattle.text.specs.Spelled.{text_of}
 use Rattle.output.specs.Writing.{laid}

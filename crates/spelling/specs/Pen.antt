@@ -1,10 +1,10 @@
 -- Tokens written with a pen: a place of the output, and whether a word stands just before it.
 -- From: document 02, [8] ("One space stands between two words that no bracket parts, none elsewhere").
 --
---   gap_of b              what stands before a word, just behind another where the test b holds
---   behind_of b ts        a word stands just before, behind the tokens ts; without any where the test b holds
---   inked p ts           the text of the tokens ts from the pen p on
---   Spells ts ..         the tokens ts were written with the pen p; the answer is the pen behind them
+--   gap_of b         what stands before a word, just behind another where the test b holds
+--   behind_of b ts   a word stands just before, behind the tokens ts; without any where the test b holds
+--   inked p ts       the text of the tokens ts from the pen p on
+--   Spells ts ..     the tokens ts were written with the pen p; the answer is the pen behind them
 use Rattle.std.specs.Prelude.{◌≡◌, Bool, true, false, List, [], ◌∷◌, ℕ, ◌+◌, length}
 use Rattle.text.specs.Tokens.{Token}
 use Rattle.text.specs.Spelled.{spelled_from}

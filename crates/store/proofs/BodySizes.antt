@@ -2,7 +2,7 @@
 -- the lines have.
 --
 --   said_bodies st   how many literals the bodies of the clauses of st and then of its constraints hold
---   Within m st     each body of st holds at most m literals
+--   Within m st      each body of st holds at most m literals
 -- Assumes nothing.
 use mathlib.Core.Path.{◌≡◌, refl, ap, ◌∙◌}
 use mathlib.Core.Bool.{Bool, true, false, not, ◌&&◌, ◌||◌}

@@ -1,7 +1,7 @@
 -- The rows of tables that are filled with clauses, constraints and queries.
 --
---   no_row, no_constraint    a row of zeros
---   ClauseIs ..            the three words of clause k of a table are a row's; ConstraintIs is alike
+--   no_row, no_constraint   a row of zeros
+--   ClauseIs ..             the three words of clause k of a table are a row's; ConstraintIs is alike
 -- Assumes nothing.
 use mathlib.Core.Path.{◌≡◌, refl, ◌∙◌}
 use mathlib.Core.List.{List, [], ◌∷◌}

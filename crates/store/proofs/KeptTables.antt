@@ -58,7 +58,8 @@ nothing-limits = record {
   query-atoms = omega arith;
 }
 
-pub nothing-held : (t u : Lent) → u ≡ filled_with (words_of nothing_said) t → Held nothing_said (case_said nothing_said) u
+pub nothing-held : (t u : Lent) → u ≡ filled_with (words_of nothing_said) t
+    → Held nothing_said (case_said nothing_said) u
 nothing-held t u e = record {
   limits = nothing-limits;
   case-is = refl;

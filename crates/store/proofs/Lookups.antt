@@ -24,7 +24,8 @@ abbrev pub Finds : (List ℕ → ℕ) → (ℕ → List ℕ) → ℕ → Type 0
 Finds at name n = (a : ℕ) → a < n → at (name a) ≡ a
 
 module _ (f g : List ℕ → ℕ) where
-  pub on_same : (b : Bool) (l : List Literal) (a : ℕ) → Each (Agree f g) (body_names l) → some_on f b l a ≡ some_on g b l a
+  pub on_same : (b : Bool) (l : List Literal) (a : ℕ) → Each (Agree f g) (body_names l)
+      → some_on f b l a ≡ some_on g b l a
   unfolding some_on
   on_same b [] a h = refl
   on_same b (Literal.literal n w ∷ l) a h = rw (h.0, on_same b l a h.1)

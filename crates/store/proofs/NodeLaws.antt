@@ -88,7 +88,8 @@ module _ (at : List ℕ → ℕ) where
 
 -- of the tokens of a query behind its word
 query-nodes : (at : List ℕ → ℕ) (ts : List Token) (f : Sentence)
-    → items_of ts ≡ Option.some (Item.formula f ∷ (Item.closing ∷ [])) → nodes_from at false ts ≡ nodes (encoded_by at f)
+    → items_of ts ≡ Option.some (Item.formula f ∷ (Item.closing ∷ []))
+    → nodes_from at false ts ≡ nodes (encoded_by at f)
 unfolding nodes_from spelled_items
 query-nodes at ts f e =
     let s = subst (Spells ts) e (items_spell ts) in

@@ -36,7 +36,8 @@ use Rattle.store.proofs.Held.{clause-held, constraint-held, observed-held, query
 
 -- the masks m are those of the literals at place at of the line l, by the first n names in the table na
 abbrev MasksOf : List ℕ → ℕ → List ℕ → ℕ → Masks → Type 0
-MasksOf l at na n m = (ls : List Literal) → body_in (tokens (drop at l)) ≡ Option.some ls → m ≡ masks_by (row_of na n) ls
+MasksOf l at na n m =
+    (ls : List Literal) → body_in (tokens (drop at l)) ≡ Option.some ls → m ≡ masks_by (row_of na n) ls
 
 module _ {l : List ℕ} {x : Form} {c : Case} {y : Line} (s : Storable l x c y) where
   form-told : {z : Form} → x ≡ z → FormIs l z y

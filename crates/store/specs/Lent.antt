@@ -2,7 +2,7 @@
 -- From: document 01, "Case tables and sound cases"; document 02, [7] (prices).
 --
 --   lent cl co fo na pr   the tables of clauses, constraints, nodes, names and prices
---   filled_with w t        each table of t, in its size, filled with that of w
+--   filled_with w t       each table of t, in its size, filled with that of w
 use Rattle.std.specs.Prelude.{List, ℕ}
 use Rattle.program.specs.Case.{clause_size, constraint_size, formula_size, name_size, price_size}
 use Rattle.table.specs.Filled.{filled}

@@ -1,9 +1,9 @@
 -- The nodes of a formula by a lookup of names, as they stand in a line and in a table.
 --
---   nodes_from at b ts    the nodes of the words of the tokens ts, by the lookup at: a word behind an opening bracket,
+--   nodes_from at b ts   the nodes of the words of the tokens ts, by the lookup at: a word behind an opening bracket,
 --                        as the first where b holds, is a form's, any other a name
 --   NodeTable            a table and how many nodes it has
---   with_nodes s xs       s with the nodes xs behind the others, as far as there is room
+--   with_nodes s xs      s with the nodes xs behind the others, as far as there is room
 use Rattle.std.specs.Prelude.{Bool, true, false, List, [], ◌∷◌, ℕ, ◌+◌, ltb, set}
 use Rattle.words.specs.Choice.{pick}
 use Rattle.program.specs.Case.{part_size}

@@ -2,12 +2,12 @@
 -- From: document 02, [7] ("The price of a cause is P plus P × S / 100, the supplement rounded to the nearest cent, half
 -- a cent upwards. A cause without a line costs 0").
 --
---   supplement p s     s per cent of the price p, rounded to the nearest cent, half a cent upwards
---   price_of p s        the price p with its supplement
---   CostRow            an atom and its price
---   has_cost cs a       some row of cs is of atom a
---   price_in cs a       the price of atom a by the rows cs, 0 without a row
---   prices_of cs        the prices of all 64 atoms
+--   supplement p s   s per cent of the price p, rounded to the nearest cent, half a cent upwards
+--   price_of p s     the price p with its supplement
+--   CostRow          an atom and its price
+--   has_cost cs a    some row of cs is of atom a
+--   price_in cs a    the price of atom a by the rows cs, 0 without a row
+--   prices_of cs     the prices of all 64 atoms
 use Rattle.std.specs.Prelude.{Bool, false, ◌||◌, List, [], ◌∷◌, ℕ, ◌+◌, ◌*◌, ◌/◌, eqb}
 use Rattle.words.specs.Choice.{pick}
 use Rattle.words.specs.Lists.{list_of}

@@ -2,16 +2,18 @@
 -- From: document 01, "The file" and "Case tables and sound cases"; document 02, [5] (the kind of a constraint), [7]
 -- (costs), [8] (an atom line "only names an atom"), [10] ("`(edition 1)` or no line leaves it off").
 --
---   Said               what was read so far; plain and negated are the observed atoms, bit i for atom i; editions are
---                      the numbers of the edition lines, in file order
---   nothing_said        what was read before the first line; renamed and with.. are st with a part exchanged
---   edition_of es       the edition by the edition lines es: that of the last, 1 without one
---   some_on at b ls a   some literal of ls is on atom a, by the lookup at
---   atoms_by at b ls    the atoms of the negated (b) or plain literals of ls, bit i for atom i; one repeated counts once
---   plain_atoms ns ls   the atoms of the plain literals of ls, by the names ns; negated_atoms those of the negated ones
---   encoded_by at f     the formula f with the names' atoms by the lookup at; encoded ns f by the names ns
---   said_by st x        st, which has the names of the line x already, with what x says; an atom line says no more
---   is_second_cost st x  x is a cost of a name that has one in st, which has the names of x already
+--   Said                  what was read so far; plain and negated are the observed atoms, bit i for atom i; editions
+--                         are the numbers of the edition lines, in file order
+--   nothing_said          what was read before the first line; renamed and with.. are st with a part exchanged
+--   edition_of es         the edition by the edition lines es: that of the last, 1 without one
+--   some_on at b ls a     some literal of ls is on atom a, by the lookup at
+--   atoms_by at b ls      the atoms of the negated (b) or plain literals of ls, bit i for atom i; one repeated counts
+--                         once
+--   plain_atoms ns ls     the atoms of the plain literals of ls, by the names ns; negated_atoms those of the negated
+--                         ones
+--   encoded_by at f       the formula f with the names' atoms by the lookup at; encoded ns f by the names ns
+--   said_by st x          st, which has the names of the line x already, with what x says; an atom line says no more
+--   is_second_cost st x   x is a cost of a name that has one in st, which has the names of x already
 use Rattle.std.specs.Prelude.{Bool, true, false, not, ◌&&◌, ◌||◌, List, [], ◌∷◌, ◌++◌, ℕ, ◌-◌, eqb}
 use Rattle.words.specs.Choice.{pick}
 use Rattle.words.specs.Bits.{has, word}

@@ -1,12 +1,13 @@
 -- What storing a form of a line leaves.
 --
---   with_rows c n m      the record c with n clauses and m constraints; with_formula, with_observed_atoms and of_edition are
---                       alike
---   ClauseStored ..     one clause more; ConstraintStored, ObservedStored, QueryStored are alike
+--   with_rows c n m      the record c with n clauses and m constraints; with_formula, with_observed_atoms and
+--                        of_edition are alike
+--   ClauseStored ..      one clause more; ConstraintStored, ObservedStored, QueryStored are alike
 --   with_price t a p     the table t with the price p of atom a, where a is below 64
---   Room c b            behind c there is room for what a line brings, and its price and supplement are in their limits
---   Storable l x c y    x is the form of the line l, which says y, and behind c there is room for it
---   StoredAs y c t r u  the record r and the tables u are c and t with what the line y says
+--   Room c b             behind c there is room for what a line brings, and its price and supplement are in their
+--                        limits
+--   Storable l x c y     x is the form of the line l, which says y, and behind c there is room for it
+--   StoredAs y c t r u   the record r and the tables u are c and t with what the line y says
 use Rattle.std.specs.Prelude.{◌≡◌, false, List, [], ◌∷◌, ℕ, ◌+◌, ◌*◌, ◌≤◌, ltb, length, set, take, drop}
 use Rattle.std.proofs.lemmas.List.Edits.{sets}
 use Rattle.words.specs.Choice.{pick}

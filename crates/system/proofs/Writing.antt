@@ -10,4 +10,5 @@ use lib.Seq.{take-add}
 pub write_on : (a n : ℕ) (t : List ℕ) (x y z : Option (List ℕ)) → Appends x y (take a t)
     → Appends y z (take n (take (length t - a) (drop a t))) → Appends x z (take (a + n) t)
 write_on a n t x y z before c =
-    subst (Appends x z) (ap (λ l. take a t ++ take n l) (take_rest t a) ∙ sym (take-add a n t)) (Appends-trans x y z _ _ before c)
+    subst (Appends x z) (ap (λ l. take a t ++ take n l) (take_rest t a) ∙ sym (take-add a n t))
+    (Appends-trans x y z _ _ before c)

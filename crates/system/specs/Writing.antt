@@ -1,7 +1,8 @@
 -- What writing a text promises: all but that the system's calls move the bytes.
 --
---   WritesText r old new t   from old to new, the bytes written grow by the text t, or at an error by a beginning of it
---   TellsFault what old new     from old to new, the bytes written grow by a line that begins with what and a colon
+--   WritesText r old new t    from old to new, the bytes written grow by the text t, or at an error by a beginning of
+--                             it
+--   TellsFault what old new   from old to new, the bytes written grow by a line that begins with what and a colon
 use Rattle.std.specs.Prelude.{◌++◌, ◌∷◌, [], codes, List, ℕ, take, MatchResult, Result, Option}
 use Rattle.std.specs.Io.KnownBytes.{Appends}
 

@@ -30,7 +30,8 @@ pub place-le : (ns : List (List ℕ)) (w : List ℕ) → place_of ns w ≤ lengt
 place-le [] w = rw place_none (omega arith)
 place-le (n ∷ ns) w =
     let ih = place-le ns w in
-    by_test (same_bytes n w) (λ e. rw (place_here n w ns e) (omega arith)) (λ e. rw (place-later n w ns e) (omega arith))
+    by_test (same_bytes n w) (λ e. rw (place_here n w ns e) (omega arith))
+    (λ e. rw (place-later n w ns e) (omega arith))
 
 -- the word at the place of w is w
 pub place-name : (ns : List (List ℕ)) (w : List ℕ) → place_of ns w < length ns → get_or ns (place_of ns w) [] ≡ w
@@ -49,10 +50,12 @@ place-first (n ∷ ns) w zero h e =
     rw (place_here n w ns s) (omega arith)
 place-first (n ∷ ns) w (suc i) h e =
     let ih = place-first ns w i (le_of_suc-le-suc h) e in
-    by_test (same_bytes n w) (λ s. rw (place_here n w ns s) (omega arith)) (λ s. rw (place-later n w ns s) (omega arith))
+    by_test (same_bytes n w) (λ s. rw (place_here n w ns s) (omega arith))
+    (λ s. rw (place-later n w ns s) (omega arith))
 
 -- a word that is found keeps its place when others are put behind
-pub place-append : (ns ms : List (List ℕ)) (w : List ℕ) → place_of ns w < length ns → place_of (ns ++ ms) w ≡ place_of ns w
+pub place-append : (ns ms : List (List ℕ)) (w : List ℕ) → place_of ns w < length ns
+    → place_of (ns ++ ms) w ≡ place_of ns w
 place-append [] ms w h = absurd (not-suc-le-zero h)
 place-append (n ∷ ns) ms w h =
     by_test

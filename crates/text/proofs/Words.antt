@@ -82,7 +82,8 @@ pub line-names_are_short : (n : ℕ) (l : List ℕ) → length l ≤ n → Each 
 line-names_are_short n l h = names-each (AtMost n) false (tokens l) (tokens-from-short n [] l (omega arith))
 
 -- a word is a name by its first byte
-pub name-first : (l : List ℕ) (a e : ℕ) → a < e → e ≤ length l → begins_with_letter (slice a e l) ≡ is_letter (get_or l a 0)
+pub name-first : (l : List ℕ) (a e : ℕ) → a < e → e ≤ length l
+    → begins_with_letter (slice a e l) ≡ is_letter (get_or l a 0)
 unfolding begins_with_letter
 name-first l a e h k = rw (slice-cons a e l 0 h k)
 

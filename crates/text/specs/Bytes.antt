@@ -3,10 +3,10 @@
 --
 --   is_letter, is_digit   a to z, 0 to 9
 --   is_word_byte b        b stands in words: a letter, a digit or `-`
---   is_allowed b         b may stand in a line that is no comment: a word's byte, a space or a bracket
---   all_of p l           every byte of l passes p
---   same_bytes l m       l and m are the same bytes
---   bytes t             the bytes of a quoted text, which is ASCII
+--   is_allowed b          b may stand in a line that is no comment: a word's byte, a space or a bracket
+--   all_of p l            every byte of l passes p
+--   same_bytes l m        l and m are the same bytes
+--   bytes t               the bytes of a quoted text, which is ASCII
 use Rattle.std.specs.Prelude.{Bool, true, false, ◌&&◌, ◌||◌, List, [], ◌∷◌, ℕ, eqb, leb}
 use Prim.Native.Char.{code}
 use Prim.Native.String.{String}

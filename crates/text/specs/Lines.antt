@@ -1,8 +1,8 @@
 -- The lines of a file.
 -- From: document 01, "The file" ("Lines end in LF; the last may lack it").
 --
---   lines f          the lines of the file f, without their LFs; a final LF starts no further line
---   is_comment l      the first byte of l is `;`
+--   lines f        the lines of the file f, without their LFs; a final LF starts no further line
+--   is_comment l   the first byte of l is `;`
 use Rattle.std.specs.Prelude.{Bool, false, List, [], ◌∷◌, ◌++◌, ℕ, eqb}
 use Rattle.words.specs.Choice.{pick}
 

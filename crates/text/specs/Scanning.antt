@@ -1,13 +1,13 @@
 -- What scanning a file or a line from a place finds, in the code's places.
 --
---   LineEnds f at e     the line that starts at place at of the file f ends before place e
---   WordEnds l at e     the word that starts at place at of the line l ends before place e
---   first_token l r      the tokens that begin with what r found in the line l
---   Found l at r        r is the first token at or behind place at of the line l
---   first_name l r       the names that begin with what r found in the line l
---   NameFound l at r    r is the first name at or behind place at of the line l, where no bracket is open at that place
---   DigitsRead w r      r is the number that the digits w stand for, or that they are none
---   NumberRead w r      r is the number that the word w is, or that it is none
+--   LineEnds f at e    the line that starts at place at of the file f ends before place e
+--   WordEnds l at e    the word that starts at place at of the line l ends before place e
+--   first_token l r    the tokens that begin with what r found in the line l
+--   Found l at r       r is the first token at or behind place at of the line l
+--   first_name l r     the names that begin with what r found in the line l
+--   NameFound l at r   r is the first name at or behind place at of the line l, where no bracket is open at that place
+--   DigitsRead w r     r is the number that the digits w stand for, or that they are none
+--   NumberRead w r     r is the number that the word w is, or that it is none
 use Rattle.std.specs.Prelude.{◌≡◌, true, false, List, [], ◌∷◌, ℕ, ◌+◌, ◌≤◌, ◌<◌, length, drop}
 use Rattle.std.proofs.Math.Seq.{slice}
 use Rattle.text.specs.declared.tokens.Next.{Next}

@@ -2,8 +2,8 @@
 -- From: document 02, [8] ("One space stands between two words that no bracket parts, none elsewhere"); document 01,
 -- "The file" ("Lines end in LF").
 --
---   spelled ts       the text of the tokens ts
---   text_of ls        the lines ls, each of which ends in LF
+--   spelled ts   the text of the tokens ts
+--   text_of ls   the lines ls, each of which ends in LF
 use Rattle.std.specs.Prelude.{Bool, true, false, List, [], ◌∷◌, ◌++◌, ℕ}
 use Rattle.text.specs.Tokens.{Token}
 

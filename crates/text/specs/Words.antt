@@ -3,12 +3,12 @@
 -- document 02, [7] (numbers stand where words do, and are no names).
 --
 --   begins_with_letter w   w begins with a letter; the rest of a word is letters, digits and `-` anyway
---   names_in ts           the names of a line's tokens in order: the words that begin with a letter and do not follow an
---                        opening bracket
---   place_of ws w         the place of the first of the words ws that is w, or how many there are
---   IsWord w             w has a byte, and only bytes that stand in words
---   EachWord P ts        each word of the tokens ts passes P
---   WordBytes ts         the words of the tokens ts are words
+--   names_in ts            the names of a line's tokens in order: the words that begin with a letter and do not follow
+--                          an opening bracket
+--   place_of ws w          the place of the first of the words ws that is w, or how many there are
+--   IsWord w               w has a byte, and only bytes that stand in words
+--   EachWord P ts          each word of the tokens ts passes P
+--   WordBytes ts           the words of the tokens ts are words
 use Rattle.std.specs.Prelude.{◌≡◌, Bool, true, false, not, ◌&&◌, List, [], ◌∷◌, ℕ, suc, ◌<◌, length}
 use Rattle.words.specs.Choice.{pick, cons_if}
 use Rattle.text.specs.Bytes.{is_letter, is_word_byte, all_of, same_bytes}

@@ -21,7 +21,8 @@ use Rattle.report.specs.Report.{clause_table, constraint_table, formula_table, p
 
 abbrev pub tables_said : Said → Lent
 tables_said st =
-    lent (clause_table st) (constraint_table st) (formula_table st) (padded name_size (rows_of st.names)) (price_table st)
+    lent (clause_table st) (constraint_table st) (formula_table st) (padded name_size (rows_of st.names))
+    (price_table st)
 
 abbrev pub longest_text : ℕ
 longest_text = 32768

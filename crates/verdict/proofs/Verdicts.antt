@@ -46,7 +46,8 @@ module _ (J : Judge) (q : ℕ) where
   unfolding false_in_all
   false_in_next s l = refl
 
-  pub all_true-more : (s : ℕ) (l : List ℕ) → true_in_all J q (l ++ (s ∷ [])) ≡ (true_in_all J q l && is_true (J.value q s))
+  pub all_true-more : (s : ℕ) (l : List ℕ)
+      → true_in_all J q (l ++ (s ∷ [])) ≡ (true_in_all J q l && is_true (J.value q s))
   unfolding true_in_all
   all_true-more s [] = and-true (is_true (J.value q s))
   all_true-more s (x ∷ l) = rw (all_true-more s l, and_assoc)

@@ -1,10 +1,10 @@
 -- What the walk counts setting by setting.
 --
---   no_counts n          the counts before the first setting, for n queries
---   counts_with k v      the counts k with one minimal explanation more, in which query q has the value v q
---   told_with k q x      the counts k with the value x of query q in a minimal explanation
---   verdicts_by k n      the verdicts on the first n queries by the counts k
---   Counted J cs s k    k are the counts over the settings below s
+--   no_counts n        the counts before the first setting, for n queries
+--   counts_with k v    the counts k with one minimal explanation more, in which query q has the value v q
+--   told_with k q x    the counts k with the value x of query q in a minimal explanation
+--   verdicts_by k n    the verdicts on the first n queries by the counts k
+--   Counted J cs s k   k are the counts over the settings below s
 use Rattle.std.specs.Prelude.{◌≡◌, true, ◌&&◌, List, ℕ, ◌+◌, length}
 use Rattle.words.specs.Choice.{pick}
 use Rattle.words.specs.Bits.{has, word}

@@ -1,10 +1,10 @@
 -- What is known of the settings of lanes before they are visited.
 --
 --   query_under i ns fo q   the value under i of the query with the nodes of formula q
---   Askable ns fo k        the queries that the counts k still ask are formulas of the table fo
---   Tells ..               what is judged of a setting is what the judge J says of it
---   Room ns fo s f list    what visiting setting s asks of what is found so far
---   Seen ..                what is known of the first m settings from first on
+--   Askable ns fo k         the queries that the counts k still ask are formulas of the table fo
+--   Tells ..                what is judged of a setting is what the judge J says of it
+--   Room ns fo s f list     what visiting setting s asks of what is found so far
+--   Seen ..                 what is known of the first m settings from first on
 use Rattle.std.specs.Prelude.{◌≡◌, Bool, true, List, ℕ, ◌+◌, ◌≤◌, ◌<◌, length}
 use Rattle.std.specs.Int.Bits.{bit_or}
 use Rattle.words.specs.Bits.{has}

@@ -76,7 +76,8 @@ module _ (ns : List (List ℕ)) (name : ℕ → List ℕ) (h : NamedBy ns name) 
         ∙ ap (λ x. with_clauses (done ++ (x ∷ []))) (clause-back c f)
 
   clause-step : (done : List ClauseRow) (c : ClauseRow) (rest : List ClauseRow)
-      → Left ClauseWritten 256 done (c ∷ rest) → Step (clause_line name) with_clauses (Left ClauseWritten 256) done c rest
+      → Left ClauseWritten 256 done (c ∷ rest)
+      → Step (clause_line name) with_clauses (Left ClauseWritten 256) done c rest
   clause-step done c rest r =
       let f = r.each.0.0 in
       let m = left-room ClauseWritten 256 done c rest r in

@@ -1,9 +1,9 @@
 -- A line that may stand behind what was read: its text passes the checks, and gives what the line says, unless it has
 -- more than 11 literals.
 --
---   named_by st x     st with the names of the line x
---   after st x       st with the names of the line x and with what it says
---   Fits st x        the line x may stand behind st, the number of its literals aside
+--   named_by st x   st with the names of the line x
+--   after st x      st with the names of the line x and with what it says
+--   Fits st x       the line x may stand behind st, the number of its literals aside
 -- Assumes nothing.
 use mathlib.Core.Path.{◌≡◌, ap, ◌∙◌}
 use mathlib.Core.Bool.{Bool, true, false}

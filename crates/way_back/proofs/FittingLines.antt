@@ -1,10 +1,10 @@
 -- Lines that may stand one behind the other, what was read after them, and what a file of them gives.
 --
---   Reads st xs u          behind st each of the lines xs fits, and after them u was read
---   literals_in x           how many literals the line x has
---   Step line state ..     the line of a fits behind the entries done, and adds a to them
---   Left P m done rest     of at most m entries done and rest, P holds of each of rest
---   Written line P a       P holds of the entry a, and its line is at most 200 bytes long
+--   Reads st xs u        behind st each of the lines xs fits, and after them u was read
+--   literals_in x        how many literals the line x has
+--   Step line state ..   the line of a fits behind the entries done, and adds a to them
+--   Left P m done rest   of at most m entries done and rest, P holds of each of rest
+--   Written line P a     P holds of the entry a, and its line is at most 200 bytes long
 -- Assumes nothing.
 use mathlib.Core.Path.{◌≡◌, sym, ap, subst, ◌∙◌}
 use mathlib.Core.List.{List, [], ◌∷◌, ◌++◌, map, append_assoc, append-nil}

@@ -15,7 +15,8 @@ use Rattle.grammar.specs.Line.{Line}
 use Rattle.store.specs.Saying.{Said}
 use Rattle.store.proofs.BodySizes.{clause_body, constraint_body, said_bodies}
 use Rattle.reader.proofs.WellFormed.{BitsBelow, ClauseFormed, ConstraintFormed}
-use Rattle.writing.specs.Lines.{literals_on, literals_for, clause_line, constraint_line, query_line, cost_line, lines_of}
+use Rattle.writing.specs.Lines.{literals_on, literals_for, clause_line, constraint_line, query_line, cost_line}
+use Rattle.writing.specs.Lines.{lines_of}
 use Rattle.way_back.proofs.FirstOver.{FirstOver, all-few, first-over, over-behind, over-before}
 use Rattle.way_back.specs.Bodies.{body_size, AllFew, FirstLong}
 use Rattle.way_back.proofs.FittingLines.{literals_in}

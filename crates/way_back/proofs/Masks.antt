@@ -64,7 +64,10 @@ module _ (at : List ℕ → ℕ) (name : ℕ → List ℕ) (n : ℕ) (f : Finds 
     negated_back =
         sym (is-atoms at true q ls (lt_of_lt_of_le hq (pow_mono few)) (λ i h. sym (
         on-append at true (literals_on name false (atoms_in p)) (literals_on name true (atoms_in q)) i
-        ∙ rw (found-other at name true (atoms_in p) i, found-on at name n f true (atoms_in q) i (each_below q n 64 0 hq))
+        ∙ rw (
+          found-other at name true (atoms_in p) i,
+          found-on at name n f true (atoms_in q) i (each_below q n 64 0 hq),
+        )
         (in_atoms q 64 0 i (omega arith) (omega arith)))))
 
     -- there is a literal where there is a bit

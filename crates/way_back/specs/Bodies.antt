@@ -3,10 +3,10 @@
 -- cases".
 --
 --   body_size p q    the literals of a body with the words p of its plain and q of its negated atoms
---   body_sizes c t   those of the clauses of the case c with the tables t and then of its constraints, in table order; a
---                   fact and an assumption have none
---   AllFew l        each of the sizes l is at most 11
---   FirstLong l k   of the sizes l, that at place k, counted from 0, is the first that is more
+--   body_sizes c t   those of the clauses of the case c with the tables t and then of its constraints, in table order;
+--                    a fact and an assumption have none
+--   AllFew l         each of the sizes l is at most 11
+--   FirstLong l k    of the sizes l, that at place k, counted from 0, is the first that is more
 use Rattle.std.specs.Prelude.{List, ◌++◌, ℕ, ◌+◌, ◌≤◌, ◌<◌, length, get_or}
 use Rattle.std.specs.Int.Count.{ones}
 use Rattle.words.specs.Lists.{list_of}

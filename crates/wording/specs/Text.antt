@@ -2,16 +2,16 @@
 -- From: document 01, "The program `causes`"; document 02, [6] ("a line `(decided total)` after the rounds"), [7] ("ends
 -- with a line `(cheapest C)`").
 --
---   lines_of f l                 the lines that f gives for the numbers l, one behind another
---   verdict_word v               the word of the verdict with the number v
---   verdict_lines vs             the lines of the verdicts with the numbers vs
+--   lines_of f l                the lines that f gives for the numbers l, one behind another
+--   verdict_word v              the word of the verdict with the number v
+--   verdict_lines vs            the lines of the verdicts with the numbers vs
 --   abducibles name l ds        (true N) or (false N) for each cause of l whose digit in ds isn't 0, in atom order
---   cause_line name w s          the line of setting s of the causes w
---   cause_lines name w l         the lines of the settings l
---   cheapest_lines m c           the line of the lowest cost c among m minimal explanations, if there are any
---   answer_text name w vs t l    verdicts vs, rounds, decided atoms, minimal explanations and lowest cost t, and of the
+--   cause_line name w s         the line of setting s of the causes w
+--   cause_lines name w l        the lines of the settings l
+--   cheapest_lines m c          the line of the lowest cost c among m minimal explanations, if there are any
+--   answer_text name w vs t l   verdicts vs, rounds, decided atoms, minimal explanations and lowest cost t, and of the
 --                               minimal ones the settings l listed
---   refusal_text n k             the refusal with the number n at line k
+--   refusal_text n k            the refusal with the number n at line k
 use Rattle.std.specs.Prelude.{List, [], ◌∷◌, ◌++◌, ℕ, zero, suc, length}
 use Rattle.program.specs.declared.cause.Causes.{Causes}
 use Rattle.program.specs.Cause.{atoms_in}

@@ -84,7 +84,8 @@ module _ (w i : ℕ) (b : BitOf w i) where
       (λ q. q) (eq-or-lt_of_le (and_le_l w _))
 
   -- some bit of w passes a test: bit i, or one of the others
-  pub any_without : (p : ℕ → Bool) → any 64 (λ j. has w j && p j) ≡ (any 64 (λ j. has (without_bit w i) j && p j) || p i)
+  pub any_without : (p : ℕ → Bool)
+      → any 64 (λ j. has w j && p j) ≡ (any 64 (λ j. has (without_bit w i) j && p j) || p i)
   any_without p =
       any_ext 64 _ _
       (λ j l. split (has w j) (p j) (eqb j i) (λ e. ap (has w) (eqb-true j i e) ∙ b.there)

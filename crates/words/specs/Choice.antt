@@ -2,11 +2,11 @@
 -- From: document 01, "What each operation refuses" (refusals by number, in their order).
 --
 --   pick t x y             x where the test t holds, otherwise y
---   cons_if t x l           x in front of l where the test t holds, otherwise l
---   unless_refused n x y    x where the refusal n is 0, otherwise y
---   first_of n m            n where it is a refusal, otherwise m
+--   cons_if t x l          x in front of l where the test t holds, otherwise l
+--   unless_refused n x y   x where the refusal n is 0, otherwise y
+--   first_of n m           n where it is a refusal, otherwise m
 --   check n t              the test t, where it fails refused with n
---   first_failed l          the number of the first check of l that fails, 0 where all pass
+--   first_failed l         the number of the first check of l that fails, 0 where all pass
 use Rattle.std.specs.Prelude.{Bool, true, false, List, [], ◌∷◌, ℕ, zero, suc}
 
 abbrev pub pick : {A : Type 0} → Bool → A → A → A

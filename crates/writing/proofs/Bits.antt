@@ -29,7 +29,8 @@ module _ (name : ℕ → List ℕ) (b : Bool) where
   on_none : on_tokens name b 0 ≡ []
   on_none = ap (λ (l : List ℕ). body_tokens (literals_on name b l)) atoms-zero ∙ body-none
 
-  on_lowest : (w a : ℕ) → LowestOf w a → on_tokens name b w ≡ literal_tokens name b a ++ on_tokens name b (without_bit w a)
+  on_lowest : (w a : ℕ) → LowestOf w a
+      → on_tokens name b w ≡ literal_tokens name b a ++ on_tokens name b (without_bit w a)
   on_lowest w a h =
       ap (λ (l : List ℕ). body_tokens (literals_on name b l)) (atoms_lowest w a h)
       ∙ body-first (Literal.literal b (name a)) (literals_on name b (atoms_in (without_bit w a)))

@@ -48,7 +48,8 @@ both_texts : (xs ys : List Line) {ls ms : List (List ℕ)} → map line_text xs 
     → map line_text (xs ++ ys) ≡ ls ++ ms
 both_texts xs ys e f = map-append line_text xs ys ∙ ap₂ (λ (l m : List (List ℕ)). l ++ m) e f
 
-cost-texts : (na pr : List ℕ) (n : ℕ) → map line_text (map (cost_line (name_in na)) (costs_in pr n)) ≡ cost_texts na pr n
+cost-texts : (na pr : List ℕ) (n : ℕ)
+    → map line_text (map (cost_line (name_in na)) (costs_in pr n)) ≡ cost_texts na pr n
 unfolding costs_in cost_texts
 cost-texts na pr zero = refl
 cost-texts na pr (suc a) =
@@ -124,7 +125,8 @@ module _ (c : Case) (t : Lent) where
     pub case-more : {r : Page} {out₂ : List ℕ} → Sets piece out₁ q r out₂ → CaseLeft out later r out₂
     case-more k = lines_more h piece later refl k
 
-  pub case-room-last : {out out₁ : List ℕ} {q : Page} → CaseLeft out from_costs q out₁ → Room (text_of (case_lines c t)) 0
+  pub case-room-last : {out out₁ : List ℕ} {q : Page} → CaseLeft out from_costs q out₁
+      → Room (text_of (case_lines c t)) 0
       → Room (text_of from_costs) q.at
   case-room-last h r = lines-room h from_costs [] (sym (append-nil from_costs)) r
 

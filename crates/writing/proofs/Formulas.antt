@@ -164,7 +164,8 @@ module _ (ns fo : List ℕ) (q : ℕ) where
   lent_one e = rw (nodes-lent ns fo q) e
 
   module _ (na : List ℕ) where
-    pub lent-room : {at : ℕ} → Room (text_of (line_text (query_line (name_in na) (formula_of (nodes_of ns fo q))) ∷ [])) at
+    pub lent-room : {at : ℕ}
+        → Room (text_of (line_text (query_line (name_in na) (formula_of (nodes_of ns fo q))) ∷ [])) at
         → Room (text_of (line_text (query_line (name_in na) (formula_of lent_nodes)) ∷ [])) at
     lent-room h = rw (nodes-lent ns fo q) h
 

@@ -4,12 +4,12 @@
 -- price above 0 is written, with supplement 0"), [10] ("A case of edition 2 is written with that line after its `atom`
 -- lines").
 --
---   literals_on name b l     the literals on the atoms l, negated where b holds; name gives the name of each atom
---   literals_for name p q    the plain literals on the atoms of the word p, then the negated ones on those of q
+--   literals_on name b l    the literals on the atoms l, negated where b holds; name gives the name of each atom
+--   literals_for name p q   the plain literals on the atoms of the word p, then the negated ones on those of q
 --   decoded name f          the formula f with the atoms' names
---   clause_line, ..          the line of a clause, a constraint, a query or a cost
---   lines_of name st         the lines of what st says
---   line_text x              the text of the line x, without its LF
+--   clause_line, ..         the line of a clause, a constraint, a query or a cost
+--   lines_of name st        the lines of what st says
+--   line_text x             the text of the line x, without its LF
 use Rattle.std.specs.Prelude.{Bool, true, false, List, [], ◌++◌, map, ℕ}
 use Rattle.logic.specs.Formula.{Formula}
 use Rattle.program.specs.Cause.{atoms_in}

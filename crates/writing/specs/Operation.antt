@@ -1,14 +1,14 @@
 -- What the operation *write* answers and leaves in the lent output, on every input.
 -- From: document 02, [8]; document 01, "What each operation refuses" ("For operations and tables that come later").
 --
---   is_name_row t a        row a of the names table t is a name and zeros behind it
+--   is_name_row t a       row a of the names table t is a name and zeros behind it
 --   is_repeated t a       a row before row a of the names table t is the same
---   writable c t         the case c with the tables t is sound, its names are names and differ, its prices are at most
---                        2,000,000
+--   writable c t          the case c with the tables t is sound, its names are names and differ, its prices are at most
+--                         2,000,000
 --   case_lines c t        the lines of the case, without their LFs; case_text c t its text
 --   write_refusal c t n   0, or 1 a lent table too short, 13 the case isn't writable, 18 a line of its text over 200
---                        bytes or the text over 32,768, 19 the output, n bytes long, shorter than the text
---   WrittenAs ..         the answer and the output at exit
+--                         bytes or the text over 32,768, 19 the output, n bytes long, shorter than the text
+--   WrittenAs ..          the answer and the output at exit
 use Rattle.std.specs.Prelude.{Bool, not, ◌&&◌, List, [], ◌∷◌, map, ℕ, leb, length, get_or}
 use Rattle.words.specs.Below.{any, every}
 use Rattle.words.specs.Choice.{check, first_failed}

@@ -5,15 +5,16 @@
 --   priced_text na pr a       the text of the line of atom a's price, where it is above 0
 --   literal_tokens name b a   the tokens of the literal on atom a, negated where b holds
 --   opened_by w               the tokens that a form with the word w begins with
---   Closes g p ..            the line that started at the page g was closed and ended at the pen p
---   FormulaRoom ..           a formula begins at a place of the nodes, and there is room for its text
---   FormulaWritten ..        the formula that begins there was written; next is the place behind it
---   KindsSound cl n          the first n clauses are of a kind there is; BarsSound so of constraints
---   QueriesSound ..          the nodes of each of the first n formulas, at most 128, are one formula
---   EndsName na a r          r is the place behind the name in row a
---   Fit c t                  the tables t fit, and the case c with them is writable
+--   Closes g p ..             the line that started at the page g was closed and ended at the pen p
+--   FormulaRoom ..            a formula begins at a place of the nodes, and there is room for its text
+--   FormulaWritten ..         the formula that begins there was written; next is the place behind it
+--   KindsSound cl n           the first n clauses are of a kind there is; BarsSound so of constraints
+--   QueriesSound ..           the nodes of each of the first n formulas, at most 128, are one formula
+--   EndsName na a r           r is the place behind the name in row a
+--   Fit c t                   the tables t fit, and the case c with them is writable
 --   first_page                the page at the output's first byte
-use Rattle.std.specs.Prelude.{◌≡◌, Bool, true, false, List, [], ◌∷◌, ◌++◌, map, ℕ, zero, suc, ◌+◌, ◌*◌, ◌≤◌, ◌<◌, eqb, ltb, length, get_or, drop}
+use Rattle.std.specs.Prelude.{◌≡◌, Bool, true, false, List, [], ◌∷◌, ◌++◌, map, ℕ, zero, suc, ◌+◌, ◌*◌, ◌≤◌, ◌<◌, eqb}
+use Rattle.std.specs.Prelude.{ltb, length, get_or, drop}
 use Rattle.std.proofs.Math.Seq.{slice}
 use Rattle.words.specs.Choice.{cons_if}
 use Rattle.words.specs.Lists.{list_of}

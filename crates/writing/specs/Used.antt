@@ -14,7 +14,8 @@ use Rattle.words.specs.Lists.{list_of}
 use Rattle.logic.specs.Formula.{Formula}
 use Rattle.logic.specs.Nodes.{formula_of}
 use Rattle.program.specs.declared.case.Case.{Case}
-use Rattle.program.specs.Case.{head_at, kind_at, plain_at, negated_at, forbidden, forbidden_not, constraint_kind, nodes_of}
+use Rattle.program.specs.Case.{head_at, kind_at, plain_at, negated_at, forbidden, forbidden_not, constraint_kind}
+use Rattle.program.specs.Case.{nodes_of}
 use Rattle.names.specs.Row.{name_in}
 use Rattle.store.specs.Lent.{Lent}
 use Rattle.store.specs.Prices.{CostRow}

@@ -12,5 +12,8 @@ write_report-requires g c =
     report_of c.args.input.count c.args.file.now c.answer-length.ensures.text-is c.requires.1
 
 pub returns : goal.returns
-returns g c =
-    (_, report_of c.args.input.count c.args.file.now c.answer-length.ensures.text-is c.requires.1, c.write_report.ensures)
+returns g c = (
+  _,
+  report_of c.args.input.count c.args.file.now c.answer-length.ensures.text-is c.requires.1,
+  c.write_report.ensures,
+)

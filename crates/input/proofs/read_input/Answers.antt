@@ -9,5 +9,9 @@ loop-done-preserved g c =
     let last = c.unwrap_or-last in
     let some = c.if-last-eq0.false in
     let fits = read_fits read.result last.result last.ensures some read.new.buf read.ensures.bound in
-    let before = c.loop-done.invariant in
-    (search rules, search rules, read_on read.result last.result last.ensures some read.new.buf read.ensures.bound _ _ _ _ _ read.ensures.bytes before.0 before.2)
+    let before = c.loop-done.invariant in (
+      search rules,
+      search rules,
+      read_on read.result last.result last.ensures some read.new.buf read.ensures.bound _ _ _ _ _ read.ensures.bytes
+          before.0 before.2,
+    )

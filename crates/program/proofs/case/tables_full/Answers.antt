@@ -6,7 +6,8 @@ use Rattle.program.proofs.case.tables_full.Goals as goal
 
 pub returns-then-clauses-lt-CLAUSE_WORDS : goal.returns-then-clauses-lt-CLAUSE_WORDS
 unfolding tables_full
-returns-then-clauses-lt-CLAUSE_WORDS c = rw (lt-leb clause_size (length c.args.clauses.now) c.if-clauses-lt-CLAUSE_WORDS.true)
+returns-then-clauses-lt-CLAUSE_WORDS c =
+    rw (lt-leb clause_size (length c.args.clauses.now) c.if-clauses-lt-CLAUSE_WORDS.true)
 
 pub returns-then-constraints-lt-CONSTRAINT_WORDS : goal.returns-then-constraints-lt-CONSTRAINT_WORDS
 unfolding tables_full

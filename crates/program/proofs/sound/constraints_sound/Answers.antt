@@ -1,4 +1,5 @@
--- The goals of `program::sound::constraints_sound`: its loop keeps the invariant, and each way out gives what is promised.
+-- The goals of `program::sound::constraints_sound`: its loop keeps the invariant, and each way out gives what is
+-- promised.
 -- Assumes nothing.
 use borrow.Author.Rules.{rules}
 use Rattle.program.specs.Sound.{sound_constraints}

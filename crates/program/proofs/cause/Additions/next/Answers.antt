@@ -1,4 +1,5 @@
--- The goals of `program::cause::Additions::next`: its loop keeps the invariant, and each way out gives what is promised.
+-- The goals of `program::cause::Additions::next`: its loop keeps the invariant, and each way out gives what is
+-- promised.
 -- Assumes nothing.
 use mathlib.Core.Path.{sym, ◌∙◌}
 use Rattle.words.proofs.BitWalks.{without_less}
