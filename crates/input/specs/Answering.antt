@@ -1,4 +1,5 @@
 -- What a program that answers its input with a text promises of all that it reads and writes.
+-- From: document 01, "The program `causes`".
 --
 --   IsAnswered P i r old new   the input, where it is known, was i, and the program ended with r: from old to new, the
 --                              bytes written grew by a text t of the input, P i t; where the input could not be read,

@@ -1,4 +1,5 @@
 -- What writing a text promises: all but that the system's calls move the bytes.
+-- From: document 01, "The program `causes`".
 --
 --   WritesText r old new t    from old to new, the bytes written grow by the text t, or at an error by a beginning of
 --                             it
