@@ -19,12 +19,12 @@ use Rattle.load.specs.Program.{load_answer, Answered}
 module _ (s n c : ℕ) {out u : List ℕ} {r : Answer} (g : Generated s n c out r u)
     (room : length out ≡ longest_load) where
   refusal : r.refusal ≡ load_refusal s n c longest_load
-  refusal = g.refusal-is ∙ ap (load_refusal s n c) room
+  refusal = g.refusal_is ∙ ap (load_refusal s n c) room
 
   pub text-answered : r.refusal ≡ 0 → Answered s n c r.length u
   text-answered z =
       let e : load_refusal s n c longest_load ≡ 0 = sym refusal ∙ z in
-      let k : load_refusal s n c (length out) ≡ 0 = sym g.refusal-is ∙ z in
+      let k : load_refusal s n c (length out) ≡ 0 = sym g.refusal_is ∙ z in
       let shown = rw k at g in
       record {
         counted = prefix_len_of_le r.length u (shown-within 0 shown (λ i. unrefused-fits s n c (length out) k));

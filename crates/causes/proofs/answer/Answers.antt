@@ -1,5 +1,4 @@
 -- `causes::answer` meets its contract: every report fits the output. Assumes nothing.
-use borrow.Author.Rules.{rules}
 use native.Mathlib.Omega.{arith}
 use Rattle.causes.proofs.Reports.{answered}
 use Rattle.causes.proofs.answer.Goals as goal

@@ -1,5 +1,4 @@
 -- `causes::write_long` writes exactly the report of the bytes read. Assumes nothing.
-use borrow.Author.Rules.{rules}
 use native.Mathlib.Omega.{arith}
 use Rattle.causes.proofs.Reports.{report_of}
 use Rattle.causes.proofs.write_long.Goals as goal

@@ -1,5 +1,4 @@
 -- `layers::answer` meets its contract: every text fits the output. Assumes nothing.
-use borrow.Author.Rules.{rules}
 use native.Mathlib.Omega.{arith}
 use Rattle.layers.proofs.Texts.{answered}
 use Rattle.layers.proofs.answer.Goals as goal

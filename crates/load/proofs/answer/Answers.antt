@@ -1,5 +1,4 @@
 -- `load::answer` meets its contract: every text fits the output. Assumes nothing.
-use borrow.Author.Rules.{rules}
 use native.Mathlib.Omega.{arith}
 use Rattle.load.proofs.Answers.{text-answered, refusal-answered}
 use Rattle.load.proofs.answer.Goals as goal

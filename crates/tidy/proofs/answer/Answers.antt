@@ -1,5 +1,4 @@
 -- `tidy::answer` meets its contract: every text fits the output. Assumes nothing.
-use borrow.Author.Rules.{rules}
 use native.Mathlib.Omega.{arith}
 use Rattle.tidy.proofs.Texts.{answered}
 use Rattle.tidy.proofs.answer.Goals as goal
