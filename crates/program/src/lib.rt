@@ -3,4 +3,6 @@
 
 pub mod case;
 pub mod cause;
+pub mod clauses;
 pub mod sound;
+pub mod tables;

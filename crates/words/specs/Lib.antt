@@ -7,4 +7,5 @@ pub mod Choice
 pub mod Below
 pub mod Bits
 pub mod OneBit
+pub mod BitWalk
 pub mod Lists

@@ -2,6 +2,8 @@
 // a walk over the bits.
 #![tactic(auto)]
 
+pub mod walk;
+
 ghost use Rattle.std.specs.Prelude.{◌≡◌, ℕ, ◌+◌, ◌^◌, ◌≤◌, ◌<◌};
 ghost use Rattle.std.specs.Int.Count.{ones};
 ghost use Rattle.words.specs.Bits.{has};
