@@ -33,7 +33,7 @@ use Rattle.store.specs.Masks.{with_atom}
 use Rattle.store.specs.Saying.{Said, is_second_cost}
 use Rattle.store.specs.Held.{Long, Held, Kept}
 use Rattle.store.specs.Stored.{Storable, StoredAs}
-use Rattle.store.proofs.Lent.{lent_same, kept_refl-all, kept_trans-all}
+use Rattle.store.proofs.FilledLent.{lent_same, kept_refl-all, kept_trans-all}
 use Rattle.store.proofs.KeptTables.{SameLengths, kept_lengths, kept-long}
 use Rattle.store.proofs.Held.{with_atom_count, names-held, named-held}
 use Rattle.checks.specs.declared.look.Looked.{Looked}

@@ -27,7 +27,7 @@ use Rattle.store.specs.Prices.{CostRow, price_in}
 use Rattle.store.specs.Saying.{ClauseRow, Said, nothing_said, edition_of, plain_atoms, negated_atoms}
 use Rattle.store.specs.Tables.{words_of, case_said}
 use Rattle.store.specs.Held.{Long}
-use Rattle.store.proofs.Lent.{lent_same}
+use Rattle.store.proofs.FilledLent.{lent_same}
 use Rattle.store.proofs.Saying.{is-atoms}
 use Rattle.store.proofs.FilledRows.{formula-is}
 use Rattle.store.proofs.Prices.{price-at}

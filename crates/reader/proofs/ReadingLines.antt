@@ -7,7 +7,7 @@ use Rattle.store.specs.Lent.{Lent, filled_with}
 use Rattle.store.specs.Saying.{Said, nothing_said}
 use Rattle.store.specs.Tables.{words_of}
 use Rattle.store.specs.Held.{Long, Kept}
-use Rattle.store.proofs.Lent.{filled_with-kept, kept-filled_with, kept_trans-all}
+use Rattle.store.proofs.FilledLent.{filled_with-kept, kept-filled_with, kept_trans-all}
 use Rattle.store.proofs.KeptTables.{SameLengths, kept_lengths, kept-long}
 use Rattle.reader.specs.declared.read.Answer.{Answer}
 use Rattle.reader.specs.Reading.{Outcome, said_in, refusal_of, read_file}

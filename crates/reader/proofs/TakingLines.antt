@@ -17,7 +17,7 @@ use Rattle.store.specs.Saying.{Said, nothing_said}
 use Rattle.store.specs.Tables.{case_with, case_said}
 use Rattle.store.specs.Held.{Long, Kept}
 use Rattle.store.proofs.Held.{held_in_limits}
-use Rattle.store.proofs.Lent.{kept_refl-all, kept_trans-all}
+use Rattle.store.proofs.FilledLent.{kept_refl-all, kept_trans-all}
 use Rattle.store.proofs.Saying.{last_none}
 use Rattle.store.proofs.KeptTables.{SameLengths, kept_lengths, kept-long}
 use Rattle.checks.specs.declared.progress.Progress.{Progress}

@@ -9,7 +9,7 @@ use Rattle.store.specs.Lent.{Lent}
 use Rattle.store.specs.Saying.{nothing_said}
 use Rattle.store.specs.Tables.{words_of}
 use Rattle.store.specs.Held.{Long, Kept}
-use Rattle.store.proofs.Lent.{lent_same, filled_with-kept}
+use Rattle.store.proofs.FilledLent.{lent_same, filled_with-kept}
 use Rattle.store.proofs.KeptTables.{SameLengths, kept_lengths, kept-long, nothing-filled, nothing-held}
 use Rattle.reader.specs.Steps.{Zeroed, Ready}
 

@@ -29,7 +29,7 @@ use Rattle.store.specs.Masks.{masks_by}
 use Rattle.store.specs.Stored.{ClauseStored, ConstraintStored, ObservedStored, QueryStored, with_price, of_edition}
 use Rattle.store.specs.Stored.{Storable, StoredAs}
 use Rattle.store.proofs.Encoded.{encoded-length}
-use Rattle.store.proofs.Lent.{lent_same, kept_refl-all}
+use Rattle.store.proofs.FilledLent.{lent_same, kept_refl-all}
 use Rattle.store.proofs.NodeLaws.{formula_put}
 use Rattle.store.proofs.Prices.{price-kept}
 use Rattle.store.proofs.Held.{clause-held, constraint-held, observed-held, query-held, cost-held, edition-held}

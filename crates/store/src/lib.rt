@@ -3,5 +3,6 @@
 
 pub mod form;
 pub mod formula_nodes;
+pub mod lent;
 pub mod masks;
 pub mod price;

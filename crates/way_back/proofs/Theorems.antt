@@ -6,7 +6,7 @@ use lib.ListN.{length}
 use Rattle.program.specs.declared.case.Case.{Case}
 use Rattle.store.specs.Lent.{Lent, filled_with}
 use Rattle.store.specs.Tables.{words_of, case_said}
-use Rattle.store.proofs.Lent.{lent_same}
+use Rattle.store.proofs.FilledLent.{lent_same}
 use Rattle.reader.specs.declared.read.Answer.{Answer}
 use Rattle.reader.specs.Reading.{Outcome, read_file}
 use Rattle.reader.specs.Operation.{tables_fit, early_refusal, ReadAs}
