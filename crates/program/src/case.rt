@@ -2,6 +2,8 @@
 ghost use Rattle.std.specs.Prelude.{◌≡◌};
 ghost use Rattle.program.specs.Case.{tables_full};
 
+use crate::tables::Tables;
+
 // A case: how many entries its lent tables have in use, the observed literals, bit i for atom i, how many nodes each
 // formula has, and the edition of its causes.
 #[derive(Clone, Copy)]
@@ -45,14 +47,11 @@ impl Case {
 }
 
 // Whether the lent tables have their full sizes.
-pub fn tables_full(clauses: &[u64], constraints: &[u64], formula: &[u8]) -> bool
-    ensures { result ≡ tables_full clauses.now constraints.now formula.now }
+#[tactic(auto, unfolding(crate::specs::Case::tables_full))]
+pub fn tables_full(t: Tables) -> bool
+    ensures { result ≡ tables_full t.entry.clauses.now t.entry.constraints.now t.entry.formula.now }
 {
-    if clauses.len() < Case::CLAUSE_WORDS {
-        return false;
-    }
-    if constraints.len() < Case::CONSTRAINT_WORDS {
-        return false;
-    }
-    Case::FORMULA_BYTES <= formula.len()
+    Case::CLAUSE_WORDS <= t.clauses.len()
+        && Case::CONSTRAINT_WORDS <= t.constraints.len()
+        && Case::FORMULA_BYTES <= t.formula.len()
 }

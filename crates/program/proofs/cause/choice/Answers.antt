@@ -7,5 +7,5 @@ use Rattle.program.proofs.cause.choice.Goals as goal
 pub returns-then-test : goal.returns-then-test
 returns-then-test c = sym (ap (λ (t : Bool). pick t 2 3) (sym c.test.ensures ∙ c.if-test.true))
 
-pub returns : goal.returns
-returns c = sym (ap (λ (t : Bool). pick t 2 3) (sym c.test.ensures ∙ c.if-test.false))
+pub returns-else-test : goal.returns-else-test
+returns-else-test c = sym (ap (λ (t : Bool). pick t 2 3) (sym c.test.ensures ∙ c.if-test.false))
