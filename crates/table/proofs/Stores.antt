@@ -34,6 +34,13 @@ rest_put i t ys h = rw (Post-is i (length t) t h, drop-length, append-nil)
 pub rest_back_lem : (i : ℕ) (t ys : List ℕ) → i ≤ length t → drop i (rest_back i t ys) ≡ ys
 rest_back_lem i t ys h = rw (rest_put i t ys h) (drop_at (take i t) ys i (length-take-le i t h))
 
+-- a part that is written whole is stored
+pub part_stored : (i e : ℕ) (vs t ys : List ℕ) → e ≡ i + length vs → e ≤ length t → ys ≡ vs
+    → put_mid i (e - i) t ys ≡ sets t i vs
+part_stored i e vs t ys q h p =
+    rw (p, Post-is i e t (omega (arith, q)), q)
+    (sym (append_assoc (take i t) vs (drop (i + length vs) t)) ∙ sym (sets-eq vs t i (omega (arith, q, h))))
+
 -- stores in it
 pub sets-part : (i : ℕ) (vs t u : List ℕ) → i + length vs ≤ length t → take i u ≡ take i t
     → drop i u ≡ sets (drop i t) 0 vs → u ≡ sets t i vs
