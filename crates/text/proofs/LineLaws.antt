@@ -1,4 +1,4 @@
--- Laws of the lines of a file, by places of the file: a loop over a line, and a line's first byte. Assumes nothing.
+-- Laws of the lines of a file, by places of the file: a loop over a line. Assumes nothing.
 use mathlib.Core.Path.{◌≡◌, refl, ◌∙◌}
 use mathlib.Core.Bool.{false}
 use mathlib.Core.List.{List, [], ◌∷◌, ◌++◌}
@@ -66,15 +66,3 @@ module _ {f : List ℕ} {at i : ℕ} (h : InLine f at i) where
   in_line_ends l k =
       let n : 0 < length (slice at i f) = rw (length-slice at i f h.within) (omega arith) in
       record { onward = h.onward; within = h.within; lines_are = h.lines_are ∙ lines_end f (slice at i f) i n k }
-
--- is_comment
-
-pub comment_none : (l : List ℕ) → length l ≡ 0 → is_comment l ≡ false
-unfolding is_comment
-comment_none [] h = refl
-comment_none (b ∷ l) h = absurd (omega arith)
-
-pub comment_first : (l : List ℕ) → 0 < length l → is_comment l ≡ eqb (get_or l 0 0) 59
-unfolding is_comment
-comment_first [] h = absurd (not-suc-le-zero h)
-comment_first (b ∷ l) h = refl
