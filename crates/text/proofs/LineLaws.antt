@@ -1,16 +1,14 @@
 -- Laws of the lines of a file, by places of the file: a loop over a line. Assumes nothing.
 use mathlib.Core.Path.{◌≡◌, refl, ◌∙◌}
-use mathlib.Core.Bool.{false}
 use mathlib.Core.List.{List, [], ◌∷◌, ◌++◌}
 use Prim.Native.Nat.{ℕ, ◌+◌, ◌≤◌, ◌<◌}
 use native.Mathlib.Nat.{not-suc-le-zero}
 use native.Mathlib.Numerals.{add-one}
 use native.Mathlib.Omega.{arith}
-use lib.Dec.{eqb}
 use lib.ListN.{length, drop, get_or, drop_of_length-le}
 use lib.Seq.{slice, slice_empty, length-slice, drop-cons}
 use borrow.Author.Tests.{eq-eqb, ne_eqb}
-use Rattle.text.specs.Lines.{last_line, lines_from, lines, is_comment}
+use Rattle.text.specs.Lines.{last_line, lines_from, lines}
 use Rattle.text.specs.Scanning.{LineEnds}
 use Rattle.text.proofs.Slices.{slice_more}
 

@@ -9,5 +9,5 @@ use Rattle.text.proofs.bytes.all_word_bytes.Goals as goal
 pub returns : goal.returns
 returns c =
     let e = all_from_yields_List is_word_byte _ _ _ c.all.ensures.ran (YieldsList-from_slice c.args.l.now cc)
-        (λ x b q k. (search rules, search rules)) in
+    (λ x b q k. (search rules, search rules)) in
     rw all_listed e

@@ -20,6 +20,6 @@ returns-then-is_name c = search (rules, looking_name)
 pub loop-n-preserved : goal.loop-n-preserved
 loop-n-preserved c =
     elim c.else-not-opened.branch [
-      else-not-opened-via-then-not-opened+else-is_name w ↦ search (rules, looking_other)
-    | else-not-opened-via-else-not-opened w ↦ search (rules, looking_opened)
+      | else-not-opened-via-then-not-opened+else-is_name w ↦ search (rules, looking_other)
+      | else-not-opened-via-else-not-opened w ↦ search (rules, looking_opened)
     ]

@@ -1,7 +1,7 @@
 -- Answers to the goals of `text::number::digits_at`. Assumes nothing.
-use Rattle.std.proofs.Common.{◌<◌, ◌^◌, get_or, sym, ◌∙◌, arith, rules}
+use Rattle.std.proofs.Common.{◌<◌, ◌^◌, arith, rules}
 use Rattle.words.proofs.Tests.{failed, passed}
-use Rattle.text.proofs.NumberLaws.{digits-empty, digit_between, counting_none, counting_small, counting_ends}
+use Rattle.text.proofs.NumberLaws.{digits-empty, counting_small, counting_ends}
 use Rattle.text.proofs.NumberLaws.{counting_stops, counting_more}
 use Rattle.text.proofs.number.digits_at.Goals as goal
 

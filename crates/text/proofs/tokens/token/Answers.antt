@@ -1,6 +1,6 @@
 -- Answers to the goals of this function. Assumes nothing.
 use Rattle.std.proofs.Common.{rules, arith, get_or, ◌≡◌}
-use Rattle.text.proofs.TokenLaws.{passed_none, passed-word, passed-opening, passed-closing, passed_gap}
+use Rattle.text.proofs.TokenLaws.{passed-opening, passed-closing, passed_gap}
 use Rattle.text.proofs.TokenLaws.{passed-end}
 use Rattle.text.proofs.tokens.token.Goals as goal
 
@@ -11,7 +11,7 @@ pub returns-in-41 : goal.returns-in-41
 returns-in-41 c = search (rules, passed-closing)
 
 pub loop-i-preserved : goal.loop-i-preserved
-loop-i-preserved c = 
+loop-i-preserved c =
     let o : get_or c.args.l.now c.loop-i.i 0 ≡ 40 → ⊥ = λ e. omega (arith, e) in
     let d : get_or c.args.l.now c.loop-i.i 0 ≡ 41 → ⊥ = λ e. omega (arith, e) in
     search (rules, passed_gap)
