@@ -1,5 +1,4 @@
--- The verdict by its tests, the tests over a list of minimal settings and one more, and the list of the verdicts.
--- Assumes nothing.
+-- The tests over a list of minimal settings and one more, and the list of the verdicts. Assumes nothing.
 use mathlib.Core.Path.{◌≡◌, refl, ap₂}
 use mathlib.Core.Bool.{Bool, true, false, ◌&&◌, and-true, and_assoc}
 use mathlib.Core.List.{List, [], ◌∷◌, ◌++◌}
@@ -7,22 +6,9 @@ use Prim.Native.Nat.{ℕ, zero, suc, ◌<◌}
 use lib.ListN.{length, get_or}
 use Rattle.words.proofs.Lists.{list_of-length, list_of-at, list_of-one}
 use Rattle.logic.specs.Value.{is_true, is_false}
-use Rattle.verdict.specs.declared.verdict.Verdict.TheVariants.{Unexplained, Follows, Denied, Open}
+use Rattle.verdict.specs.declared.verdict.Verdict.TheVariants.{Unexplained}
 use Rattle.explanation.specs.Judge.{Judge}
 use Rattle.verdict.specs.Walk.{true_in_all, false_in_all, verdict_by, verdict_of, verdicts_of}
-
--- ---- of one or more minimal settings
-pub verdict_follows : (m : ℕ) (t f : Bool) → (m ≡ 0 → ⊥) → t ≡ true → Follows ≡ verdict_by m t f
-verdict_follows zero t f n p = absurd (n refl)
-verdict_follows (suc m) t f n p = rw p
-
-pub verdict_denied : (m : ℕ) (t f : Bool) → (m ≡ 0 → ⊥) → t ≡ false → f ≡ true → Denied ≡ verdict_by m t f
-verdict_denied zero t f n p q = absurd (n refl)
-verdict_denied (suc m) t f n p q = rw (p, q)
-
-pub verdict_open : (m : ℕ) (t f : Bool) → (m ≡ 0 → ⊥) → t ≡ false → f ≡ false → Open ≡ verdict_by m t f
-verdict_open zero t f n p q = absurd (n refl)
-verdict_open (suc m) t f n p q = rw (p, q)
 
 -- ---- on one query
 module _ (J : Judge) (q : ℕ) where

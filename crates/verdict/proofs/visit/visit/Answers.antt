@@ -6,16 +6,15 @@ use Rattle.verdict.proofs.visit.visit.Goals as goal
 pub loop-j-init : goal.loop-j-init
 loop-j-init c = visiting_start c.requires.3
 
-pub take-r-requires : goal.take-r-requires
-take-r-requires c =
-    let p = c.requires in
+pub take-found-requires : goal.take-found-requires
+take-found-requires c =
     let i = c.loop-j.invariant in
     (omega arith, omega arith, omega (arith, i.work_size), i.room)
 
 pub loop-j-preserved : goal.loop-j-preserved
 loop-j-preserved c =
-    visiting_next c.loop-j.invariant (omega arith) c.test-explains.ensures c.test-larger_too.ensures
-    c.take-r.ensures.visited (omega arith) (omega arith) c.take-r.ensures.room
+    visiting_next c.loop-j.invariant (omega arith) c.take-found.ensures.visited (omega arith) (omega arith)
+    c.take-found.ensures.room
 
 pub shape_of-list : goal.shape_of-list
 shape_of-list c = c.loop-j.invariant.list_size

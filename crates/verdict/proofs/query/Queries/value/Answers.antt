@@ -1,4 +1,4 @@
--- `query_value` meets its contract: the nodes of query q are the first in part q. Assumes nothing.
+-- `value` meets its contract: the nodes of query q are the first in part q. Assumes nothing.
 use mathlib.Core.Path.{◌≡◌, subst}
 use mathlib.Core.Bool.{true}
 use mathlib.Core.List.{List}
@@ -7,7 +7,7 @@ use Rattle.logic.specs.Formula.{value_of}
 use Rattle.logic.specs.Nodes.{one_formula, formula_of}
 use Rattle.logic.specs.Interpretation.{value_at}
 use Rattle.program.proofs.Soundness.{nodes-lent}
-use Rattle.verdict.proofs.query.query_value.Goals as goal
+use Rattle.verdict.proofs.query.Queries.value.Goals as goal
 
 pub returns : goal.returns
 returns c =
@@ -15,4 +15,4 @@ returns c =
     λ n.
     subst
     (λ (l : List ℕ). one_formula n l ≡ true → c.formula_value.result ≡ value_of (value_at a.i) (formula_of l))
-    (nodes-lent a.nodes.now a.formula.now a.q) (c.formula_value.ensures n)
+    (nodes-lent a.self.nodes.now a.self.formula.now a.q) (c.formula_value.ensures n)
