@@ -7,7 +7,7 @@ use mathlib.Core.Logic.{⊎_elim}
 use Prim.Native.Nat.{ℕ, ◌≤◌, ◌<◌}
 use native.Mathlib.Omega.{arith}
 use lib.Bits.{bit_or}
-use lib.ListN.{length, get_or}
+use lib.ListN.{get_or}
 use Rattle.words.specs.Bits.{has, word}
 use Rattle.words.specs.OneBit.{BitOf}
 use Rattle.words.proofs.Tests.{Gives, or_gives, and_true_l, lt-or-le}

@@ -22,14 +22,6 @@ use Rattle.verdict.proofs.Leaving.{left_passed, left-taken}
 
 -- ---- room for the next
 module _ {ns fo : List ℕ} {s : ℕ} {f : Found} {list : List ℕ} (r : Room ns fo s f list) where
-  pub room-passed : Room ns fo (s + 1) f list
-  room-passed = record {
-    free = r.free;
-    few = omega (arith, r.few);
-    listed_few = omega (arith, r.listed_few);
-    askable = r.askable;
-  }
-
   -- the counts are n and w slots are written then
   pub room-taken : (i : Interpretation) {n : Counts} → n ≡ counts_with f.counts (query_under i ns fo)
       → {w : ℕ} {list₁ : List ℕ} → w ≡ f.written + min 1 (length list - f.written) → list₁ ≡ set list f.written s

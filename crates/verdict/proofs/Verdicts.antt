@@ -1,8 +1,8 @@
 -- The tests over a list of minimal settings and one more, and the list of the verdicts. Assumes nothing.
 use mathlib.Core.Path.{◌≡◌, refl, ap₂}
-use mathlib.Core.Bool.{Bool, true, false, ◌&&◌, and-true, and_assoc}
+use mathlib.Core.Bool.{true, ◌&&◌, and-true, and_assoc}
 use mathlib.Core.List.{List, [], ◌∷◌, ◌++◌}
-use Prim.Native.Nat.{ℕ, zero, suc, ◌<◌}
+use Prim.Native.Nat.{ℕ, ◌<◌}
 use lib.ListN.{length, get_or}
 use Rattle.words.proofs.Lists.{list_of-length, list_of-at, list_of-one}
 use Rattle.logic.specs.Value.{is_true, is_false}

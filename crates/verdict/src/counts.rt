@@ -41,7 +41,11 @@ impl Counts {
         match v {
             Value::True => Counts { denied, ..self },
             Value::False => Counts { follows, ..self },
-            Value::Unknown => Counts { follows, denied, ..self },
+            Value::Unknown => Counts {
+                follows,
+                denied,
+                ..self
+            },
         }
     }
 

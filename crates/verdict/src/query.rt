@@ -10,6 +10,7 @@ use crate::counts::Counts;
 use logic::interpretation::Interpretation;
 use logic::value::Value;
 use planes::lane::lane;
+use planes::plane::TruthPlanes;
 use program::case::Case;
 use words::walk::bits_of;
 
@@ -35,23 +36,20 @@ impl Queries<'_> {
 }
 
 // The counts with one minimal explanation more, that of lane j. A query that is open already is not evaluated.
-pub fn hold(
-    queries: Queries,
-    t: &[u64; 64],
-    f: &[u64; 64],
-    j: u32,
-    counts: Counts,
-) -> Counts
+pub fn hold(queries: Queries, planes: &TruthPlanes, j: u32, counts: Counts) -> Counts
     requires { (j < 64) × (counts.minimal < 59049) × Askable queries.nodes.now queries.formula.now counts }
-    ensures { result ≡ counts_with counts (query_under (column t.now f.now j)
+    ensures { result ≡ counts_with counts (query_under (column planes.now.trues planes.now.falses j)
         queries.entry.nodes.now queries.entry.formula.now) }
 {
-    let mut told = Counts { minimal: counts.minimal + 1, ..counts };
+    let mut told = Counts {
+        minimal: counts.minimal + 1,
+        ..counts
+    };
     let asked = counts.follows | counts.denied;
     if asked == 0 {
         return told;
     }
-    let i = lane(t, f, j);
+    let i = lane(planes, j);
     for q in bits_of(asked) {
         told = told.with(q, queries.value(q as usize, i));
     }

@@ -9,6 +9,7 @@ ghost use Rattle.verdict.specs.Visited.{Visited};
 
 use crate::counts::Counts;
 use crate::query::{Queries, hold};
+use planes::plane::TruthPlanes;
 
 // What is found in the settings visited: the counts, and how many minimal ones are written to the list.
 #[derive(Clone, Copy, Debug, PartialEq, Eq)]
@@ -18,14 +19,13 @@ pub struct Found {
 }
 
 // A block of settings, the one of lane 0 first. Those of the lanes of explains explain, those of the lanes of larger
-// have a proper subset that explains, and t and f are what the lanes settle to.
+// have a proper subset that explains, and the lanes of planes have what they settle to.
 #[derive(Clone, Copy)]
 pub struct Block<'a> {
     pub first: usize,
     pub explains: u64,
     pub larger: u64,
-    pub t: &'a [u64; 64],
-    pub f: &'a [u64; 64],
+    pub planes: &'a TruthPlanes,
 }
 
 // Writes a setting into slot w of the list, where it has one; answers how many slots are written then.
@@ -52,7 +52,7 @@ fn take(
         × Room queries.nodes.now queries.formula.now (block.first + j) found list.old }
     ensures visited { (J : Judge) (cs list₀ work₀ : List ℕ)
         → Tells J queries.entry.nodes.now queries.entry.formula.now (block.entry.first + j) (has block.entry.explains j)
-        (column block.entry.t.now block.entry.f.now j)
+        (column block.entry.planes.now.trues block.entry.planes.now.falses j)
         → has block.entry.larger j ≡ some_proper J.explains cs (block.entry.first + j)
         → Visited J cs list₀ work₀ (block.entry.first + j) found list.old work.old
         → Visited J cs list₀ work₀ (block.entry.first + j + 1) result list.new work.new }
@@ -71,7 +71,7 @@ fn take(
     }
     work[setting] = 2;
     Found {
-        counts: hold(queries, block.t, block.f, j, found.counts),
+        counts: hold(queries, block.planes, j, found.counts),
         written: put(list, found.written, setting as u16),
     }
 }
@@ -88,8 +88,8 @@ pub fn visit(
     requires { (m ≤ 64) × (block.first + m ≤ 59049) × (block.first + m ≤ length work.old)
         × Room queries.nodes.now queries.formula.now block.first found list.old }
     ensures { (J : Judge) (cs list₀ work₀ : List ℕ)
-        → Seen J cs queries.entry.nodes.now queries.entry.formula.now block.entry.explains block.entry.larger block.entry.t.now block.entry.f.now m
-        block.entry.first
+        → Seen J cs queries.entry.nodes.now queries.entry.formula.now block.entry.explains block.entry.larger
+        block.entry.planes.now.trues block.entry.planes.now.falses m block.entry.first
         → Visited J cs list₀ work₀ block.entry.first found list.old work.old
         → Visited J cs list₀ work₀ (block.entry.first + m) result list.new work.new }
 {

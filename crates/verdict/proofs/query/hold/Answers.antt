@@ -13,7 +13,7 @@ pub returns-then-asked-eq0 : goal.returns-then-asked-eq0
 returns-then-asked-eq0 c =
     let a = c.args in
     telling_end
-    {v = query_under (column a.t.now a.f.now a.j) a.queries.nodes.now a.queries.formula.now}
+    {v = query_under (column a.planes.now.trues a.planes.now.falses a.j) a.queries.nodes.now a.queries.formula.now}
     (telling_start (omega arith) (omega arith)) c.if-asked-eq0.true
 
 pub loop-q-init : goal.loop-q-init
@@ -26,9 +26,6 @@ value-requires c =
     let p = c.requires.2 in
     let b = telling-asked c.loop-q.invariant c.in-Some.ensures.steps.0.bit in
     (p.asked-few _ b, asked-nodes p b)
-
-pub with-told-requires : goal.with-told-requires
-with-told-requires c = c.in-Some.ensures.steps.0.bit.small
 
 pub loop-q-preserved : goal.loop-q-preserved
 loop-q-preserved c =
