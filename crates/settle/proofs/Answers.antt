@@ -1,49 +1,45 @@
 -- Which refusal is due where one setting is settled. Assumes nothing.
 use mathlib.Core.Path.{◌≡◌, ◌∙◌}
-use mathlib.Core.Bool.{true, false}
+use mathlib.Core.Bool.{true}
 use mathlib.Core.List.{List, [], ◌∷◌}
 use Prim.Native.Nat.{ℕ, ◌≤◌, ◌<◌}
 use lib.Dec.{ltb}
 use borrow.Author.Tests.{lt-ltb, le-ltb}
+use Rattle.std.specs.Prelude.{Err}
 use Rattle.words.specs.Choice.{Check, check}
 use Rattle.words.proofs.Checks.{first-failed-here, first-failed-behind}
+use Rattle.refusals.specs.declared.Refusal.{Refusal}
+use Rattle.refusals.specs.Refusal.{number_of}
 use Rattle.program.specs.declared.case.Case.{Case}
 use Rattle.program.specs.Case.{tables_full}
 use Rattle.program.specs.Cause.{causes_of}
 use Rattle.program.specs.Setting.{settings_of}
 use Rattle.program.specs.Sound.{sound}
+use Rattle.settle.specs.Check.{checked}
 use Rattle.settle.specs.Operation.{settle_refusal}
+use Rattle.settle.proofs.Asking.{refused_first}
 
 module _ (c : Case) (cl co fo : List ℕ) (s : ℕ) where
-  abbrev refusal : ℕ
-  refusal = settle_refusal c cl co fo s
-
-  -- ---- the refusal that is due
-  -- the last check, and the last two
-  abbrev setting_check : List Check
+  -- the last check
+  abbrev pub setting_check : List Check
   setting_check = check 14 (ltb s (settings_of (causes_of c cl))) ∷ []
 
-  abbrev case_checks : List Check
-  case_checks = check 13 (sound c cl co fo) ∷ setting_check
-
-  pub refusal-short : tables_full cl co fo ≡ false → refusal ≡ 1
+  pub refusal_first : (e : Refusal) → checked (tables_full cl co fo) (sound c cl co fo) ≡ Err e
+      → number_of e ≡ settle_refusal c cl co fo s
   unfolding settle_refusal
-  refusal-short e = first-failed-here 1 case_checks e
+  refusal_first e = refused_first _ _ setting_check e
 
-  pub refusal_unsound : tables_full cl co fo ≡ true → sound c cl co fo ≡ false → refusal ≡ 13
-  unfolding settle_refusal
-  refusal_unsound e f = first-failed-behind 1 case_checks e ∙ first-failed-here 13 setting_check f
+  module _ (e : (tables_full cl co fo ≡ true) × (sound c cl co fo ≡ true)) where
+    pub refusal-past : settings_of (causes_of c cl) ≤ s → settle_refusal c cl co fo s ≡ 14
+    unfolding settle_refusal
+    refusal-past l =
+        first-failed-behind 1 (check 13 (sound c cl co fo) ∷ setting_check) e.0
+        ∙ first-failed-behind 13 setting_check e.1
+        ∙ first-failed-here 14 [] (le-ltb s (settings_of (causes_of c cl)) l)
 
-  pub refusal-past : tables_full cl co fo ≡ true → sound c cl co fo ≡ true → settings_of (causes_of c cl) ≤ s
-      → refusal ≡ 14
-  unfolding settle_refusal
-  refusal-past e f l =
-      first-failed-behind 1 case_checks e ∙ first-failed-behind 13 setting_check f
-      ∙ first-failed-here 14 [] (le-ltb s (settings_of (causes_of c cl)) l)
-
-  pub refusal-none : tables_full cl co fo ≡ true → sound c cl co fo ≡ true → s < settings_of (causes_of c cl)
-      → refusal ≡ 0
-  unfolding settle_refusal
-  refusal-none e f l =
-      first-failed-behind 1 case_checks e ∙ first-failed-behind 13 setting_check f
-      ∙ first-failed-behind 14 [] (lt-ltb s (settings_of (causes_of c cl)) l)
+    pub refusal-none : s < settings_of (causes_of c cl) → settle_refusal c cl co fo s ≡ 0
+    unfolding settle_refusal
+    refusal-none l =
+        first-failed-behind 1 (check 13 (sound c cl co fo) ∷ setting_check) e.0
+        ∙ first-failed-behind 13 setting_check e.1
+        ∙ first-failed-behind 14 [] (lt-ltb s (settings_of (causes_of c cl)) l)

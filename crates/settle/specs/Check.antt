@@ -1,0 +1,11 @@
+-- What every operation on a case asks first.
+-- From: document 01, "What each operation refuses" (1 before 13).
+--
+--   checked full sound   refuses a table that isn't of full size, then a case that isn't sound
+use Rattle.std.specs.Prelude.{Bool, true, false, Result, Ok, Err, ⊤}
+use Rattle.refusals.specs.declared.Refusal.{Refusal}
+
+abbrev pub checked : Bool → Bool → Result ⊤ Refusal
+checked false sound = Err Refusal.ShortTable
+checked true false = Err Refusal.Unsound
+checked true true = Ok tt
