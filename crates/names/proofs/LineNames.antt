@@ -4,14 +4,15 @@ use mathlib.Core.Bool.{true, false}
 use mathlib.Core.List.{List}
 use Prim.Native.Nat.{ℕ, ◌+◌, ◌-◌, ◌≤◌, ◌<◌}
 use native.Mathlib.Omega.{arith}
-use lib.ListN.{length, drop, length-drop}
+use lib.ListN.{length, take, drop, length-drop}
 use lib.Seq.{slice, length-slice}
 use Rattle.text.specs.Tokens.{tokens}
 use Rattle.text.specs.Words.{names_in}
 use Rattle.text.specs.Scanning.{first_name, NameFound}
 use Rattle.text.specs.declared.name.NextName.{NextName}
 use Rattle.text.specs.declared.name.NextName.TheVariants.{NoName, Name}
-use Rattle.text.proofs.Names.{names-found, name-inside}
+use Rattle.text.proofs.Slices.{part_slice}
+use Rattle.text.proofs.Names.{names-found, name-inside, name-onward}
 use Rattle.names.specs.Names.{some_long}
 use Rattle.names.specs.Row.{Rows, rows_with, rows_through}
 use Rattle.names.proofs.Short.{some-long-here, some-long-later, some-long_nil, short-line}
@@ -64,9 +65,12 @@ module _ {s₀ s : Rows} {l : List ℕ} {at : ℕ} {r : NextName} (h : Adding s�
   adding_none q = sym (left_are q ∙ through_none s)
 
   -- the next name is put into s, which leaves next
-  module _ {a e : ℕ} {next : Rows} (q : r ≡ Name a e) (i : next ≡ rows_with s (slice a e l)) where
+  module _ {a e : ℕ} {next : Rows} (q : r ≡ Name a e) (i : next ≡ rows_with s (take (e - a) (drop a l))) where
+    interned : next ≡ rows_with s (slice a e l)
+    interned = i ∙ ap (rows_with s) (part_slice l a e (name-onward f q))
+
     pub adding_full : 64 < next.count → next ≡ rows_through s₀ (names_in (tokens l))
-    adding_full k = sym (left_are q ∙ through_full s next (slice a e l) _ i k)
+    adding_full k = sym (left_are q ∙ through_full s next (slice a e l) _ interned k)
 
     pub adding_more : next.count ≤ 64 → Adding s₀ l e next
-    adding_more k = record { rows_are = left_are q ∙ through_more s next (slice a e l) _ i k }
+    adding_more k = record { rows_are = left_are q ∙ through_more s next (slice a e l) _ interned k }
