@@ -28,6 +28,7 @@ fn ends_agree(names: &[u8], i: usize, w: &[u8]) -> bool
 }
 
 // How the word w compares with row i: its first and last byte are looked at before any other.
+#[tactic(auto, unfolding(crate::specs::Compared::compared_as))]
 pub fn compare(names: &[u8], i: usize, w: &[u8]) -> Compared
     requires { (i < 64) × (name_size ≤ length names.now) }
     ensures { result ≡ compared_as (row_at names.now i) w.now }

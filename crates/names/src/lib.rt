@@ -13,7 +13,7 @@ ghost use Rattle.names.specs.Names.{some_long};
 ghost use Rattle.names.specs.Row.{row_at, row_of, rows, rows_with, rows_through};
 
 use compare::{Compared, compare};
-use text::name::{NextName, next_name};
+use text::name::next_name;
 
 // Whether row i is the word w, followed by zeros.
 pub fn row_is(names: &[u8], i: usize, w: &[u8]) -> bool
@@ -70,7 +70,7 @@ pub fn intern_line(l: &[u8], names: &mut [u8], count: usize) -> Option<usize>
 {
     let mut at = 0;
     let mut n = count;
-    while let NextName::Name(a, e) = next_name(l, at) {
+    while let Some((a, e)) = next_name(l, at) {
         n = intern(names, n, &l[a..e])?;
         at = e;
     }
@@ -83,10 +83,10 @@ pub fn some_long(l: &[u8]) -> bool
 {
     let mut at = 0;
     while at + 16 < l.len() {
-        let NextName::Name(a, e) = next_name(l, at) else {
+        let Some((a, e)) = next_name(l, at) else {
             return false;
         };
-        if 16 < e - a {
+        if e - a > 16 {
             return true;
         }
         at = e;

@@ -1,5 +1,5 @@
 -- The goals of `names::find`: its loop keeps the invariant, and each way out gives what is promised. Assumes nothing.
-use mathlib.Core.Path.{sym, ap, ◌∙◌}
+use mathlib.Core.Path.{sym}
 use denote.Enum.Bare.{same_true, same_false}
 use borrow.Author.Rules.{rules}
 use Rattle.names.specs.contracts.compare.Compared.{the_type}

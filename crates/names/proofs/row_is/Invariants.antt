@@ -5,4 +5,3 @@ use Rattle.names.proofs.row_is.Given as goal
 
 abbrev pub invariant-loop-j : goal.invariant-loop-j
 invariant-loop-j l = RowFrom l.names l.i l.w l.j
-

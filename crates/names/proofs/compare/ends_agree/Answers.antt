@@ -1,8 +1,5 @@
 -- `ends_agree` meets its contract. Assumes nothing.
-use mathlib.Core.Path.{sym, ap, ◌∙◌}
-use Prim.Native.Nat.{◌-◌}
 use native.Mathlib.Omega.{arith}
-use lib.ListN.{length, get_or}
 use Rattle.names.proofs.Compared.{row_part, ends-none, ends-first, ends_last}
 use Rattle.names.proofs.compare.ends_agree.Goals as goal
 
