@@ -7,6 +7,7 @@ ghost use Rattle.round.specs.Redo.{noted_with, Noted, Taken, Decided, Committed,
 
 use planes::plane::{Lanes, TruthPlanes, rules};
 use planes::word::undecided;
+use prepared::tables::Preparation;
 use program::clauses::Clauses;
 use words::walk::bits_of;
 
@@ -50,13 +51,12 @@ fn turn(
     c: Changed,
     a: u32,
     clauses: Clauses,
-    last: &[usize; 64],
-    prev: &[usize; 256],
+    preparation: &Preparation,
     p: &TruthPlanes,
     noted: &mut TruthPlanes,
 ) -> Changed
-    requires { (a < 64) × Lasts clauses.words.now clauses.count last.now
-        × Linked clauses.words.now clauses.count prev.now × Planes p.now.trues p.now.falses
+    requires { (a < 64) × Lasts clauses.words.now clauses.count preparation.now.last
+        × Linked clauses.words.now clauses.count preparation.now.prev × Planes p.now.trues p.now.falses
         × Sizes noted.old.trues noted.old.falses × (has c.atoms a ≡ false) }
     ensures { Taken clauses.entry.words.now clauses.entry.count p.now.trues p.now.falses a
         noted.old.trues noted.old.falses c noted.new.trues noted.new.falses result }
@@ -66,7 +66,7 @@ fn turn(
     if free == 0 {
         return c;
     }
-    let v = rules(clauses, prev, a, last[at], p);
+    let v = rules(clauses, &preparation.prev, a, preparation.last[at], p);
     note(c, a, free, v, noted)
 }
 
@@ -74,20 +74,19 @@ fn turn(
 fn decide(
     heads: u64,
     clauses: Clauses,
-    last: &[usize; 64],
-    prev: &[usize; 256],
+    preparation: &Preparation,
     p: &TruthPlanes,
     noted: &mut TruthPlanes,
 ) -> Changed
-    requires { Lasts clauses.words.now clauses.count last.now
-        × Linked clauses.words.now clauses.count prev.now × Planes p.now.trues p.now.falses
+    requires { Lasts clauses.words.now clauses.count preparation.now.last
+        × Linked clauses.words.now clauses.count preparation.now.prev × Planes p.now.trues p.now.falses
         × Sizes noted.old.trues noted.old.falses }
     ensures { Decided clauses.entry.words.now clauses.entry.count heads p.now.trues p.now.falses
         noted.new.trues noted.new.falses result }
 {
     let mut c = Changed { lanes: 0, atoms: 0 };
     for a in bits_of(heads) {
-        c = turn(c, a, clauses, last, prev, p, noted);
+        c = turn(c, a, clauses, preparation, p, noted);
     }
     c
 }
@@ -103,23 +102,23 @@ fn commit(w: u64, noted: &TruthPlanes, p: &mut TruthPlanes)
     }
 }
 
-// One round: the heads of a word decided anew, in each lane those that are undecided there.
+// One round: the heads of a word decided anew, in each lane those that are undecided there; noted is overwritten.
+// The sizes of noted are asked for as no type tells them where a structure is only passed on.
 pub fn redo(
     heads: u64,
     clauses: Clauses,
-    last: &[usize; 64],
-    prev: &[usize; 256],
+    preparation: &Preparation,
     p: &mut TruthPlanes,
     noted: &mut TruthPlanes,
 ) -> Changed
-    requires { Lasts clauses.words.now clauses.count last.now
-        × Linked clauses.words.now clauses.count prev.now × Planes p.old.trues p.old.falses
+    requires { Lasts clauses.words.now clauses.count preparation.now.last
+        × Linked clauses.words.now clauses.count preparation.now.prev × Planes p.old.trues p.old.falses
         × Sizes noted.old.trues noted.old.falses }
     ensures redone { Redone clauses.entry.words.now clauses.entry.count heads p.old.trues
         p.old.falses p.new.trues p.new.falses result }
     ensures sizes { Sizes p.new.trues p.new.falses × Sizes noted.new.trues noted.new.falses }
 {
-    let c = decide(heads, clauses, last, prev, p, noted);
+    let c = decide(heads, clauses, preparation, p, noted);
     commit(c.atoms, noted, p);
     c
 }
