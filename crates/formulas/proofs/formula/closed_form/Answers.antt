@@ -1,5 +1,5 @@
 -- `formula::closed_form` meets its contract: a closing bracket is found, or another token. Assumes nothing.
-use borrow.Author.Rules.{rules}
+use Rattle.std.proofs.Common.{rules}
 use Rattle.formulas.proofs.Formulas.{closing-closed, other-closed}
 use Rattle.formulas.proofs.formula.closed_form.Goals as goal
 
