@@ -3,6 +3,7 @@
 --   dependents_of cl n i   the heads that depend on i by the first n clauses, bit a for atom a
 --   touched_from cl n w    the dependents of the atoms of w
 --   Dependents cl n t      the table t has the dependents of each atom
+--   Zeros t                the first 64 entries of t are 0
 --   Spread t w h u         u is t with the head h added to the dependents of the atoms of w
 --   touched_by t w a       the head a is among the dependents of some atom of w
 use Rattle.std.specs.Prelude.{◌≡◌, Bool, ◌&&◌, List, ℕ, ◌<◌, length, get_or}
@@ -19,6 +20,9 @@ touched_from cl n w = word 64 (λ a. any 64 (λ i. has w i && has (dependents_of
 
 abbrev pub Dependents : List ℕ → ℕ → List ℕ → Type 0
 Dependents cl n t = (i : ℕ) → i < 64 → get_or t i 0 ≡ dependents_of cl n i
+
+abbrev pub Zeros : List ℕ → Type 0
+Zeros t = (i : ℕ) → i < 64 → get_or t i 0 ≡ 0
 
 pub record Spread (t : List ℕ) (w h : ℕ) (u : List ℕ) : Type 0 where
   pub size_is : length u ≡ 64
