@@ -32,12 +32,12 @@ impl Interpretation {
         ensures { result ≡ value_at self atom }
     {
         if words::test(self.trues, atom) {
-            return Value::True;
+            Value::True
+        } else if words::test(self.falses, atom) {
+            Value::False
+        } else {
+            Value::Unknown
         }
-        if words::test(self.falses, atom) {
-            return Value::False;
-        }
-        Value::Unknown
     }
 
     // Whether a literal, an atom or its negation, is true.
@@ -46,9 +46,10 @@ impl Interpretation {
         ensures { result ≡ is_true (value_of (value_at self) (literal negated atom)) }
     {
         if negated {
-            return words::test(self.falses, atom);
+            words::test(self.falses, atom)
+        } else {
+            words::test(self.trues, atom)
         }
-        words::test(self.trues, atom)
     }
 
     // The value of a body by the masks of its plain and its negated atoms.
@@ -72,20 +73,9 @@ impl Interpretation {
         requires { (atom < 64) × Disjoint self }
         ensures { result ≡ of_values (assigned (value_at self) atom v) }
     {
-        let bit = words::single(atom);
-        match v {
-            Value::True => Interpretation {
-                trues: self.trues | bit,
-                falses: self.falses & !bit,
-            },
-            Value::False => Interpretation {
-                trues: self.trues & !bit,
-                falses: self.falses | bit,
-            },
-            Value::Unknown => Interpretation {
-                trues: self.trues & !bit,
-                falses: self.falses & !bit,
-            },
+        Interpretation {
+            trues: words::with_bit(words::without(self.trues, atom), v.is_true(), atom),
+            falses: words::with_bit(words::without(self.falses, atom), v.is_false(), atom),
         }
     }
 
@@ -94,16 +84,7 @@ impl Interpretation {
         requires { (atom < 64) × Disjoint self }
         ensures { result ≡ of_values (assigned (value_at self) atom (greater (value_at self atom) v)) }
     {
-        match v {
-            Value::True => self.decide(atom, Value::True),
-            Value::Unknown => {
-                if self.holds(atom, false) {
-                    return self;
-                }
-                self.decide(atom, Value::Unknown)
-            }
-            Value::False => self,
-        }
+        self.decide(atom, self.value(atom).or(v))
     }
 
     // The number of decided atoms.

@@ -98,11 +98,14 @@ fn eval(nodes: &[u8], at: usize, i: Interpretation) -> Option<Worth>
     }
 }
 
-// The value of a formula by its nodes.
+// The value of a formula by its nodes; of a name alone without a call of eval.
 pub fn formula_value(nodes: &[u8], i: Interpretation) -> Value
     ensures { (n : ℕ) → one_formula n nodes.now ≡ true
         → result ≡ value_of (value_at i) (formula_of nodes.now) }
 {
+    if let Some(Node::Atom(atom)) = node_at(nodes, 0) {
+        return i.value(atom);
+    }
     match eval(nodes, 0, i) {
         Some(w) => w.value,
         None => Value::Unknown,
