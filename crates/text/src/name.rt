@@ -1,9 +1,9 @@
 // Names among the words of a line.
 ghost use Rattle.std.specs.Prelude.{◌≡◌};
 ghost use Rattle.text.specs.Words.{begins_with_letter};
-ghost use Rattle.text.specs.Scanning.{NameFound};
+ghost use Rattle.text.specs.Scanning.{NameFound, NameNext};
 
-use crate::tokens::{Next, token};
+use crate::tokens::{Next, token, word_at};
 
 // Whether a word is a name.
 #[tactic(auto, unfolding(crate::specs::Words::begins_with_letter))]
@@ -11,6 +11,14 @@ pub fn is_name(w: &[u8]) -> bool
     ensures { result ≡ begins_with_letter w.now }
 {
     w.first().is_some_and(|b| b.is_ascii_lowercase())
+}
+
+// The name that is the next word at or behind a place: its first place and the place behind it.
+pub fn name_at(l: &[u8], at: usize) -> Option<(usize, usize)>
+    ensures { NameNext l.now at result }
+{
+    let (a, e) = word_at(l, at)?;
+    is_name(&l[a..e]).then_some((a, e))
 }
 
 // The first name at or behind a place, with its first place and the place behind it: a word that begins with a letter

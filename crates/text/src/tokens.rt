@@ -1,7 +1,7 @@
 // The words and brackets of a line.
 ghost use Rattle.std.specs.Prelude.{◌≡◌, true, ◌<◌, length, get_or};
 ghost use Rattle.text.specs.Bytes.{is_word_byte};
-ghost use Rattle.text.specs.Scanning.{WordEnds, Found};
+ghost use Rattle.text.specs.Scanning.{WordEnds, Found, WordNext, CloseNext};
 
 use crate::bytes::is_word_byte;
 
@@ -41,4 +41,24 @@ pub fn token(l: &[u8], at: usize) -> Next
         }
     }
     Next::End
+}
+
+// The word that stands next at or behind a place: its first place and the place behind it.
+pub fn word_at(l: &[u8], at: usize) -> Option<(usize, usize)>
+    ensures { WordNext l.now at result }
+{
+    let Next::Word(a, e) = token(l, at) else {
+        return None;
+    };
+    Some((a, e))
+}
+
+// The place behind the closing bracket that stands next at or behind a place.
+pub fn close_at(l: &[u8], at: usize) -> Option<usize>
+    ensures { CloseNext l.now at result }
+{
+    let Next::Close(next) = token(l, at) else {
+        return None;
+    };
+    Some(next)
 }
