@@ -3,7 +3,6 @@
 use mathlib.Core.Path.{◌≡◌, refl, sym, ap, subst, ◌∙◌}
 use mathlib.Core.Bool.{Bool, true, false}
 use mathlib.Core.List.{List}
-use mathlib.Core.Option as math
 use Rattle.std.specs.Prelude.{Option, Some, None}
 use Rattle.std.specs.Bool.{then_some}
 use Prim.Native.Nat.{ℕ, ◌+◌, ◌-◌, ◌*◌, ◌≤◌, ◌<◌, max}
@@ -13,7 +12,7 @@ use lib.Seq.{slice}
 use Rattle.text.specs.Tokens.{tokens}
 use Rattle.text.specs.declared.tokens.Next.{Next}
 use Rattle.text.specs.declared.tokens.Next.TheVariants.{Open, Close, Word}
-use Rattle.text.specs.Scanning.{Found}
+use Rattle.text.specs.Scanning.{Found, begins_word, begins_closing}
 use Rattle.text.specs.Words.{begins_with_letter}
 use Rattle.text.proofs.Slices.{part_slice}
 use Rattle.text.proofs.TokenLaws.{word-le}
@@ -28,7 +27,7 @@ use Rattle.formulas.specs.Parsing.{closed_among, Closed}
 use Rattle.formulas.proofs.Keywords.{node_ge}
 use Rattle.formulas.proofs.Sentences.{depth-le-size}
 use Rattle.formulas.proofs.Reading.{items_closing, items_name, items_word, items_form}
-use Rattle.formulas.proofs.FirstItem.{NotWord, NotClose, found-behind, found-unclosed}
+use Rattle.formulas.proofs.FirstItem.{unclosed_items, wordless_items}
 use Rattle.formulas.proofs.Forms.{closed-among, negation_items, joined_items}
 use Rattle.formulas.proofs.Forms.{other_begins, operand_begins, second_begins}
 
@@ -70,18 +69,17 @@ module _ {l : List ℕ} {at : ℕ} {r : Next} (t : Found l at r) where
           go true h = name-head h
           go false h = word-head h
 
-  module _ {i : ℕ} {s : Next} (p : r ≡ Open i) (u : Found l i s) where
-    pub opening-head : NotWord s → begins_formula (items_of (tokens (drop at l))) ≡ false
-    opening-head h = rw ((found_as t p).tokens_are, found-behind u h)
+  module _ {i : ℕ} (p : r ≡ Open i) where
+    pub opening-head : begins_word (tokens (drop i l)) ≡ false → begins_formula (items_of (tokens (drop at l))) ≡ false
+    opening-head h = rw ((found_as t p).tokens_are, wordless_items (tokens (drop i l)) h)
 
     -- by the node of the word behind the bracket, as the code reads it
-    module _ {a e : ℕ} (o : s ≡ Word a e) {x : Option ℕ} (q : NodeFound (take (e - a) (drop a l)) x) where
+    module _ {a e : ℕ} (u : Found l i (Word a e)) {x : Option ℕ} (q : NodeFound (take (e - a) (drop a l)) x) where
       form_items : items_of (tokens (drop at l)) ≡ with_form (node_of (slice a e l)) (items_of (tokens (drop e l)))
-      form_items =
-          rw ((found_as t p).tokens_are, (found_as u o).tokens_are) (items_form (tokens (drop e l)) (slice a e l))
+      form_items = rw ((found_as t p).tokens_are, u.tokens_are) (items_form (tokens (drop e l)) (slice a e l))
 
       node_found : NodeFound (slice a e l) x
-      node_found = rw (part_slice l a e (word-le u o)) at q
+      node_found = rw (part_slice l a e (word-le u refl)) at q
 
       pub other-head : x ≡ None → begins_formula (items_of (tokens (drop at l))) ≡ false
       other-head h =
@@ -92,30 +90,29 @@ module _ {l : List ℕ} {at : ℕ} {r : Next} (t : Found l at r) where
       form-head h =
           let v = (rw h at node_found).node_is in
           let t' = found_as t p in
-          let u' = found_as u o in
           record {
             items_are = rw v.0 form_items;
             low = rw v.0 (node_ge _);
             high = omega (arith, v.1);
-            onward = omega (arith, t'.inside.0, u'.inside.0, u'.inside.1);
-            within = u'.inside.2;
+            onward = omega (arith, t'.inside.0, u.inside.0, u.inside.1);
+            within = u.inside.2;
           }
 
 -- The ways out of `closed_form`
 
-module _ {l : List ℕ} {at : ℕ} {r : Next} (t : Found l at r) where
-  pub closing-closed : {d next : ℕ} → r ≡ Close next → Closed l at d (Some (record { next = next; depth = d }))
-  closing-closed {d} {next} p = let t' = found_as t p in (
-    refl,
-    record {
-      items_are = λ f. rw (t'.tokens_are, items_closing) (closed-among f (items_of (tokens (drop next l))));
-      onward = t'.inside.0;
-      within = t'.inside.1;
-    },
-  )
+pub closing-closed : {l : List ℕ} {at d next : ℕ} → Found l at (Close next)
+    → Closed l at d (Some (record { next = next; depth = d }))
+closing-closed {l} {next = next} t = (
+  refl,
+  record {
+    items_are = λ f. rw (t.tokens_are, items_closing) (closed-among f (items_of (tokens (drop next l))));
+    onward = t.inside.0;
+    within = t.inside.1;
+  },
+)
 
-  pub other-closed : NotClose r → (f : Sentence) → closed_among f (items_of (tokens (drop at l))) ≡ math.Option.none
-  other-closed h = (found-unclosed t h).unclosed
+pub other-closed : (l : List ℕ) (at d : ℕ) → begins_closing (tokens (drop at l)) ≡ false → Closed l at d None
+other-closed l at d h = unclosed_items (tokens (drop at l)) h
 
 -- The ways out of `formula_at`
 

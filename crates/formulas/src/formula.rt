@@ -3,7 +3,7 @@ ghost use Rattle.formulas.specs.Parsing.{HeadAt, Parsed, Closed};
 
 use crate::keyword::{NOT, node_of};
 use text::name::is_name;
-use text::tokens::{Next, token};
+use text::tokens::{Next, close_at, token, word_at};
 
 // What a formula begins with: a name and its ends, or the node of a form and the place behind its word.
 #[derive(Clone, Copy)]
@@ -26,9 +26,7 @@ pub fn head_at(l: &[u8], at: usize) -> Option<Head>
     match token(l, at) {
         Next::Word(a, e) => is_name(&l[a..e]).then_some(Head::Name(a, e)),
         Next::Open(i) => {
-            let Next::Word(a, e) = token(l, i) else {
-                return None;
-            };
+            let (a, e) = word_at(l, i)?;
             let node = node_of(&l[a..e])?;
             Some(Head::Form(node, e))
         }
@@ -40,9 +38,7 @@ pub fn head_at(l: &[u8], at: usize) -> Option<Head>
 fn closed_form(l: &[u8], at: usize, depth: usize) -> Option<Parse>
     ensures { Closed l.now at depth result }
 {
-    let Next::Close(next) = token(l, at) else {
-        return None;
-    };
+    let next = close_at(l, at)?;
     Some(Parse { next, depth })
 }
 

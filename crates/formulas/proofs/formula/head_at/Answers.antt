@@ -7,19 +7,18 @@ use Rattle.formulas.proofs.formula.head_at.Goals as goal
 pub returns-in-Word : goal.returns-in-Word
 returns-in-Word c = rw c.then_some.ensures (name_found c.token.ensures c.in-Word.is c.is_name.ensures)
 
-pub returns-in_default-token : goal.returns-in_default-token
-returns-in_default-token c = search (rules, opening-head)
+pub returns-in_err-a-in-Open : goal.returns-in_err-a-in-Open
+returns-in_err-a-in-Open c =
+    rw c.from_residual.ensures (opening-head c.token.ensures c.in-Open.is c.in_err-a-in-Open.ensures)
 
 pub returns-in_err-node-in-Open : goal.returns-in_err-node-in-Open
 returns-in_err-node-in-Open c =
-    rw c.from_residual.ensures
-    (other-head c.token.ensures c.in-Open.is c.token-in-Open.ensures c.in-Word-token.is c.node_of.ensures
-    c.in_err-node-in-Open.was)
+    rw c.from_residual-in_err-node-in-Open.ensures
+    (other-head c.token.ensures c.in-Open.is c.in_ok-a-in-Open.ensures c.node_of.ensures c.in_err-node-in-Open.was)
 
 pub returns-in_ok-node-in-Open : goal.returns-in_ok-node-in-Open
 returns-in_ok-node-in-Open c =
-    form-head c.token.ensures c.in-Open.is c.token-in-Open.ensures c.in-Word-token.is c.node_of.ensures
-    c.in_ok-node-in-Open.was
+    form-head c.token.ensures c.in-Open.is c.in_ok-a-in-Open.ensures c.node_of.ensures c.in_ok-node-in-Open.was
 
 pub returns-in_default : goal.returns-in_default
 returns-in_default c = search (rules, found_begins)
