@@ -1,5 +1,5 @@
-// The case record, and the limits of document 01.
-ghost use Rattle.std.specs.Prelude.{◌≡◌};
+// The case record, the limits of document 01, and the atoms within them.
+ghost use Rattle.std.specs.Prelude.{◌≡◌, ◌+◌, ◌^◌, ◌≤◌};
 ghost use Rattle.program.specs.Case.{tables_full};
 
 use crate::tables::Tables;
@@ -44,6 +44,29 @@ impl Case {
     pub const NAME_BYTES: usize = 1024;
 
     pub const PRICES: usize = 64;
+}
+
+// The atoms below count, bit i of all for atom i.
+#[derive(Clone, Copy)]
+pub struct Atoms {
+    pub count: usize,
+    pub all: u64,
+    ghost some: { 1 ≤ count },
+    ghost few: { count ≤ 64 },
+    ghost each: { all + 1 ≡ 2 ^ count },
+}
+
+impl Atoms {
+    // The atoms below a number.
+    pub fn below(count: usize) -> Atoms
+        requires { (1 ≤ count) × (count ≤ 64) }
+        ensures { result.count ≡ count }
+    {
+        Atoms {
+            count,
+            all: words::lowest(count as u32),
+        }
+    }
 }
 
 // Whether the lent tables have their full sizes.

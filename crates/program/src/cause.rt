@@ -5,6 +5,7 @@ ghost use Rattle.program.specs.Cause.{causes_among, firm_heads, causes_in};
 ghost use Rattle.program.specs.Setting.{choice_of, settings_of, additions_of};
 ghost use Rattle.program.specs.Digit.{with_digit};
 
+use crate::case::Atoms;
 use crate::clauses::Clauses;
 use words::walk::bits_of;
 
@@ -32,12 +33,11 @@ fn firm_heads(clauses: Clauses) -> u64
     heads
 }
 
-// Those of a number of atoms that are no head.
-fn unheaded(atoms: usize, heads: u64) -> u64
-    requires { (1 ≤ atoms) × (atoms ≤ 64) }
-    ensures { result ≡ causes_among atoms heads }
+// Those of the atoms that are no head.
+fn unheaded(atoms: Atoms, heads: u64) -> u64
+    ensures { result ≡ causes_among atoms.count heads }
 {
-    words::lowest(atoms as u32) & !heads
+    atoms.all & !heads
 }
 
 // The causes, and those of them that have two choices, bit i for atom i.
@@ -52,7 +52,7 @@ pub fn causes_in(edition: usize, atoms: usize, clauses: Clauses, heads: u64) -> 
     requires { (1 ≤ atoms) × (atoms ≤ 64) × (heads ≡ heads_of clauses.words.now clauses.count) }
     ensures { result ≡ causes_in edition atoms clauses.entry.words.now clauses.entry.count }
 {
-    let free = unheaded(atoms, heads);
+    let free = unheaded(Atoms::below(atoms), heads);
     if edition != 2 {
         return Causes {
             all: free,
@@ -101,19 +101,17 @@ impl Additions {
         requires { atom < 64 }
         ensures { result ≡ with_digit self atom digit }
     {
-        if digit == 1 {
-            return Additions {
+        match digit {
+            1 => Additions {
                 facts: self.facts | words::single(atom),
-                assumptions: self.assumptions,
-            };
-        }
-        if digit == 2 {
-            return Additions {
-                facts: self.facts,
+                ..self
+            },
+            2 => Additions {
                 assumptions: self.assumptions | words::single(atom),
-            };
+                ..self
+            },
+            _ => self,
         }
-        self
     }
 
     // What the next setting adds: the lowest digit that isn't its cause's highest rises by one, and those below it fall
@@ -124,22 +122,17 @@ impl Additions {
         let mut x = self;
         for atom in bits_of(causes.all) {
             if words::test(x.facts, atom) {
-                if !words::test(causes.twofold, atom) {
-                    return Additions {
-                        facts: words::without(x.facts, atom),
-                        assumptions: x.assumptions | words::single(atom),
-                    };
-                }
                 x.facts = words::without(x.facts, atom);
-                continue;
+                if !words::test(causes.twofold, atom) {
+                    x.assumptions = x.assumptions | words::single(atom);
+                    return x;
+                }
+            } else if words::test(x.assumptions, atom) {
+                x.assumptions = words::without(x.assumptions, atom);
+            } else {
+                x.facts = x.facts | words::single(atom);
+                return x;
             }
-            if !words::test(x.assumptions, atom) {
-                return Additions {
-                    facts: x.facts | words::single(atom),
-                    assumptions: x.assumptions,
-                };
-            }
-            x.assumptions = words::without(x.assumptions, atom);
         }
         x
     }

@@ -5,7 +5,8 @@ ghost use Rattle.program.specs.Sound.{limits_hold, bare, shaped, within, sound_c
 ghost use Rattle.program.specs.Sound.{sound_clauses, sound_constraint, sound_constraints, few_settings};
 ghost use Rattle.program.specs.Sound.{sound_formula, sound_formulas, sound};
 
-use crate::case::Case;
+use crate::case::{Atoms, Case};
+use crate::cause;
 use crate::clauses::Clauses;
 use crate::tables::Tables;
 
@@ -42,72 +43,58 @@ pub fn is_shaped(kind: u64, none: bool) -> bool
     }
 }
 
-// Whether every bit of two words names one of the atoms; top is the word of all atoms.
+// Whether every bit of two words names one of the atoms.
 #[tactic(auto, unfolding(crate::specs::Sound::within))]
-pub fn is_within(atoms: usize, top: u64, plain: u64, negated: u64) -> bool
-    requires { top + 1 ≡ 2 ^ atoms }
-    ensures { result ≡ within atoms plain negated }
+pub fn is_within(atoms: Atoms, plain: u64, negated: u64) -> bool
+    ensures { result ≡ within atoms.count plain negated }
 {
-    plain <= top && negated <= top
+    plain <= atoms.all && negated <= atoms.all
 }
 
-// Whether a clause's three words are sound; top is the word of all atoms.
+// Whether a clause's three words are sound.
 #[tactic(auto, unfolding(crate::specs::Sound::sound_clause))]
-pub fn clause_sound(atoms: usize, top: u64, first: u64, plain: u64, negated: u64) -> bool
-    requires { top + 1 ≡ 2 ^ atoms }
-    ensures { result ≡ sound_clause atoms first plain negated }
+pub fn clause_sound(atoms: Atoms, first: u64, plain: u64, negated: u64) -> bool
+    ensures { result ≡ sound_clause atoms.count first plain negated }
 {
-    ((first % 64) as usize) < atoms
-        && is_within(atoms, top, plain, negated)
+    ((first % 64) as usize) < atoms.count
+        && is_within(atoms, plain, negated)
         && is_shaped(first / 64, is_bare(plain, negated))
 }
 
 // Whether the clauses are sound.
 #[tactic(auto, unfolding(crate::specs::Sound::sound_clauses))]
-pub fn clauses_sound(atoms: usize, clauses: Clauses) -> bool
-    requires { (1 ≤ atoms) × (atoms ≤ 64) }
-    ensures { result ≡ sound_clauses atoms clauses.entry.words.now clauses.entry.count }
+pub fn clauses_sound(atoms: Atoms, clauses: Clauses) -> bool
+    ensures { result ≡ sound_clauses atoms.count clauses.entry.words.now clauses.entry.count }
 {
-    let top = words::lowest(atoms as u32);
+    let words = clauses.words;
     for k in 0..clauses.count {
-        let at = 3 * k;
-        if !clause_sound(
-            atoms,
-            top,
-            clauses.words[at],
-            clauses.words[at + 1],
-            clauses.words[at + 2],
-        ) {
+        if !clause_sound(atoms, words[3 * k], words[3 * k + 1], words[3 * k + 2]) {
             return false;
         }
     }
     true
 }
 
-// Whether a constraint's three words are sound; top is the word of all atoms.
+// Whether a constraint's three words are sound.
 #[tactic(auto, unfolding(crate::specs::Sound::sound_constraint))]
-pub fn constraint_sound(atoms: usize, top: u64, plain: u64, negated: u64, kind: u64) -> bool
-    requires { top + 1 ≡ 2 ^ atoms }
-    ensures { result ≡ sound_constraint atoms plain negated kind }
+pub fn constraint_sound(atoms: Atoms, plain: u64, negated: u64, kind: u64) -> bool
+    ensures { result ≡ sound_constraint atoms.count plain negated kind }
 {
-    is_within(atoms, top, plain, negated) && !is_bare(plain, negated) && kind < 2
+    is_within(atoms, plain, negated) && !is_bare(plain, negated) && kind < 2
 }
 
 // Whether the first n constraints are sound.
 #[tactic(auto, unfolding(crate::specs::Sound::sound_constraints))]
-pub fn constraints_sound(atoms: usize, constraints: &[u64], n: usize) -> bool
-    requires { (1 ≤ atoms) × (atoms ≤ 64) × (n ≤ 32) × (3 * n ≤ length constraints.now) }
-    ensures { result ≡ sound_constraints atoms constraints.now n }
+pub fn constraints_sound(atoms: Atoms, constraints: &[u64], n: usize) -> bool
+    requires { (n ≤ 32) × (3 * n ≤ length constraints.now) }
+    ensures { result ≡ sound_constraints atoms.count constraints.now n }
 {
-    let top = words::lowest(atoms as u32);
     for k in 0..n {
-        let at = 3 * k;
         if !constraint_sound(
             atoms,
-            top,
-            constraints[at],
-            constraints[at + 1],
-            constraints[at + 2],
+            constraints[3 * k],
+            constraints[3 * k + 1],
+            constraints[3 * k + 2],
         ) {
             return false;
         }
@@ -120,9 +107,9 @@ pub fn settings_few(edition: usize, atoms: usize, clauses: Clauses) -> bool
     requires { (1 ≤ atoms) × (atoms ≤ 64) }
     ensures { result ≡ few_settings edition atoms clauses.entry.words.now clauses.entry.count }
 {
-    let heads = crate::cause::heads(clauses);
-    let causes = crate::cause::causes_in(edition, atoms, clauses, heads);
-    crate::cause::settings(causes) <= Case::SETTINGS
+    let heads = cause::heads(clauses);
+    let causes = cause::causes_in(edition, atoms, clauses, heads);
+    cause::settings(causes) <= Case::SETTINGS
 }
 
 // Whether formula q is sound; nodes has the node count of each formula.
@@ -165,9 +152,10 @@ pub fn is_sound(c: Case, t: Tables) -> bool
         words: t.clauses,
         count: c.clauses,
     };
-    clauses_sound(c.atoms, clauses)
-        && constraints_sound(c.atoms, t.constraints, c.constraints)
-        && is_within(c.atoms, words::lowest(c.atoms as u32), c.plain, c.negated)
+    let atoms = Atoms::below(c.atoms);
+    clauses_sound(atoms, clauses)
+        && constraints_sound(atoms, t.constraints, c.constraints)
+        && is_within(atoms, c.plain, c.negated)
         && settings_few(c.edition, c.atoms, clauses)
         && formulas_sound(c.atoms, &c.nodes, t.formula, c.formulas)
 }

@@ -2,11 +2,9 @@
 -- Assumes nothing.
 use mathlib.Core.Path.{◌≡◌}
 use mathlib.Core.Bool.{true}
-use Prim.Native.Nat.{◌+◌, ◌^◌}
 use Rattle.words.specs.Below.{every}
 use Rattle.program.proofs.Soundness.{clause_test}
 use Rattle.program.proofs.sound.clauses_sound.Given as goal
 
 abbrev pub invariant-loop-k : goal.invariant-loop-k
-invariant-loop-k l =
-    (l.top + 1 ≡ 2 ^ l.atoms) × (every l.k (clause_test l.atoms l.clauses.words.now) ≡ true)
+invariant-loop-k l = every l.k (clause_test l.atoms.count l.clauses.words.now) ≡ true

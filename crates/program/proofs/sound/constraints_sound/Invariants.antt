@@ -2,10 +2,9 @@
 -- (`every`). Assumes nothing.
 use mathlib.Core.Path.{◌≡◌}
 use mathlib.Core.Bool.{true}
-use Prim.Native.Nat.{◌+◌, ◌^◌}
 use Rattle.words.specs.Below.{every}
 use Rattle.program.proofs.Soundness.{constraint_test}
 use Rattle.program.proofs.sound.constraints_sound.Given as goal
 
 abbrev pub invariant-loop-k : goal.invariant-loop-k
-invariant-loop-k l = (l.top + 1 ≡ 2 ^ l.atoms) × (every l.k (constraint_test l.atoms l.constraints) ≡ true)
+invariant-loop-k l = every l.k (constraint_test l.atoms.count l.constraints) ≡ true

@@ -1,6 +1,5 @@
 -- `program::sound::is_sound` meets its contract: within the limits the tables hold what the counts say. Assumes nothing.
 use mathlib.Core.Path.{sym, ◌∙◌}
-use native.Mathlib.Omega.{arith}
 use Rattle.program.proofs.Soundness.{limits-atoms, clauses-held, constraints-held, formulas-held}
 use Rattle.program.proofs.sound.is_sound.Goals as goal
 
@@ -9,20 +8,13 @@ invariant_of-clauses c =
     let h = clauses-held _ _ _ _ c.requires (sym c.limits_hold.ensures ∙ c.if-not-limits_hold.false) in
     record { few = h.2; held = h.3 }
 
-pub clauses_sound-requires : goal.clauses_sound-requires
-clauses_sound-requires c = limits-atoms _ (sym c.limits_hold.ensures ∙ c.if-not-limits_hold.false)
+pub below-atoms-requires : goal.below-atoms-requires
+below-atoms-requires c = limits-atoms _ (sym c.limits_hold.ensures ∙ c.if-not-limits_hold.false)
 
 pub constraints_sound-requires : goal.constraints_sound-requires
 constraints_sound-requires c =
-    constraints-held _ _ _ _ c.requires (sym c.limits_hold.ensures ∙ c.if-not-limits_hold.false)
-
-pub overflow_cast-c : goal.overflow_cast-c
-overflow_cast-c c =
-    let h = limits-atoms c.args.c (sym c.limits_hold.ensures ∙ c.if-not-limits_hold.false) in
-    omega arith
-
-pub lowest-requires : goal.lowest-requires
-lowest-requires c = limits-atoms _ (sym c.limits_hold.ensures ∙ c.if-not-limits_hold.false)
+    let h = constraints-held _ _ _ _ c.requires (sym c.limits_hold.ensures ∙ c.if-not-limits_hold.false) in
+    (h.2, h.3)
 
 pub settings_few-requires : goal.settings_few-requires
 settings_few-requires c = limits-atoms _ (sym c.limits_hold.ensures ∙ c.if-not-limits_hold.false)

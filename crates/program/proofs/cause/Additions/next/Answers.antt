@@ -17,25 +17,25 @@ returns-then-not-test c =
     (λ s e. carried_fact _ _ s _ _ _ (c.loop-atom.invariant s e) c.in-Some.ensures.steps.0
     (sym c.test-then-test.ensures ∙ c.if-not-test.true) (sym c.test.ensures ∙ c.if-test.true))
 
-pub loop-atom-preserved-then-test : goal.loop-atom-preserved-then-test
-loop-atom-preserved-then-test c =
+pub loop-atom-preserved-else-not-test : goal.loop-atom-preserved-else-not-test
+loop-atom-preserved-else-not-test c =
     let l = c.in-Some.ensures.steps in
-    rw (l.1, c.without-then-test.ensures)
+    rw (l.1, c.without.ensures)
     (λ s e. carried_one _ _ s _ _ _ (c.loop-atom.invariant s e) l.0
     (sym c.test-then-test.ensures ∙ c.if-not-test.false) (sym c.test.ensures ∙ c.if-test.true))
-
-pub returns-then-not-test-2 : goal.returns-then-not-test-2
-returns-then-not-test-2 c =
-    rw c.single-then-not-test-2.ensures
-    (λ s e. carried_nothing _ _ s _ _ _ (c.loop-atom.invariant s e) c.in-Some.ensures.steps.0
-    (sym c.test.ensures ∙ c.if-test.false) (sym c.test-in-loop-atom.ensures ∙ c.if-not-test-2.true))
 
 pub loop-atom-preserved : goal.loop-atom-preserved
 loop-atom-preserved c =
     let l = c.in-Some.ensures.steps in
-    rw (l.1, c.without-in-loop-atom.ensures)
+    rw (l.1, c.without-then-test-2.ensures)
     (λ s e. carried_two _ _ s _ _ _ (c.loop-atom.invariant s e) l.0
-    (sym c.test-in-loop-atom.ensures ∙ c.if-not-test-2.false))
+    (sym c.test-else-test.ensures ∙ c.if-test-2.true))
+
+pub returns-else-test-2 : goal.returns-else-test-2
+returns-else-test-2 c =
+    rw c.single-else-test-2.ensures
+    (λ s e. carried_nothing _ _ s _ _ _ (c.loop-atom.invariant s e) c.in-Some.ensures.steps.0
+    (sym c.test.ensures ∙ c.if-test.false) (sym c.test-else-test.ensures ∙ c.if-test-2.false))
 
 pub returns : goal.returns
 returns c = λ s e. carried_end _ _ s _ _ c.in-None.ensures.steps.0 (c.loop-atom.invariant s e)
