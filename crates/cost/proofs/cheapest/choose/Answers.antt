@@ -8,15 +8,6 @@ use Rattle.cost.proofs.cheapest.choose.Goals.{in_default-via-in-None-1, in_defau
 pub returns : goal.returns
 returns c = λ causes l f k. chosen-free _ l _ (sym c.in-Some.is ∙ k) c.if-k-eq0.true
 
-pub loop-j-init : goal.loop-j-init
-loop-j-init c =
-    rw (c.into_iter-j-iterator.ensures.into_iter_gives, c.bits_of-j-items.ensures) choosing_start
-
-pub cost_in-cost-requires : goal.cost_in-cost-requires
-cost_in-cost-requires c =
-    let p = c.requires in
-    (p.0, p.1, c.in-Some-j.ensures.steps.0.bit.small)
-
 pub loop-j-preserved : goal.loop-j-preserved
 loop-j-preserved c =
     rw c.in-Some-j.ensures.steps.1

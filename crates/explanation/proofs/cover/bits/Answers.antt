@@ -3,11 +3,6 @@ use native.Mathlib.Omega.{arith}
 use Rattle.explanation.proofs.Rows.{bits_whole, bits-glued}
 use Rattle.explanation.proofs.cover.bits.Goals as goal
 
-pub returns-then-r-eq0 : goal.returns-then-r-eq0
-returns-then-r-eq0 c =
-    let a = c.args in
-    λ j l. bits_whole a.row.now a.place j l (omega arith)
-
 pub returns : goal.returns
 returns c =
     let a = c.args in

@@ -9,9 +9,6 @@ use lib.ListN.{length, length-set}
 use Rattle.explanation.proofs.Larger.{Stands, stands_start, stands_next, stands_less, stands_end}
 use Rattle.explanation.proofs.cover.cover.Goals as goal
 
-pub bounds-row-b : goal.bounds-row-b
-bounds-row-b c = omega arith
-
 pub loop-word-init : goal.loop-word-init
 loop-word-init c =
     let a = c.args in
@@ -22,15 +19,6 @@ loop-word-init c =
           (λ (u : List ℕ). Stands r a.b a.e a.causes a.weights.now a.added.now.facts a.added.now.assumptions u a.e)
           (sym q) (stands_start l),
     )
-
-pub overflow_mul-b : goal.overflow_mul-b
-overflow_mul-b c = omega arith
-
-pub dropped-larger-requires : goal.dropped-larger-requires
-dropped-larger-requires c = (omega arith, λ a h. omega (arith, c.requires.2 a h))
-
-pub bounds-row-b-in-loop-word : goal.bounds-row-b-in-loop-word
-bounds-row-b-in-loop-word c = omega arith
 
 pub loop-word-smaller : goal.loop-word-smaller
 loop-word-smaller c =

@@ -6,26 +6,6 @@ use Rattle.explanation.proofs.cover.dropped.Goals as goal
 pub loop-a-init : goal.loop-a-init
 loop-a-init c = rw (c.into_iter-a-iterator.ensures.into_iter_gives, c.bits_of-a-items.ensures) dropping_start
 
-pub overflow_sub-place : goal.overflow_sub-place
-overflow_sub-place c =
-    omega (arith, c.requires.1 _ (c.loop-a.invariant.within _ c.in-Some.ensures.steps.0.bit))
-
-pub bits-requires : goal.bits-requires
-bits-requires c =
-    omega (arith, c.requires.1 _ (c.loop-a.invariant.within _ c.in-Some.ensures.steps.0.bit))
-
-pub overflow_mul-w : goal.overflow_mul-w
-overflow_mul-w c =
-    omega (arith, c.requires.1 _ (c.loop-a.invariant.within _ c.in-Some.ensures.steps.0.bit))
-
-pub overflow_sub-place-in-loop-a : goal.overflow_sub-place-in-loop-a
-overflow_sub-place-in-loop-a c =
-    omega (arith, c.requires.1 _ (c.loop-a.invariant.within _ c.in-Some.ensures.steps.0.bit))
-
-pub bits-requires-in-loop-a : goal.bits-requires-in-loop-a
-bits-requires-in-loop-a c =
-    omega (arith, c.requires.1 _ (c.loop-a.invariant.within _ c.in-Some.ensures.steps.0.bit))
-
 pub loop-a-preserved : goal.loop-a-preserved
 loop-a-preserved c =
     let b = c.in-Some.ensures.steps.0.bit in

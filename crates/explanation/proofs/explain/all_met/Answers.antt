@@ -4,9 +4,6 @@ use borrow.Author.Rules.{rules}
 use Rattle.explanation.proofs.Explaining.{passing_start, passing_next, passing_end}
 use Rattle.explanation.proofs.explain.all_met.Goals as goal
 
-pub loop-k-init : goal.loop-k-init
-loop-k-init c = passing_start _ _ _ _ _
-
 pub loop-k-preserved : goal.loop-k-preserved
 loop-k-preserved c = search (rules, passing_next)
 

@@ -11,9 +11,6 @@ use Rattle.lanes.proofs.LaneRounds.{settling_planes, settling_few, settling_tota
 use Rattle.lanes.proofs.LaneRounds.{settling_next, settling_end}
 use Rattle.lanes.proofs.rounds.run.Goals as goal
 
-pub lowest-valid-requires : goal.lowest-valid-requires
-lowest-valid-requires c = (c.requires.2, c.requires.3)
-
 pub loop-c-init : goal.loop-c-init
 loop-c-init c =
     let p = c.requires in (

@@ -12,6 +12,3 @@ pub loop-j-preserved : goal.loop-j-preserved
 loop-j-preserved c =
     λ s e. filling_next _ s _ _ _ _ _ _ _ (c.loop-j.invariant s e) c.spread.ensures c.spread-in-loop-j.ensures
     c.next-next.ensures
-
-pub returns : goal.returns
-returns c = λ s e. filling_end _ s _ _ _ _ (c.loop-j.invariant s e) (omega arith)

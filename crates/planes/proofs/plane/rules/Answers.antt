@@ -9,9 +9,6 @@ use Rattle.planes.proofs.plane.rules.Goals as goal
 pub loop-k-init : goal.loop-k-init
 loop-k-init c = ruling_start _ _ _ _ _ _ c.requires.0
 
-pub body-v-requires : goal.body-v-requires
-body-v-requires c = c.requires.2
-
 pub loop-k-smaller : goal.loop-k-smaller
 loop-k-smaller c =
     let cl = c.args.clauses.words.now in

@@ -3,11 +3,6 @@ use borrow.Author.Rules.{rules}
 use Rattle.round.proofs.Committing.{committing_start, committing_next, committing_end}
 use Rattle.round.proofs.redo.commit.Goals as goal
 
-pub loop-i-init : goal.loop-i-init
-loop-i-init c =
-    rw (c.into_iter-i-iterator.ensures.into_iter_gives, c.bits_of-i-items.ensures)
-    (committing_start _ _ _ (search rules), committing_start _ _ _ (search rules))
-
 pub loop-i-preserved : goal.loop-i-preserved
 loop-i-preserved c =
     let b = c.in-Some.ensures.steps.0.bit in

@@ -7,13 +7,6 @@ loop-a-init c =
     rw (c.into_iter-a-iterator.ensures.into_iter_gives, c.bits_of-a-items.ensures)
     (deciding_start _ _ _ _ _ _ _ c.requires.3)
 
-pub turn-c-requires : goal.turn-c-requires
-turn-c-requires c =
-    let b = c.in-Some.ensures.steps.0.bit in
-    let p = c.requires in
-    let i = c.loop-a.invariant in
-    (b.small, p.0, p.1, p.2, i.sizes, i.unseen _ b)
-
 pub loop-a-preserved : goal.loop-a-preserved
 loop-a-preserved c =
     let b = c.in-Some.ensures.steps.0.bit in

@@ -8,11 +8,6 @@ returns-then-free-eq0 c =
     let p = c.requires in
     taken_none _ _ _ _ _ _ _ _ _ p.4 p.5 c.undecided-free.ensures c.if-free-eq0.true
 
-pub rules-v-requires : goal.rules-v-requires
-rules-v-requires c =
-    let p = c.requires in
-    (p.1 _ p.0, p.2, p.3)
-
 pub returns : goal.returns
 returns c =
     let p = c.requires in
