@@ -1,5 +1,5 @@
 // The rules of each head as a chain from the last to the first.
-ghost use Rattle.std.specs.Prelude.{◌≡◌, ◌/◌, leb};
+ghost use Rattle.std.specs.Prelude.{◌≡◌, leb};
 ghost use Rattle.words.specs.Choice.{pick};
 ghost use Rattle.prepared.specs.Chains.{Lasts, Linked};
 
@@ -13,11 +13,11 @@ pub struct Chains {
     pub prev: [usize; 256],
 }
 
-// The number k where a clause's first word is a rule's, otherwise the number before.
-fn newest(first: u64, k: usize, before: usize) -> usize
-    ensures { result ≡ pick (leb 2 (first / 64)) k before }
+// The number k where a clause's kind is a rule's, otherwise the number before.
+fn newest(kind: u64, k: usize, before: usize) -> usize
+    ensures { result ≡ pick (leb 2 kind) k before }
 {
-    if first / 64 < 2 { before } else { k }
+    if kind < 2 { before } else { k }
 }
 
 // The chains of some clauses.
@@ -28,11 +28,11 @@ pub fn fill(clauses: Clauses) -> Chains
     let mut last = [0; 64];
     let mut prev = [0; 256];
     for k in 0..clauses.count {
-        let first = clauses.words[3 * k];
-        let head = (first % 64) as usize;
+        let clause = clauses.at(k);
+        let head = clause.head as usize;
         let before = last[head];
         prev[k] = before;
-        last[head] = newest(first, k + 1, before);
+        last[head] = newest(clause.kind, k + 1, before);
     }
     Chains { last, prev }
 }

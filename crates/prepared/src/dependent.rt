@@ -23,9 +23,8 @@ pub fn fill(clauses: Clauses) -> [u64; 64]
 {
     let mut dependents = [0; 64];
     for k in 0..clauses.count {
-        let at = 3 * k;
-        let named = clauses.words[at + 1] | clauses.words[at + 2];
-        spread(&mut dependents, named, (clauses.words[at] % 64) as u32);
+        let clause = clauses.at(k);
+        spread(&mut dependents, clause.plain | clause.negated, clause.head);
     }
     dependents
 }

@@ -9,17 +9,18 @@ ghost use Rattle.settle.specs.Step.{stepped};
 use logic::interpretation::Interpretation;
 use logic::value::Value;
 use program::cause::Additions;
+use program::clause::Clause;
 use program::clauses::Clauses;
 
 // The value of a clause's body by its kind and its literals.
-pub fn body_value(i: Interpretation, kind: u64, plain: u64, negated: u64) -> Value
+pub fn body_value(i: Interpretation, clause: Clause) -> Value
     requires { Disjoint i }
-    ensures { result ≡ value_of (value_at i) (by_kind kind (Formula·body plain negated)) }
+    ensures { result ≡ value_of (value_at i) (by_kind clause.kind (Formula·body clause.plain clause.negated)) }
 {
-    match kind {
+    match clause.kind {
         0 => Value::True,
         1 => Value::False,
-        _ => i.body(plain, negated),
+        _ => i.body(clause.plain, clause.negated),
     }
 }
 
@@ -40,12 +41,9 @@ pub fn apply(i: Interpretation, clauses: Clauses, heads: u64, added: Additions) 
         trues: added.facts,
         falses: (heads | added.assumptions) & !added.facts,
     };
-    let words = clauses.words;
     for k in 0..clauses.count {
-        let at = 3 * k;
-        let first = words[at];
-        let v = body_value(i, first / 64, words[at + 1], words[at + 2]);
-        next = next.raise((first % 64) as u32, v);
+        let clause = clauses.at(k);
+        next = next.raise(clause.head, body_value(i, clause));
     }
     let decided = next.newly_decided(i);
     Stepped {

@@ -15,9 +15,11 @@ loop-k-init c = (refl, refl, λ a l. get_or-replicate 64 a 0 0 l, λ k l. absurd
 pub loop-k-preserved : goal.loop-k-preserved
 loop-k-preserved c =
     let l = c.loop-k in
-    let cl = c.args.clauses.words.now in (
+    let cl = c.args.clauses.words.now in
+    let e = c.at-clause.ensures in
+    rw e.head-is (
       simp length-set l.invariant.0,
       simp length-set l.invariant.1,
-      lasts_next cl l.k l.last _ l.invariant.0 l.invariant.2 c.newest.ensures,
+      lasts_next cl l.k l.last _ l.invariant.0 l.invariant.2 (rw (e.kind-is, e.head-is) at c.newest.ensures),
       linked-next cl l.k l.prev _ (omega arith) l.invariant.3 (l.invariant.2 _ (head-lt cl l.k)),
     )

@@ -10,4 +10,6 @@ loop-k-init c = λ i l. get_or-replicate 64 i 0 0 l ∙ dependents_none c.args.c
 pub loop-k-preserved : goal.loop-k-preserved
 loop-k-preserved c =
     let l = c.loop-k in
-    dependents_next c.args.clauses.words.now l.dependents _ l.k l.invariant c.spread.ensures
+    let e = c.at-clause.ensures in
+    dependents_next c.args.clauses.words.now l.dependents _ l.k l.invariant
+    (rw (e.head-is, e.plain-is, e.negated-is) at c.spread.ensures)

@@ -19,13 +19,14 @@ loop-k-init c =
 pub loop-k-preserved : goal.loop-k-preserved
 unfolding clause_at
 loop-k-preserved c =
-    let a = c.args in
     let k = c.loop-k.k in
-    let h = head_at a.clauses.words.now k in (
-      raised-disjoint _ c.loop-k.next h c.body_value-v.result c.raise-next.ensures,
-      c.raise-next.ensures
-          ∙ ap (raised c.loop-k.next h) c.body_value-v.ensures
-          ∙ walked_more (value_at a.i) a.clauses.words.now c.loop-k.next _ k c.loop-k.invariant.1,
+    let cl = c.args.clauses.words.now in
+    let e = c.at-clause.ensures in
+    let v = rw (e.kind-is, e.plain-is, e.negated-is) at c.body_value.ensures in
+    let next = rw e.head-is at c.raise-next.ensures in (
+      raised-disjoint _ c.loop-k.next (head_at cl k) c.body_value.result next,
+      next ∙ ap (raised c.loop-k.next (head_at cl k)) v
+          ∙ walked_more (value_at c.args.i) cl c.loop-k.next _ k c.loop-k.invariant.1,
     )
 
 pub newly_decided-decided-requires : goal.newly_decided-decided-requires
