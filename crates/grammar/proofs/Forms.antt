@@ -1,6 +1,6 @@
 -- Laws of the forms that are found in a line: one for each way out of the functions that find them.
 -- Assumes nothing.
-use mathlib.Core.Path.{◌≡◌, refl, sym, ap, ◌∙◌, subst}
+use mathlib.Core.Path.{◌≡◌, refl, sym, ap, ◌∙◌}
 use mathlib.Core.Bool.{Bool, true, false, true≢false}
 use mathlib.Core.List.{List, [], ◌∷◌}
 use mathlib.Core.Option.{Option}
@@ -9,9 +9,9 @@ use Rattle.std.specs.Prelude.{Some, None}
 use Rattle.std.specs.Bool.{then_some}
 use Prim.Native.Nat.{ℕ, ◌-◌, ◌≤◌, ◌<◌}
 use native.Mathlib.Omega.{arith}
-use lib.ListN.{length, take, drop}
+use lib.ListN.{take, drop}
 use lib.Seq.{slice}
-use borrow.Author.Tests.{eqb-true, lt-ltb}
+use borrow.Author.Tests.{lt-ltb}
 use Rattle.words.specs.Choice.{pick}
 use Rattle.text.specs.Tokens.{Token, tokens}
 use Rattle.text.specs.Words.{begins_with_letter}
@@ -26,13 +26,13 @@ use Rattle.formulas.specs.Parsing.{Items, begins_formula, closed_among, FormulaA
 use Rattle.formulas.proofs.Formulas.{found_as}
 use Rattle.formulas.proofs.Reading.{items_end, items_closing, items_name}
 use Rattle.formulas.proofs.FirstItem.{Filled, unclosed_items, unnamed_items, found-filled}
-use Rattle.grammar.specs.Line.{Line, Literal, takes}
-use Rattle.grammar.specs.LineOf.{with_body, seen_of, body_line, with_items, behind_word, kind_of, line_of}
+use Rattle.grammar.specs.Line.{Line, Literal}
+use Rattle.grammar.specs.LineOf.{with_body, body_line, with_items, behind_word, kind_of, line_of}
 use Rattle.grammar.specs.Parsing.{ends_items, body_in, BodyFound, BodyMakes}
 use Rattle.grammar.specs.Parsing.{ends_line, FormOrNone, FormAfter, FormFound}
 use Rattle.grammar.specs.declared.line.Form.{Form}
-use Rattle.grammar.specs.declared.line.Form.TheVariants.{Skipped, Clause, Constraint, Seen, Query}
-use Rattle.grammar.proofs.KindLaws.{fit_body, unfit_body, kind_unnamed, kind-named, body-kind, kindless-behind}
+use Rattle.grammar.specs.declared.line.Form.TheVariants.{Skipped, Clause, Query}
+use Rattle.grammar.proofs.KindLaws.{fit_body, unfit_body, kind_unnamed, kind-named, kindless-behind}
 
 -- a value where a test passes, otherwise none
 pub either : {A : Type 0} (P : code.Option A → Type 0) (x : A) (b : Bool) → (b ≡ true → P (Some x))
@@ -137,9 +137,6 @@ ends_is (Option.some (Item.formula f ∷ l)) h = absurd (true≢false (sym h))
 ends_is (Option.some (Item.closing ∷ [])) h = refl
 ends_is (Option.some (Item.closing ∷ (i ∷ l))) h = absurd (true≢false (sym h))
 
-pub query-none : (l : List ℕ) (at : ℕ) → begins_formula (items_of (tokens (drop at l))) ≡ false → FormAfter l at 6 None
-query-none l at h = record { form-is = none-line (items_of (tokens (drop at l))) h }
-
 module _ {l : List ℕ} {at next d : ℕ} (q : FormulaAt l at next d) where
   query-unended : ends_line l next ≡ false → FormAfter l at 6 None
   unfolding ends_line
@@ -164,52 +161,10 @@ module _ {l : List ℕ} {at next d : ℕ} (q : FormulaAt l at next d) where
   query_found {b} e =
       either (FormAfter l at 6) (Query at d) b (λ h. query-ended (sym e ∙ h)) (λ h. query-unended (sym e ∙ h))
 
--- The ways out of `form_of_kind`
-
-one-literal : (ls : List Literal) → takes 5 (length ls) ≡ true → (a : Literal) × (ls ≡ a ∷ [])
-one-literal [] h = absurd (omega (arith, eqb-true 0 1 h))
-one-literal (a ∷ []) h = (a, refl)
-one-literal (a ∷ (b ∷ ls)) h = absurd (omega (arith, eqb-true (length (a ∷ (b ∷ ls))) 1 h))
+-- Lines of literals alone
 
 pub constraint-kind : (k : ℕ) (ls : List Literal) → k < 5 → body_line k ls ≡ Line.constraint (k - 3) ls
 constraint-kind k ls h = rw (lt-ltb k 5 h)
-
--- a line of literals alone
-literals-line : (l : List ℕ) (at k : ℕ) → 3 ≤ k → k < 6
-    → behind_word k (tokens (drop at l)) ≡ with_body k (body_line k) (body_in (tokens (drop at l)))
-literals-line l at k i j =
-    behind_items k (tokens (drop at l)) (omega arith) ∙ body-kind k (items_of (tokens (drop at l))) i j
-
-module _ {l : List ℕ} {at k : ℕ} where
-  pub form_as : {j : ℕ} {r : code.Option Form} → k ≡ j → FormAfter l at j r → FormAfter l at k r
-  form_as {r = r} e f = subst (λ j. FormAfter l at j r) (sym e) f
-
-  pub form_unfit : 3 ≤ k → k < 6 → BodyFound l at k None → FormAfter l at k None
-  form_unfit i j f = record { form-is = body_unmade k (body_line k) (literals-line l at k i j) f }
-
-  pub form-constraint : {n : ℕ} → 3 ≤ k → k < 5 → BodyFound l at k (Some n)
-      → FormAfter l at k (Some (Constraint (k - 3) at n))
-  form-constraint i j f =
-      let makes = body_makes k (body_line k) (literals-line l at k i (omega arith)) f in
-      record {
-        form-is = (
-          omega arith,
-          record {
-            literals = makes.literals;
-            literals_are = makes.literals_are;
-            count-is = makes.count-is;
-            line-is = makes.line-is ∙ constraint-kind k makes.literals j;
-          },
-        );
-      }
-
-pub form-seen : {l : List ℕ} {at n : ℕ} → BodyFound l at 5 (Some n) → FormAfter l at 5 (Some (Seen at))
-form-seen {l} {at} f =
-    let b = f.body_is in
-    let one = one-literal b.literals b.fits in
-    let are = b.literals_are ∙ ap Option.some one.1 in
-    let line = literals-line l at 5 (omega arith) (omega arith) ∙ ap (with_body 5 seen_of) are in
-    record { form-is = record { reading = one.0; literals_are = are; line-is = line } }
 
 -- The ways out of `form_of`
 

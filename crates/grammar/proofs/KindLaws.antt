@@ -6,11 +6,10 @@ use mathlib.Core.List.{List, [], ◌∷◌}
 use mathlib.Core.Option.{Option}
 use Prim.Native.Nat.{ℕ, ◌≤◌, ◌<◌}
 use native.Mathlib.Omega.{arith}
-use lib.ListN.{length, drop, get_or}
-use Rattle.std.specs.Prelude.{None}
+use lib.ListN.{length, get_or}
 use borrow.Author.Tests.{lt-ltb, le-ltb, ne_eqb}
 use Rattle.text.specs.Bytes.{same_bytes}
-use Rattle.text.specs.Tokens.{Token, tokens}
+use Rattle.text.specs.Tokens.{Token}
 use Rattle.text.specs.Words.{place_of}
 use Rattle.text.proofs.Places.{place-name}
 use Rattle.formulas.specs.Parsing.{Items}
@@ -21,7 +20,7 @@ use Rattle.formulas.proofs.FirstItem.{name_first}
 use Rattle.grammar.specs.Line.{Line, Literal, line_words, takes}
 use Rattle.grammar.specs.LineOf.{with_body, clause_of, body_line, of_kind, with_items, kind_of}
 use Rattle.grammar.specs.LineOf.{flat_words, with_words, behind_word}
-use Rattle.grammar.specs.Parsing.{literals_among, fits_body, FormAfter}
+use Rattle.grammar.specs.Parsing.{literals_among, fits_body}
 
 pub word-kind : (k : ℕ) → k < length line_words → kind_of (get_or line_words k []) ≡ k
 unfolding place_of same_bytes
@@ -74,6 +73,3 @@ kindless_words k n (Option.some ws) =
 
 pub kindless-behind : (k : ℕ) (ts : List Token) → 9 < k → behind_word k ts ≡ Line.no_form
 kindless-behind k ts h = rw (le-ltb k 7 (omega arith)) (kindless_words k h (flat_words ts))
-
-pub kindless_form : (l : List ℕ) (at k : ℕ) → 9 < k → FormAfter l at k None
-kindless_form l at k h = record { form-is = kindless-behind k (tokens (drop at l)) h }

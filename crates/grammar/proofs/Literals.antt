@@ -6,12 +6,12 @@
 -- Assumes nothing.
 use mathlib.Core.Path.{◌≡◌, refl, sym, ap, ◌∙◌}
 use mathlib.Core.Bool.{Bool, true, false, true≢false}
-use mathlib.Core.List.{List, [], ◌∷◌, ◌++◌, append_assoc, append-nil}
+use mathlib.Core.List.{List, [], ◌∷◌, ◌++◌, append_assoc}
 use mathlib.Core.Option.{Option}
 use Rattle.std.specs.Prelude as code
 use Rattle.std.specs.Prelude.{Some, None}
 use Rattle.std.specs.Bool.{then_some}
-use Prim.Native.Nat.{ℕ, ◌+◌, ◌-◌, ◌≤◌, ◌<◌}
+use Prim.Native.Nat.{ℕ, ◌+◌, ◌-◌, ◌≤◌}
 use native.Mathlib.Omega.{arith}
 use lib.ListN.{length, take, drop, length-append}
 use lib.Seq.{slice}
@@ -31,10 +31,9 @@ use Rattle.formulas.proofs.Forms.{negation_items}
 use Rattle.formulas.proofs.FirstItem.{Filled, name_first, unclosed_items, unnamed_items, wordless_items}
 use Rattle.formulas.proofs.FirstItem.{found-filled}
 use Rattle.formulas.proofs.Formulas.{found_as}
-use Rattle.grammar.specs.Line.{Literal, takes}
+use Rattle.grammar.specs.Line.{Literal}
 use Rattle.grammar.specs.LineOf.{with_sentence, literals_of}
 use Rattle.grammar.specs.Parsing.{literals_among, body_in, LiteralInside, LiteralIn, LiteralFound, NegationFound}
-use Rattle.grammar.specs.Parsing.{fits_body, BodyFound}
 use Rattle.grammar.specs.declared.literal.Lit.{Lit}
 use Rattle.grammar.specs.declared.literal.Lit.TheVariants as lit
 use Rattle.grammar.proofs.Forms.{either}
@@ -209,55 +208,13 @@ pub record Counted (l : List ℕ) (at i n : ℕ) : Type 0 where
   pub literals_are : body_in (tokens (drop at l)) ≡ behind_all literals (body_in (tokens (drop i l)))
   pub count-is : n ≡ length literals
 
-behind-none : (x : Option (List Literal)) → x ≡ behind_all [] x
-behind-none Option.none = refl
-behind-none (Option.some ms) = refl
-
 behind_more : (ls : List Literal) (a : Literal) (x : Option (List Literal))
     → behind_all ls (prepend a x) ≡ behind_all (ls ++ (a ∷ [])) x
 behind_more ls a Option.none = refl
 behind_more ls a (Option.some ms) = ap Option.some (sym (append_assoc ls (a ∷ []) ms))
 
-pub counted_none : {l : List ℕ} {at : ℕ} → at ≤ length l → Counted l at at 0
-counted_none {l} {at} h = record {
-  within = h;
-  few = omega arith;
-  literals = [];
-  literals_are = behind-none (body_in (tokens (drop at l)));
-  count-is = refl;
-}
-
 module _ {l : List ℕ} {at i n : ℕ} (c : Counted l at i n) where
-  pub counted_bad : {k : ℕ} → LiteralFound l i None → BodyFound l at k None
-  counted_bad {k} f = record {
-    body_is = ap (fits_body k) (c.literals_are ∙ ap (behind_all c.literals) f.literals_are);
-  }
-
-  module _ (f : LiteralFound l i (Some lit.BodyEnd)) where
-    all_are : body_in (tokens (drop at l)) ≡ Option.some c.literals
-    all_are =
-        c.literals_are ∙ ap (behind_all c.literals) f.literals_are ∙ ap Option.some (append-nil c.literals)
-
-    pub counted_end : {k : ℕ} {b : Bool} → b ≡ takes k n → BodyFound l at k (then_some b n)
-    counted_end {k} {b} q =
-        either (BodyFound l at k) n b
-        (λ h. record {
-          body_is = record {
-            literals = c.literals;
-            literals_are = all_are;
-            fits = rw c.count-is at (sym q ∙ h);
-            count-is = c.count-is;
-          };
-        })
-        (λ h. record { body_is = ap (fits_body k) all_are ∙ rw c.count-is at (sym q ∙ h) })
-
   module _ {b : Bool} {a e next : ℕ} (g : LiteralFound l i (Some (lit.Literal b a e next))) where
-    pub counted-few : n + 1 ≤ length l
-    counted-few = omega arith
-
-    pub counted-less : length l - next < length l - i
-    counted-less = omega arith
-
     pub counted-more : Counted l at next (n + 1)
     counted-more =
         let x = Literal.literal b (slice a e l) in
