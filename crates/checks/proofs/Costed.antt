@@ -3,13 +3,14 @@
 use mathlib.Core.Path.{◌≡◌, refl, sym, ap, ◌∙◌, subst}
 use mathlib.Core.Bool.{◌&&◌}
 use mathlib.Core.List.{List, [], ◌∷◌, ◌++◌}
-use Prim.Native.Nat.{ℕ, ◌+◌, ◌≤◌, ◌<◌}
+use Prim.Native.Nat.{ℕ, ◌+◌, ◌-◌, ◌≤◌, ◌<◌}
 use native.Mathlib.Omega.{arith}
 use denote.Enum.Declared.{tag_of}
 use types.Run.{OneOf, miss}
 use lib.Dec.{ltb}
-use lib.ListN.{length, length-append}
-use lib.Seq.{slice}
+use lib.ListN.{length, length-append, take, drop}
+use Rattle.std.specs.Prelude.{Some, None}
+use Rattle.text.proofs.Slices.{part_slice}
 use borrow.Author.Tests.{lt-ltb}
 use Rattle.words.specs.Bits.{has, word}
 use Rattle.words.proofs.Words.{has_word, is_word, word_lt}
@@ -123,9 +124,6 @@ module _ (st : Said) (c : Case) (t : Lent) (h : Held st c t) (long : Long t) (y 
 
 -- The ways out of `cost_atom`
 
-pub atom-many : {l na : List ℕ} {n : ℕ} → 64 < n → CostAtomIs l na n 64
-atom-many h = record { atom-is = λ k. absurd (omega arith) }
-
 module _ {l : List ℕ} {x : Form} (f : Formed l x) where
   form-told : {z : Form} → x ≡ z → FormIs l z (line_of (tokens l))
   form-told e = subst (λ q. FormIs l q (line_of (tokens l))) e f.form-is
@@ -137,8 +135,12 @@ module _ {l : List ℕ} {x : Form} (f : Formed l x) where
     pub name-within : e ≤ length l
     name-within = (form-told q).0.1
 
-    pub atom-found : {na : List ℕ} {n r : ℕ} → r ≡ row_of na n (slice a e l) → CostAtomIs l na n r
-    atom-found {na} {n} e = record { atom-is = λ _. e ∙ sym (ap (cost_atom (row_of na n)) (form-told q).1.line-is) }
+    pub atom-found : {na : List ℕ} {n r : ℕ} → r ≡ row_of na n (take (e - a) (drop a l)) → CostAtomIs l na n (Some r)
+    atom-found {na} {n} h = record {
+      atom-is =
+          h ∙ ap (row_of na n) (part_slice l a e name-onward)
+          ∙ sym (ap (cost_atom (row_of na n)) (form-told q).1.line-is);
+    }
 
 -- the tags of the forms other than Cost
 abbrev others : List ℕ
@@ -157,6 +159,6 @@ other-atom at l (Atom a e) y o f = rw f.1
 other-atom at l (Edition n) y o f = rw f.2
 
 pub atom-none : {l na : List ℕ} {x : Form} {n : ℕ} → Formed l x → OneOf others (tag_of the_type x)
-    → CostAtomIs l na n 64
+    → CostAtomIs l na n None
 atom-none {l} {na} {x} {n} f o =
-    record { atom-is = λ _. sym (other-atom (row_of na n) l x (line_of (tokens l)) o f.form-is) }
+    record { atom-is = sym (other-atom (row_of na n) l x (line_of (tokens l)) o f.form-is) }

@@ -3,7 +3,8 @@ use mathlib.Core.Path.{◌≡◌, sym, ap, ◌∙◌}
 use mathlib.Core.Bool.{Bool, true, false}
 use mathlib.Core.List.{List, [], ◌∷◌}
 use Prim.Native.Nat.{ℕ, ◌≤◌, ◌<◌}
-use native.Mathlib.Omega.{arith}
+use Rattle.std.specs.Prelude.{Ok, Err}
+use Rattle.refusals.specs.declared.Refusal.{Refusal}
 use denote.Enum.Declared.{tag_of}
 use types.Run.{OneOf, miss}
 use lib.ListN.{length}
@@ -40,36 +41,34 @@ other-form l (Edition n) y o f = rw f.2
 
 -- s tells whether the line is a comment
 module _ {l : List ℕ} {s : Bool} (c : s ≡ is_comment l) where
-  pub looked_comment : s ≡ true → LookedAs l looked.Comment
+  pub looked_comment : s ≡ true → LookedAs l (Ok looked.Comment)
   unfolding look_refusal
-  looked_comment a = record { told = (rw (sym c ∙ a), sym c ∙ a) }
+  looked_comment a = record { refusal_is = rw (sym c ∙ a); told = sym c ∙ a }
 
   module _ (a : s ≡ false) where
-    pub looked-long : 200 < length l → LookedAs l (looked.Refused 3)
+    pub looked-long : 200 < length l → LookedAs l (Err Refusal.LongLine)
     unfolding look_refusal
-    looked-long h = record { told = (rw (lt-leb _ _ h, sym c ∙ a), omega arith) }
+    looked-long h = record { refusal_is = rw (lt-leb _ _ h, sym c ∙ a); told = tt }
 
     module _ (h : length l ≤ 200) where
-      pub looked-bytes : all_of is_allowed l ≡ false → LookedAs l (looked.Refused 4)
+      pub looked-bytes : all_of is_allowed l ≡ false → LookedAs l (Err Refusal.StrangeByte)
       unfolding look_refusal
-      looked-bytes b = record { told = (rw (le-leb _ _ h, sym c ∙ a, b), omega arith) }
+      looked-bytes b = record { refusal_is = rw (le-leb _ _ h, sym c ∙ a, b); told = tt }
 
       module _ (b : all_of is_allowed l ≡ true) {x : Form} (f : FormFound l x) where
-        pub looked_no_form : x ≡ NoForm → LookedAs l (looked.Refused 5)
+        pub looked_no_form : x ≡ NoForm → LookedAs l (Err Refusal.NoForm)
         unfolding look_refusal
         looked_no_form e =
             let is : line_of (tokens l) ≡ Line.no_form = rw e at f.form-is in
             let no = not-true (is_line (line_of (tokens l))) (sym (no_form-is (tokens l)) ∙ ap is_no_form is) in
-            record { told = (rw (le-leb _ _ h, sym c ∙ a, b, no), omega arith) }
+            record { refusal_is = rw (le-leb _ _ h, sym c ∙ a, b, no); told = tt }
 
-        pub looked-form : OneOf others (tag_of the_type x) → LookedAs l (looked.Line x)
+        pub looked-form : OneOf others (tag_of the_type x) → LookedAs l (Ok (looked.Line x))
         unfolding look_refusal
         looked-form o =
             let other = sym (no_form-is (tokens l)) ∙ other-form l x _ o f.form-is in
             let is = not-false (is_line (line_of (tokens l))) other in
             record {
-              told = (
-                rw (le-leb _ _ h, sym c ∙ a, b, is),
-                record { no_comment = sym c ∙ a; short = h; form-is = f.form-is; is-line = is },
-              );
+              refusal_is = rw (le-leb _ _ h, sym c ∙ a, b, is);
+              told = record { no_comment = sym c ∙ a; short = h; form-is = f.form-is; is-line = is };
             }

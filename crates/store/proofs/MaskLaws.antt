@@ -10,12 +10,13 @@ use borrow.Author.Tests.{ltb-true, ltb-false, ne_eqb}
 use denote.Enum.Declared.{tag_of}
 use types.Run.{OneOf, miss}
 use lib.Dec.{eqb, ltb}
-use lib.ListN.{length, drop}
+use lib.ListN.{length, take, drop}
 use lib.Seq.{slice}
 use Rattle.words.specs.Bits.{has, word}
 use Rattle.words.proofs.Tests.{by_test, eqb_comm}
 use Rattle.words.proofs.Bits.{has-zero}
 use Rattle.words.proofs.Words.{is_word, word_ext, has-or-one, or-one-lt}
+use Rattle.text.proofs.Slices.{part_slice}
 use Rattle.text.specs.Tokens.{tokens}
 use Rattle.formulas.specs.Items.{prepend}
 use Rattle.grammar.specs.declared.literal.Lit.{Lit}
@@ -112,24 +113,6 @@ ended at m l lit.NoLiteral o ls e = let z : ◌≡◌ {A = ℕ} 0 1 = cc in absu
 ended at m l lit.BodyEnd o ls e = let p : m ≡ marked at (masks 0 0) ls = cc in p ∙ masks-marked at ls
 ended at m l (lit.Literal b a e next) o ls p = absurd (miss (0 ∷ (1 ∷ [])) 2 tt o)
 
-module _ {at : List ℕ → ℕ} {l : List ℕ} {start i : ℕ} {m : Masks} {r : Lit} (h : Passed at l start i m)
-    (f : LiteralFound l i r) where
-  pub passed-more : {b : Bool} {a e next atom : ℕ} {n : Masks} → r ≡ lit.Literal b a e next → atom ≡ at (slice a e l)
-      → n ≡ with_literal m b atom → Passed at l start next n
-  passed-more {b} {a} {e} {next} q k g =
-      let first = f.literals_are ∙ ap (first_literal l) q in
-      record {
-        passed =
-            h.passed ∙ ap (marked_in at m) first
-            ∙ marked-first at m b (slice a e l) (body_in (tokens (drop next l))) ∙ rw (g, k);
-      }
-
-  pub passed-all : OneOf (0 ∷ (1 ∷ [])) (tag_of the_type r) → (ls : List Literal)
-      → body_in (tokens (drop start l)) ≡ Option.some ls → m ≡ masks_by at ls
-  passed-all o ls e =
-      ended at m l r o ls
-      (sym (ap (marked_in at (masks 0 0)) e) ∙ h.passed ∙ ap (marked_in at m) f.literals_are)
-
 -- the name of a literal that was found lies in the line, and what is left of the line grows shorter
 module _ {l : List ℕ} {i : ℕ} {r : Lit} {b : Bool} {a e next : ℕ} (f : LiteralFound l i r)
     (q : r ≡ lit.Literal b a e next) where
@@ -144,3 +127,22 @@ module _ {l : List ℕ} {i : ℕ} {r : Lit} {b : Bool} {a e next : ℕ} (f : Lit
 
   pub literal-less : length l - next < length l - i
   literal-less = let k = literal-inside in omega arith
+
+module _ {at : List ℕ → ℕ} {l : List ℕ} {start i : ℕ} {m : Masks} {r : Lit} (h : Passed at l start i m)
+    (f : LiteralFound l i r) where
+  pub passed-more : {b : Bool} {a e next atom : ℕ} {n : Masks} → r ≡ lit.Literal b a e next → atom ≡ at (take (e - a) (drop a l))
+      → n ≡ with_literal m b atom → Passed at l start next n
+  passed-more {b} {a} {e} {next} q k g =
+      let first = f.literals_are ∙ ap (first_literal l) q in
+      let name = part_slice l a e (literal-onward f q) in
+      record {
+        passed =
+            h.passed ∙ ap (marked_in at m) first
+            ∙ marked-first at m b (slice a e l) (body_in (tokens (drop next l))) ∙ rw (g, k, name);
+      }
+
+  pub passed-all : OneOf (0 ∷ (1 ∷ [])) (tag_of the_type r) → (ls : List Literal)
+      → body_in (tokens (drop start l)) ≡ Option.some ls → m ≡ masks_by at ls
+  passed-all o ls e =
+      ended at m l r o ls
+      (sym (ap (marked_in at (masks 0 0)) e) ∙ h.passed ∙ ap (marked_in at m) f.literals_are)

@@ -8,6 +8,7 @@ ghost use Rattle.formulas.specs.Keyword.{node_of};
 ghost use Rattle.names.specs.Row.{row_of};
 ghost use Rattle.store.specs.Nodes.{nodes_from, node_table, with_nodes};
 
+use crate::atom::atom_of;
 use formulas::keyword::node_of;
 use program::case::Case;
 use text::tokens::{Next, token};
@@ -21,7 +22,7 @@ fn node_at(l: &[u8], a: usize, e: usize, form: bool, names: &[u8], count: usize)
     if form {
         return node_of(l, a, e);
     }
-    names::find(names, count, l, a, e) as u8
+    atom_of(names, count, &l[a..e]) as u8
 }
 
 // Stores the nodes of the words from a place of a line on, by a table of count names, while there is room in a

@@ -13,8 +13,8 @@ returns-then-l-gt200 c = search (rules, looked-long)
 pub returns-then-not-all_allowed : goal.returns-then-not-all_allowed
 returns-then-not-all_allowed c = search (rules, looked-bytes, failed)
 
+pub returns-in-NoForm : goal.returns-in-NoForm
+returns-in-NoForm c = search (rules, looked_no_form, passed)
+
 pub returns-in_default : goal.returns-in_default
 returns-in_default c = search (rules, looked-form, passed)
-
-pub returns : goal.returns
-returns c = search (rules, looked_no_form, passed)
