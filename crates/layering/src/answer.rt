@@ -2,7 +2,7 @@
 ghost use Rattle.std.specs.Prelude.{◌≡◌, ◌≤◌, length};
 ghost use Rattle.layering.specs.Operation.{entries_of};
 
-// A number of entries, and behind them zeros.
+// A number of entries, and behind them zeros, as memory is fixed.
 #[derive(Clone, Copy)]
 pub struct Entries {
     pub count: usize,

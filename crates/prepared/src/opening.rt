@@ -24,8 +24,7 @@ pub fn first_round(clauses: Clauses, heads: u64) -> Opening
         facts: 0,
         assumptions: 0,
     };
-    let round = settle::step::apply(Interpretation::nothing(), clauses, heads, none);
-    let first = round.interpretation;
+    let first = settle::step::apply(Interpretation::nothing(), clauses, heads, none).interpretation;
     Opening {
         trues: first.trues,
         falses: first.falses,

@@ -5,4 +5,4 @@ use Rattle.prepared.proofs.opening.first_round.Goals as goal
 
 pub returns : goal.returns
 returns c =
-    opening-is _ _ c.apply-round.result _ (rw c.nothing.ensures at c.apply-round.ensures) c.requires
+    opening-is _ _ c.apply.result _ (rw c.nothing.ensures at c.apply.ensures) c.requires

@@ -29,9 +29,6 @@ loop-k-preserved c =
           ∙ walked_more (value_at c.args.i) cl c.loop-k.next _ k c.loop-k.invariant.1,
     )
 
-pub newly_decided-decided-requires : goal.newly_decided-decided-requires
-newly_decided-decided-requires c = c.loop-k.invariant.0
-
 pub returns : goal.returns
 returns c =
     let a = c.args in
