@@ -113,16 +113,14 @@ pub fn settings_few(edition: usize, atoms: usize, clauses: Clauses) -> bool
 }
 
 // Whether formula q is sound; nodes has the node count of each formula.
+#[tactic(auto, unfolding(crate::specs::Sound::sound_formula))]
 pub fn formula_sound(atoms: usize, nodes: &[usize; 16], formula: &[u8], q: usize) -> bool
     requires { (q < 16) × (formula_size ≤ length formula.now) }
     ensures { result ≡ sound_formula atoms nodes.now formula.now q }
 {
     let n = nodes[q];
-    if Case::NODES < n {
-        return false;
-    }
     let at = Case::NODES * q;
-    nodes::formula::one_formula(&formula[at..at + n], atoms)
+    n <= Case::NODES && nodes::formula::one_formula(&formula[at..at + n], atoms)
 }
 
 // Whether the first n formulas are sound; nodes has the node count of each.

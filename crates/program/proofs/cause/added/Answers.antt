@@ -2,18 +2,12 @@
 use mathlib.Core.Path.{refl, ap, ◌∙◌}
 use Prim.Native.Nat.{ℕ, ◌%◌}
 use Rattle.program.specs.Digit.{with_digit}
-use Rattle.program.proofs.Settings.{choice_some, walked_start, walked_next, walked_end}
+use Rattle.program.proofs.Settings.{walked_start, walked_next, walked_end}
 use Rattle.program.proofs.cause.added.Goals as goal
 
 pub loop-atom-init : goal.loop-atom-init
 loop-atom-init c =
     rw (c.into_iter-atom-iterator.ensures.into_iter_gives, c.bits_of-atom-items.ensures) (walked_start _ _ _ _ refl refl)
-
-pub nonzero_rem-rest : goal.nonzero_rem-rest
-nonzero_rem-rest c = rw c.choice-base.ensures (choice_some _ _)
-
-pub nonzero_div-rest : goal.nonzero_div-rest
-nonzero_div-rest c = rw c.choice-base.ensures (choice_some _ _)
 
 pub loop-atom-preserved : goal.loop-atom-preserved
 loop-atom-preserved c =

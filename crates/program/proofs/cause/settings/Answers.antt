@@ -1,19 +1,8 @@
 -- The goals of `program::cause::settings`: its loop keeps the invariant, and each way out gives what is promised.
 -- Assumes nothing.
 use native.Mathlib.Omega.{arith}
-use Rattle.program.proofs.Counting.{multiplied_start, multiplied_room, multiplied_next}
-use Rattle.program.proofs.Counting.{multiplied_over, multiplied_end}
+use Rattle.program.proofs.Counting.{multiplied_next, multiplied_over, multiplied_end}
 use Rattle.program.proofs.cause.settings.Goals as goal
-
-pub loop-atom-init : goal.loop-atom-init
-loop-atom-init c =
-    rw (c.into_iter-atom-iterator.ensures.into_iter_gives, c.bits_of-atom-items.ensures) (multiplied_start _ _)
-
-pub overflow_mul-product : goal.overflow_mul-product
-overflow_mul-product c =
-    let l = c.loop-atom.invariant in
-    let h = multiplied_room _ _ _ _ l.few c.choice-product.ensures in
-    omega (arith, h)
 
 pub returns-then-product-gt59049 : goal.returns-then-product-gt59049
 returns-then-product-gt59049 c =

@@ -16,9 +16,6 @@ constraints_sound-requires c =
     let h = constraints-held _ _ _ _ c.requires (sym c.limits_hold.ensures ∙ c.if-not-limits_hold.false) in
     (h.2, h.3)
 
-pub settings_few-requires : goal.settings_few-requires
-settings_few-requires c = limits-atoms _ (sym c.limits_hold.ensures ∙ c.if-not-limits_hold.false)
-
 pub formulas_sound-requires : goal.formulas_sound-requires
 formulas_sound-requires c =
     formulas-held _ _ _ _ c.requires (sym c.limits_hold.ensures ∙ c.if-not-limits_hold.false)
