@@ -10,7 +10,7 @@
 -- Alike: programs that settle alike.
 -- Passes: the step by one pass over the clauses.
 -- Asking: what every operation on a case asks first.
--- Answers: which refusal is due where one setting is settled.
+-- Answers: which refusal is due where one setting is settled, and the count of the settings.
 -- Marked: the marked files settled by computation.
 pub mod Given
 pub mod Programs
