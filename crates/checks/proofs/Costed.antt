@@ -5,8 +5,6 @@ use mathlib.Core.Bool.{◌&&◌}
 use mathlib.Core.List.{List, [], ◌∷◌, ◌++◌}
 use Prim.Native.Nat.{ℕ, ◌+◌, ◌-◌, ◌≤◌, ◌<◌}
 use native.Mathlib.Omega.{arith}
-use denote.Enum.Declared.{tag_of}
-use types.Run.{OneOf, miss}
 use lib.Dec.{ltb}
 use lib.ListN.{length, length-append, take, drop}
 use Rattle.std.specs.Prelude.{Some, None}
@@ -17,9 +15,8 @@ use Rattle.words.proofs.Words.{has_word, is_word, word_lt}
 use Rattle.text.specs.Tokens.{tokens}
 use Rattle.text.proofs.Each.{Each}
 use Rattle.grammar.specs.declared.line.Form.{Form}
-use Rattle.grammar.specs.declared.line.Form.TheVariants.{Skipped, NoForm, Clause, Constraint, Seen, Query, Cost, Atom}
+use Rattle.grammar.specs.declared.line.Form.TheVariants.{Skipped, Clause, Constraint, Seen, Query, Cost, Atom}
 use Rattle.grammar.specs.declared.line.Form.TheVariants.{Edition}
-use Rattle.grammar.specs.contracts.line.Form.{the_type}
 use Rattle.grammar.specs.Line.{Line, line_names}
 use Rattle.grammar.specs.Bringing.{brings}
 use Rattle.grammar.specs.LineOf.{line_of}
@@ -142,23 +139,18 @@ module _ {l : List ℕ} {x : Form} (f : Formed l x) where
           ∙ sym (ap (cost_atom (row_of na n)) (form-told q).1.line-is);
     }
 
--- the tags of the forms other than Cost
-abbrev others : List ℕ
-others = 0 ∷ (1 ∷ (2 ∷ (3 ∷ (4 ∷ (5 ∷ (7 ∷ (8 ∷ [])))))))
-
-other-atom : (at : List ℕ → ℕ) (l : List ℕ) (x : Form) (y : Line) → OneOf others (tag_of the_type x) → FormIs l x y
-    → cost_atom at y ≡ 64
+other-atom : (at : List ℕ → ℕ) (l : List ℕ) (x : Form) (y : Line) → ((a e p d : ℕ) → x ≡ Cost a e p d → ⊥)
+    → FormIs l x y → cost_atom at y ≡ 64
 other-atom at l Skipped y o f = rw f
-other-atom at l NoForm y o f = rw f
 other-atom at l (Clause k a e n) y o f = rw f.2.line-is
 other-atom at l (Constraint k i n) y o f = rw f.1.line-is
 other-atom at l (Seen i) y o f = rw f.line-is
 other-atom at l (Query i d) y o f = rw f.line-is
-other-atom at l (Cost a e p d) y o f = absurd (miss others 6 tt o)
+other-atom at l (Cost a e p d) y o f = absurd (o a e p d refl)
 other-atom at l (Atom a e) y o f = rw f.1
 other-atom at l (Edition n) y o f = rw f.2
 
-pub atom-none : {l na : List ℕ} {x : Form} {n : ℕ} → Formed l x → OneOf others (tag_of the_type x)
+pub atom-none : {l na : List ℕ} {x : Form} {n : ℕ} → Formed l x → ((a e p d : ℕ) → x ≡ Cost a e p d → ⊥)
     → CostAtomIs l na n None
 atom-none {l} {na} {x} {n} f o =
     record { atom-is = sym (other-atom (row_of na n) l x (line_of (tokens l)) o f.form-is) }

@@ -25,7 +25,7 @@ pub fn look(l: &[u8]) -> Result<Looked, Refusal>
         return Err(Refusal::StrangeByte);
     }
     match form_of(l) {
-        Form::NoForm => Err(Refusal::NoForm),
-        form => Ok(Looked::Line(form)),
+        Some(form) => Ok(Looked::Line(form)),
+        None => Err(Refusal::NoForm),
     }
 }

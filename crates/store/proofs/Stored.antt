@@ -16,7 +16,7 @@ use Rattle.table.proofs.Kept.{kept_refl, sets-kept}
 use Rattle.formulas.specs.Parsing.{size_of}
 use Rattle.formulas.proofs.Sizes.{first-formula-size}
 use Rattle.grammar.specs.declared.line.Form.{Form}
-use Rattle.grammar.specs.declared.line.Form.TheVariants.{Skipped, NoForm, Clause, Constraint, Seen, Query, Cost, Atom}
+use Rattle.grammar.specs.declared.line.Form.TheVariants.{Skipped, Clause, Constraint, Seen, Query, Cost, Atom}
 use Rattle.grammar.specs.declared.line.Form.TheVariants.{Edition}
 use Rattle.grammar.specs.Line.{Line, Literal}
 use Rattle.grammar.specs.Parsing.{FormIs, body_in}
@@ -94,10 +94,6 @@ module _ {l : List ℕ} {x : Form} {c : Case} {y : Line} (s : Storable l x c y) 
     pub skipped_stored : x ≡ Skipped → StoredAs y c (lent cl co fo na pr) c (lent cl co fo na pr)
     unfolding said_by
     skipped_stored q = record { kept = kept_refl-all _; held = λ st h known once. rw (form-told q) h }
-
-    pub no_form_stored : x ≡ NoForm → StoredAs y c (lent cl co fo na pr) c (lent cl co fo na pr)
-    unfolding said_by
-    no_form_stored q = record { kept = kept_refl-all _; held = λ st h known once. rw (form-told q) h }
 
     pub atom_stored : {a e : ℕ} → x ≡ Atom a e → StoredAs y c (lent cl co fo na pr) c (lent cl co fo na pr)
     unfolding said_by

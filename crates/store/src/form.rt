@@ -108,7 +108,7 @@ pub fn store_form(
         prices.new) }
 {
     match x {
-        Form::NoForm | Form::Skipped | Form::Atom(_, _) => c,
+        Form::Skipped | Form::Atom(_, _) => c,
         Form::Clause(kind, a, e, _) => {
             let m = masks_of(l, e, names, c.atoms);
             store_clause(&l[a..e], kind, m, c, names, clauses)

@@ -57,12 +57,9 @@ pub fn masks_of(l: &[u8], at: usize, names: &[u8], count: usize) -> Masks
         plain: 0,
         negated: 0,
     };
-    loop {
-        let Lit::Literal(negated, a, e, next) = literal(l, i) else {
-            return m;
-        };
-        let atom = atom_of(names, count, &l[a..e]);
-        m = with_literal(m, negated, atom);
+    while let Some(Lit::Literal(negated, a, e, next)) = literal(l, i) {
+        m = with_literal(m, negated, atom_of(names, count, &l[a..e]));
         i = next;
     }
+    m
 }

@@ -10,4 +10,4 @@ pub returns-in-Cost : goal.returns-in-Cost
 returns-in-Cost c = search (rules, atom-found)
 
 pub returns-in_default : goal.returns-in_default
-returns-in_default c = search (rules, atom-none)
+returns-in_default c = atom-none c.requires.0 c.in_default.not-Cost
