@@ -9,6 +9,7 @@ ghost use Rattle.logic.specs.Assigned.{assigned};
 use crate::value::Value;
 
 // Bit i of trues: atom i is true; bit i of falses: it is false. Never both.
+// No ghost field says so: any two words make an interpretation, and its methods ask for it where they need it.
 #[derive(Clone, Copy)]
 pub struct Interpretation {
     pub trues: u64,
@@ -58,14 +59,14 @@ impl Interpretation {
         ensures { result ≡ value_of (value_at self) (body plain negated) }
     {
         let against = (plain & self.falses) | (negated & self.trues);
-        if against != 0 {
-            return Value::False;
-        }
         let missing = (plain & !self.trues) | (negated & !self.falses);
-        if missing == 0 {
-            return Value::True;
+        if against != 0 {
+            Value::False
+        } else if missing == 0 {
+            Value::True
+        } else {
+            Value::Unknown
         }
-        Value::Unknown
     }
 
     // The interpretation in which an atom has the value v, and every other the value it had.

@@ -22,6 +22,7 @@ pub fn heads(clauses: Clauses) -> u64
 }
 
 // The heads of those clauses that are no assumption, bit i for atom i.
+// Apart from heads, since one function of both would need a clause on the test that it is passed.
 fn firm_heads(clauses: Clauses) -> u64
     ensures { result ≡ firm_heads clauses.entry.words.now clauses.entry.count }
 {

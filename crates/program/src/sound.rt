@@ -67,6 +67,7 @@ pub fn clauses_sound(atoms: Atoms, clauses: Clauses) -> bool
     ensures { result ≡ sound_clauses atoms.count clauses.entry.words.now clauses.entry.count }
 {
     let words = clauses.words;
+    // A loop, since a closure would have to repeat the bounds: the same holds of the loops below.
     for k in 0..clauses.count {
         if !clause_sound(atoms, words[3 * k], words[3 * k + 1], words[3 * k + 2]) {
             return false;
