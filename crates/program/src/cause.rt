@@ -16,7 +16,7 @@ pub fn heads(clauses: Clauses) -> u64
     let mut heads: u64 = 0;
     for k in 0..clauses.count {
         let first = clauses.words[3 * k];
-        heads = heads | words::single((first % 64) as u32);
+        heads |= words::single((first % 64) as u32);
     }
     heads
 }
@@ -81,7 +81,7 @@ pub fn settings(causes: Causes) -> u64
 {
     let mut product: u64 = 1;
     for atom in bits_of(causes.all) {
-        product = product * choice(causes.twofold, atom);
+        product *= choice(causes.twofold, atom);
         if 59049 < product {
             return 59050;
         }
@@ -125,13 +125,13 @@ impl Additions {
             if words::test(x.facts, atom) {
                 x.facts = words::without(x.facts, atom);
                 if !words::test(causes.twofold, atom) {
-                    x.assumptions = x.assumptions | words::single(atom);
+                    x.assumptions |= words::single(atom);
                     return x;
                 }
             } else if words::test(x.assumptions, atom) {
                 x.assumptions = words::without(x.assumptions, atom);
             } else {
-                x.facts = x.facts | words::single(atom);
+                x.facts |= words::single(atom);
                 return x;
             }
         }
@@ -151,7 +151,7 @@ pub fn added(causes: Causes, setting: u64) -> Additions
     for atom in bits_of(causes.all) {
         let base = choice(causes.twofold, atom);
         sum = sum.with(atom, rest % base);
-        rest = rest / base;
+        rest /= base;
     }
     sum
 }
