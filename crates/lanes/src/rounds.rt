@@ -29,38 +29,38 @@ pub struct Sums {
     pub decided: u64,
 }
 
-// Settles 64 settings in lanes, from the opening in each lane and from what they add; answers the planes and the sums
-// over the first m of them.
+// Settles 64 settings in lanes, from the opening in each lane and from what they add, into the planes p; answers the sums
+// over the first m of them. The planes are lent, since a kilobyte that is returned is copied twice.
 pub fn run(
     clauses: Clauses,
     preparation: &Preparation,
     opening: &OpeningPlanes,
     m: u32,
     added: &AddedPlanes,
-) -> (TruthPlanes, Sums)
+    p: &mut TruthPlanes,
+) -> Sums
     requires { Prepared clauses.words.now clauses.count preparation.now
         × OpeningIn preparation.now.opening opening.now × (1 ≤ m) × (m ≤ 64) }
     ensures { Settles clauses.entry.words.now clauses.entry.count
-        (added_in added.now.facts added.now.assumptions) m result.0.trues result.0.falses result.1 }
+        (added_in added.now.facts added.now.assumptions) m p.new.trues p.new.falses result }
 {
     let mut noted = TruthPlanes {
         trues: [0; 64],
         falses: [0; 64],
     };
     let valid = words::lowest(m);
-    let (mut p, mut c) = begin(opening, added);
+    let mut c = begin(opening, added, p);
     let mut total: u32 = 0;
     // The count of the rounds shows that they end.
     let mut k: u32 = 0;
     while c.lanes != 0 {
         total += words::count(c.lanes & valid);
         let heads = touched(&preparation.dependents, c.atoms);
-        c = redo(heads, clauses, preparation, &mut p, &mut noted);
+        c = redo(heads, clauses, preparation, p, &mut noted);
         k += 1;
     }
-    let sums = Sums {
+    Sums {
         rounds: u64::from(total),
-        decided: u64::from(decided_in(&p, m)),
-    };
-    (p, sums)
+        decided: u64::from(decided_in(p, m)),
+    }
 }

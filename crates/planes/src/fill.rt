@@ -14,22 +14,21 @@ pub struct AddedPlanes {
     pub assumptions: [u64; 64],
 }
 
-// What 64 settings from one on add, of which the first adds this, and what the setting behind them adds.
-pub fn fill(causes: Causes, added: Additions) -> (AddedPlanes, Additions)
+// Fills the planes with what 64 settings from one on add, of which the first adds this; answers what the setting behind
+// them adds. The planes are lent, since a kilobyte that is returned is copied twice.
+pub fn fill(causes: Causes, added: Additions, planes: &mut AddedPlanes) -> Additions
     ensures { (s : ℕ) → added ≡ additions_of causes s
-        → Filled causes s result.0.facts result.0.assumptions × (result.1 ≡ additions_of causes (s + 64)) }
+        → Filled causes s planes.new.facts planes.new.assumptions × (result ≡ additions_of causes (s + 64)) }
 {
-    let mut planes = AddedPlanes {
-        facts: [0; 64],
-        assumptions: [0; 64],
-    };
+    planes.facts = [0; 64];
+    planes.assumptions = [0; 64];
     let mut next = added;
     for j in 0..64 {
         spread(&mut planes.facts, next.facts, j);
         spread(&mut planes.assumptions, next.assumptions, j);
         next = next.next(causes);
     }
-    (planes, next)
+    next
 }
 
 // All lanes where the test holds, otherwise none.

@@ -7,15 +7,11 @@ use planes::opening::OpeningPlanes;
 use planes::plane::TruthPlanes;
 use planes::word::open_word;
 
-// The planes after the first round, and what it changed.
-pub fn begin(opening: &OpeningPlanes, added: &AddedPlanes) -> (TruthPlanes, Changed)
+// Fills the planes with those after the first round; answers what it changed.
+pub fn begin(opening: &OpeningPlanes, added: &AddedPlanes, p: &mut TruthPlanes) -> Changed
     ensures { Opens opening.now.trues opening.now.falses opening.now.heads added.now.facts
-        added.now.assumptions result.0.trues result.0.falses result.1 }
+        added.now.assumptions p.new.trues p.new.falses result }
 {
-    let mut p = TruthPlanes {
-        trues: [0; 64],
-        falses: [0; 64],
-    };
     let mut c = Changed { lanes: 0, atoms: 0 };
     for i in 0..64 {
         let at = i as usize;
@@ -30,5 +26,5 @@ pub fn begin(opening: &OpeningPlanes, added: &AddedPlanes) -> (TruthPlanes, Chan
         p.falses[at] = v.falses;
         c = c.with(i, v.trues | v.falses);
     }
-    (p, c)
+    c
 }

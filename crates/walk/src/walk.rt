@@ -13,8 +13,9 @@ use explanation::cover::cover;
 use explanation::explain::explaining;
 use explanation::weights::weigh;
 use lanes::rounds::{Sums, lanes_of, run};
-use planes::fill::fill;
+use planes::fill::{AddedPlanes, fill};
 use planes::opening::OpeningPlanes;
+use planes::plane::TruthPlanes;
 use prepared::tables::prepare;
 use program::case::Case;
 use program::cause::{Additions, Causes};
@@ -80,6 +81,14 @@ pub fn walk(course: &Course, list: &mut [u16], work: &mut [u8]) -> Tally
     let weights = weigh(causes);
     let priced = priced_in(prices);
     let mut row = [0u64; 1848];
+    let mut planes = AddedPlanes {
+        facts: [0; 64],
+        assumptions: [0; 64],
+    };
+    let mut settled = TruthPlanes {
+        trues: [0; 64],
+        falses: [0; 64],
+    };
     let mut added = Additions {
         facts: 0,
         assumptions: 0,
@@ -98,8 +107,8 @@ pub fn walk(course: &Course, list: &mut [u16], work: &mut [u8]) -> Tally
     for b in 0..end.div_ceil(64) {
         let first = 64 * b;
         let m = lanes_of(end - first);
-        let (planes, next) = fill(causes, added);
-        let (settled, sums) = run(clauses, &preparation, &opening, m, &planes);
+        let next = fill(causes, added, &mut planes);
+        let sums = run(clauses, &preparation, &opening, m, &planes, &mut settled);
         let explains = explaining(case, tables.constraints, &settled);
         let larger = cover(&mut row, 923 + b, explains, causes, &weights, &planes);
         let block = Block {

@@ -1,6 +1,5 @@
 -- `run` meets its contract: each round keeps `Settling`, and what it says bounds the sums. Assumes nothing.
 use mathlib.Core.Path.{◌≡◌, refl, ◌∙◌}
-
 use native.Mathlib.Omega.{arith}
 use lib.Bits.{bit_and}
 use lib.Count.{ones}
@@ -14,7 +13,7 @@ use Rattle.lanes.proofs.rounds.run.Goals as goal
 pub loop-c-init : goal.loop-c-init
 loop-c-init c =
     let p = c.requires in (
-      settling_start _ _ _ p.0.opening-is _ _ _ _ _ _ _ p.1.trues_are p.1.falses_are p.1.heads_are _ c.begin.ensures _,
+      settling_start _ _ _ p.0.opening-is _ _ _ _ _ _ _ p.1.trues_are p.1.falses_are p.1.heads_are _ c.begin-c.ensures _,
       record { first-size = refl; second-size = refl },
     )
 

@@ -27,9 +27,9 @@ pub explaining-explains-requires : goal.explaining-explains-requires
 explaining-explains-requires c =
     let p = c.requires in
     let i = c.loop-b.invariant in
-    let x = (c.fill.ensures _ i.added_is).0 in
+    let x = (c.fill-next.ensures _ i.added_is).0 in
     let n = constraints_fit _ _ _ _ p.0.is-sound in
-    (lanes_planes (bounded p.0 p.1 p.2) i (omega arith) c.lanes_of-m.ensures x c.run.ensures, n.0, n.1)
+    (lanes_planes (bounded p.0 p.1 p.2) i (omega arith) c.lanes_of-m.ensures x c.run-sums.ensures, n.0, n.1)
 
 pub cover-larger-requires : goal.cover-larger-requires
 cover-larger-requires c =
@@ -55,15 +55,15 @@ pub overflow_add-tally : goal.overflow_add-tally
 overflow_add-tally c =
     let p = c.requires in
     let i = c.loop-b.invariant in
-    let x = (c.fill.ensures _ i.added_is).0 in
-    omega (arith, rounds_fit (bounded p.0 p.1 p.2) i (omega arith) c.lanes_of-m.ensures x c.run.ensures)
+    let x = (c.fill-next.ensures _ i.added_is).0 in
+    omega (arith, rounds_fit (bounded p.0 p.1 p.2) i (omega arith) c.lanes_of-m.ensures x c.run-sums.ensures)
 
 pub overflow_add-tally-in-loop-b : goal.overflow_add-tally-in-loop-b
 overflow_add-tally-in-loop-b c =
     let p = c.requires in
     let i = c.loop-b.invariant in
-    let x = (c.fill.ensures _ i.added_is).0 in
-    omega (arith, decided_fit (bounded p.0 p.1 p.2) i (omega arith) c.lanes_of-m.ensures x c.run.ensures)
+    let x = (c.fill-next.ensures _ i.added_is).0 in
+    omega (arith, decided_fit (bounded p.0 p.1 p.2) i (omega arith) c.lanes_of-m.ensures x c.run-sums.ensures)
 
 pub choose-tally-requires : goal.choose-tally-requires
 choose-tally-requires c =
@@ -74,7 +74,7 @@ pub loop-b-preserved : goal.loop-b-preserved
 loop-b-preserved c =
     let p = c.requires in
     let i = c.loop-b.invariant in
-    let x = c.fill.ensures _ i.added_is in
-    walking_next (bounded p.0 p.1 p.2) i (omega arith) c.lanes_of-m.ensures x.0 c.run.ensures c.weigh-weights.ensures
+    let x = c.fill-next.ensures _ i.added_is in
+    walking_next (bounded p.0 p.1 p.2) i (omega arith) c.lanes_of-m.ensures x.0 c.run-sums.ensures c.weigh-weights.ensures
     c.explaining-explains.ensures c.cover-larger.ensures x.1 c.visit-tally.ensures c.minimals_of-minimals.ensures
     c.choose-tally.ensures
