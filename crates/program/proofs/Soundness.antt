@@ -12,6 +12,8 @@ use Rattle.words.proofs.Tests.{and_true_l, and_true_r}
 use Rattle.words.proofs.Below.{every-at}
 use Rattle.logic.specs.Nodes.{one_formula}
 use Rattle.program.specs.declared.case.Case.{Case}
+use Rattle.program.specs.declared.clause.Clause.{Clause}
+use Rattle.program.specs.Clauses.{ClauseAt}
 use Rattle.program.specs.Case.{clause_size, constraint_size, formula_size, part_size, tables_full, head_at, plain_at}
 use Rattle.program.specs.Case.{negated_at, forbidden, forbidden_not, constraint_kind, nodes_of}
 use Rattle.program.specs.Cause.{causes_of}
@@ -23,6 +25,12 @@ use Rattle.program.specs.Sound.{sound_formulas, sound}
 -- ---- the entries of a table
 abbrev pub clause_test : ℕ → List ℕ → ℕ → Bool
 clause_test n cl k = sound_clause n (get_or cl (3 * k) 0) (plain_at cl k) (negated_at cl k)
+
+pub clause_tested : (n : ℕ) (cl : List ℕ) (k : ℕ) (c : Clause) → ClauseAt cl k c
+    → sound_clause n (c.head + 64 * c.kind) c.plain c.negated ≡ clause_test n cl k
+clause_tested n cl k c a =
+    let e : c.head + 64 * c.kind ≡ get_or cl (3 * k) 0 = omega (arith, a.head-is, a.kind-is) in
+    rw (e, a.plain-is, a.negated-is)
 
 abbrev pub constraint_test : ℕ → List ℕ → ℕ → Bool
 constraint_test n co k = sound_constraint n (forbidden co k) (forbidden_not co k) (constraint_kind co k)

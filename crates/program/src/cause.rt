@@ -15,8 +15,7 @@ pub fn heads(clauses: Clauses) -> u64
 {
     let mut heads: u64 = 0;
     for k in 0..clauses.count {
-        let first = clauses.words[3 * k];
-        heads |= words::single((first % 64) as u32);
+        heads |= words::single(clauses.at(k).head);
     }
     heads
 }
@@ -28,8 +27,8 @@ fn firm_heads(clauses: Clauses) -> u64
 {
     let mut heads: u64 = 0;
     for k in 0..clauses.count {
-        let first = clauses.words[3 * k];
-        heads = words::with_bit(heads, first / 64 != 1, (first % 64) as u32);
+        let clause = clauses.at(k);
+        heads = words::with_bit(heads, clause.kind != 1, clause.head);
     }
     heads
 }

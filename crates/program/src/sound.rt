@@ -7,6 +7,7 @@ ghost use Rattle.program.specs.Sound.{sound_formula, sound_formulas, sound};
 
 use crate::case::{Atoms, Case};
 use crate::cause;
+use crate::clause::Clause;
 use crate::clauses::Clauses;
 use crate::tables::Tables;
 
@@ -51,14 +52,14 @@ pub fn is_within(atoms: Atoms, plain: u64, negated: u64) -> bool
     plain <= atoms.all && negated <= atoms.all
 }
 
-// Whether a clause's three words are sound.
+// Whether a clause is sound.
 #[tactic(auto, unfolding(crate::specs::Sound::sound_clause))]
-pub fn clause_sound(atoms: Atoms, first: u64, plain: u64, negated: u64) -> bool
-    ensures { result ≡ sound_clause atoms.count first plain negated }
+pub fn clause_sound(atoms: Atoms, clause: Clause) -> bool
+    ensures { result ≡ sound_clause atoms.count (clause.head + 64 * clause.kind) clause.plain clause.negated }
 {
-    ((first % 64) as usize) < atoms.count
-        && is_within(atoms, plain, negated)
-        && is_shaped(first / 64, is_bare(plain, negated))
+    (clause.head as usize) < atoms.count
+        && is_within(atoms, clause.plain, clause.negated)
+        && is_shaped(clause.kind, is_bare(clause.plain, clause.negated))
 }
 
 // Whether the clauses are sound.
@@ -66,10 +67,9 @@ pub fn clause_sound(atoms: Atoms, first: u64, plain: u64, negated: u64) -> bool
 pub fn clauses_sound(atoms: Atoms, clauses: Clauses) -> bool
     ensures { result ≡ sound_clauses atoms.count clauses.entry.words.now clauses.entry.count }
 {
-    let words = clauses.words;
     // A loop, since a closure would have to repeat the bounds: the same holds of the loops below.
     for k in 0..clauses.count {
-        if !clause_sound(atoms, words[3 * k], words[3 * k + 1], words[3 * k + 2]) {
+        if !clause_sound(atoms, clauses.at(k)) {
             return false;
         }
     }

@@ -6,4 +6,7 @@ pub loop-k-init : goal.loop-k-init
 loop-k-init c = firm-none _
 
 pub loop-k-preserved : goal.loop-k-preserved
-loop-k-preserved c = firm-next c.args.clauses.words.now c.loop-k.k _ _ c.loop-k.invariant c.with_bit-heads.ensures
+loop-k-preserved c =
+    let e = c.at-clause.ensures in
+    firm-next c.args.clauses.words.now c.loop-k.k _ _ c.loop-k.invariant
+    (rw (e.kind-is, e.head-is) at c.with_bit-heads.ensures)

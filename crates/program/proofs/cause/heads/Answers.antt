@@ -9,4 +9,5 @@ loop-k-init c = heads-none _
 
 pub loop-k-preserved : goal.loop-k-preserved
 loop-k-preserved c =
-    ap₂ bit_or c.loop-k.invariant c.single-heads.ensures ∙ heads-more c.args.clauses.words.now c.loop-k.k
+    let s = rw c.at.ensures.head-is at c.single-heads.ensures in
+    ap₂ bit_or c.loop-k.invariant s ∙ heads-more c.args.clauses.words.now c.loop-k.k
