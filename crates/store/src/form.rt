@@ -48,15 +48,10 @@ fn store_constraint(m: Masks, kind: usize, c: Case, constraints: &mut [u64]) -> 
     requires { (c.constraints < 32) × (constraint_size ≤ length constraints.old) }
     ensures { ConstraintStored m kind c constraints.old result constraints.new }
 {
-    table::put_three(
-        constraints,
-        3 * c.constraints,
-        m.plain,
-        m.negated,
-        kind as u64,
-    );
+    let n = c.constraints;
+    table::put_three(constraints, 3 * n, m.plain, m.negated, kind as u64);
     Case {
-        constraints: c.constraints + 1,
+        constraints: n + 1,
         ..c
     }
 }
@@ -127,6 +122,6 @@ pub fn store_form(
             put_price(prices, atom, price_of(price, supplement));
             c
         }
-        Form::Edition(n) => { Case { edition: n, ..c } }
+        Form::Edition(n) => Case { edition: n, ..c },
     }
 }
