@@ -147,18 +147,12 @@ module _ (l : List ℕ) (at : ℕ) {h : Head} (t : HeadAt l at (Some h)) where
     form : FormAt l at k e
     form = head_as l at t p
 
-    pub form-less : {m : ℕ} → length l - at ≡ m → length l - e < m
-    form-less q = omega (arith, form.onward, form.within)
-
     pub operand_parsed : begins_formula (items_of (tokens (drop e l))) ≡ false
         → begins_formula (items_of (tokens (drop at l))) ≡ false
     operand_parsed q = rw form.items_are (operand_begins k (items_of (tokens (drop e l))) q)
 
     -- its first operand
     module _ {j d : ℕ} (first : FormulaAt l e j d) where
-      pub first-less : {m : ℕ} → length l - at ≡ m → length l - j < m
-      first-less eq = omega (arith, form.onward, first.onward, first.within)
-
       pub first-depth : {m : ℕ} → length l < m → d + 1 < m
       first-depth less = omega (arith, depth-le-bytes first, form.onward, first.within)
 

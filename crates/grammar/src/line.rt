@@ -28,7 +28,7 @@ pub enum Form {
     Edition(usize),
 }
 
-// The words of lines, in the order of their kinds.
+// The words of lines, in the order of their kinds. A kind is a number, as the tables hold it.
 const LINE_WORDS: [&[u8]; 10] = [
     b"true", b"false", b"if", b"never", b"avoid", b"seen", b"query", b"cost", b"atom", b"edition",
 ];

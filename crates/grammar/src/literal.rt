@@ -7,7 +7,7 @@ use formulas::keyword::{NOT, node_of};
 use text::name::{is_name, name_at};
 use text::tokens::{Next, close_at, token, word_at};
 
-// What a body has next: its end, or a literal with whether it is negated, the ends of its name, and the place behind it.
+// What a body has next: its end, or a literal, whether it is negated, the ends of its name, and the place behind it.
 #[derive(Clone, Copy)]
 pub enum Lit {
     BodyEnd,
