@@ -1,5 +1,5 @@
 -- The lanes of a block visited one by one. Assumes nothing.
-use mathlib.Core.Path.{◌≡◌, refl, subst, ◌∙◌}
+use mathlib.Core.Path.{◌≡◌, subst, ◌∙◌}
 use mathlib.Core.Bool.{Bool}
 use mathlib.Core.List.{List}
 use Prim.Native.Nat.{ℕ, ◌+◌, ◌<◌}
@@ -29,17 +29,6 @@ pub record Visiting (ns fo : List ℕ) (e larger : ℕ) (t f : List ℕ) (m firs
       → Visited J cs ls ws first r₀ list₀ work₀ → Visited J cs ls ws (first + j) r list work
 
 module _ {ns fo : List ℕ} {e larger : ℕ} {t f : List ℕ} {m first : ℕ} {r₀ : Found} {list₀ work₀ : List ℕ} where
-  pub visiting_start : Room ns fo first r₀ list₀
-      → Visiting ns fo e larger t f m first r₀ list₀ work₀ list₀ work₀ r₀ 0
-  visiting_start h =
-      let none : first ≡ first + 0 = omega arith in
-      record {
-        list_size = refl;
-        work_size = refl;
-        room = subst (λ (k : ℕ). Room ns fo k r₀ list₀) none h;
-        visited = λ J cs ls ws s v. subst (λ (k : ℕ). Visited J cs ls ws k r₀ list₀ work₀) none v;
-      }
-
   module _ {list work : List ℕ} {r : Found} {j : ℕ}
       (v : Visiting ns fo e larger t f m first r₀ list₀ work₀ list work r j) where
     module _ (l : j < m) {list₁ work₁ : List ℕ} {r₁ : Found}

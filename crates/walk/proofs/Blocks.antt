@@ -138,14 +138,6 @@ module _ {c : Case} {cl co fo : List ℕ} {causes : Causes} {end : ℕ} {work₀
     abbrev b : ℕ
     b = 923 + k
 
-    -- ---- the end
-    pub walking_end : end ≤ s
-        → Walked J (cost_under pr (causes_of c cl)) (choices_of (causes_of c cl)) list₀ work₀ end r list work
-    walking_end l =
-        let there : min s end ≡ end = omega arith in
-        subst (λ (i : Causes). Walked J (cost_under pr i) (choices_of i) list₀ work₀ end r list work) g.causes_are
-        (subst (λ (n : ℕ). Walked J (cost_under pr causes) cs list₀ work₀ n r list work) there w.walked)
-
     pub walking_work : length work ≡ length work₀
     walking_work = work_kept w.walked.visited.left (omega (arith, g.work_long))
 
