@@ -1,5 +1,5 @@
 // The causes of a case, its settings, and what a setting adds.
-ghost use Rattle.std.specs.Prelude.{◌≡◌, ℕ, ◌+◌, ◌*◌, ◌≤◌, ◌<◌, min, length};
+ghost use Rattle.std.specs.Prelude.{◌≡◌, ℕ, ◌+◌, ◌≤◌, ◌<◌, min};
 ghost use Rattle.program.specs.Program.{heads_of};
 ghost use Rattle.program.specs.Cause.{causes_among, firm_heads, causes_in};
 ghost use Rattle.program.specs.Setting.{choice_of, settings_of, additions_of};

@@ -1,5 +1,5 @@
 // The soundness of a case: every phrase of document 01, "Case tables and sound cases".
-ghost use Rattle.std.specs.Prelude.{◌≡◌, true, ◌+◌, ◌*◌, ◌^◌, ◌≤◌, ◌<◌, length};
+ghost use Rattle.std.specs.Prelude.{◌≡◌, true, ◌+◌, ◌*◌, ◌≤◌, ◌<◌, length};
 ghost use Rattle.program.specs.Case.{formula_size, tables_full};
 ghost use Rattle.program.specs.Sound.{limits_hold, bare, shaped, within, sound_clause};
 ghost use Rattle.program.specs.Sound.{sound_clauses, sound_constraint, sound_constraints, few_settings};
