@@ -1,6 +1,6 @@
 -- The words of forms, told apart.
 --
---   node_of w        the node of the form with the word w: 64 not, 65 and, 66 or, 67 then, 68 same; 69 for any other word
+--   node_of w        the node of the form with the word w: 64 not, 65 and, 66 or, 67 then, 68 same; otherwise 69
 --   Below n p r      r is the number p, where it is below n; otherwise none, where p is n
 --   NodeFound w r    r is the node of the form with the word w, or none
 use Rattle.std.specs.Prelude.{◌≡◌, List, ℕ, ◌+◌, ◌<◌, Option, Some, None}

@@ -129,7 +129,8 @@ module _ {l : List ℕ} {at a e : ℕ} (t : Found l at (Word a e)) where
             no_literal (opened-name
             ∙ ap literals_among (unclosed_items (tokens (drop f l)) h (negated (slice b f l))))
 
-        pub negation-closed : {next : ℕ} → Found l f (Close next) → NegationFound l at (Some (lit.Literal true b f next))
+        pub negation-closed : {next : ℕ} → Found l f (Close next)
+            → NegationFound l at (Some (lit.Literal true b f next))
         negation-closed {next} d =
             let g = t in
             let i = m.found in

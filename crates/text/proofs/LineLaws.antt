@@ -6,7 +6,7 @@ use native.Mathlib.Nat.{not-suc-le-zero}
 use native.Mathlib.Numerals.{add-one}
 use native.Mathlib.Omega.{arith}
 use lib.ListN.{length, drop, get_or, drop_of_length-le}
-use lib.Seq.{slice, slice_empty, length-slice, drop-cons}
+use lib.Seq.{slice, length-slice, drop-cons}
 use borrow.Author.Tests.{eq-eqb, ne_eqb}
 use Rattle.text.specs.Lines.{last_line, lines_from, lines}
 use Rattle.text.specs.Scanning.{LineEnds}
@@ -44,9 +44,6 @@ pub record InLine (f : List ℕ) (at i : ℕ) : Type 0 where
   pub onward : at ≤ i
   pub within : i ≤ length f
   pub lines_are : lines (drop at f) ≡ lines_from (slice at i f) (drop i f)
-
-pub in_line_none : (f : List ℕ) (at : ℕ) → at < length f → InLine f at at
-in_line_none f at h = record { onward = omega arith; within = omega arith; lines_are = rw slice_empty }
 
 module _ {f : List ℕ} {at i : ℕ} (h : InLine f at i) where
   pub in_line_more : i < length f → (get_or f i 0 ≡ 10 → ⊥) → InLine f at (i + 1)

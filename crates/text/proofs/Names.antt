@@ -1,10 +1,9 @@
 -- Laws of the names of a line, by places of the line: a loop over its tokens that looks for the next name.
 -- Assumes nothing.
-use mathlib.Core.Path.{◌≡◌, refl, sym, ap, ◌∙◌, subst}
+use mathlib.Core.Path.{◌≡◌, sym, ap, ◌∙◌, subst}
 use mathlib.Core.Bool.{Bool, true, false, and-false}
 use mathlib.Core.List.{List}
-use Prim.Native.Nat.{ℕ, ◌-◌, ◌≤◌, ◌<◌}
-use native.Mathlib.Nat.{le_refl}
+use Prim.Native.Nat.{ℕ, ◌-◌, ◌≤◌}
 use native.Mathlib.Omega.{arith}
 use Rattle.std.specs.Prelude.{Option, Some, None}
 use lib.ListN.{length, take, drop}
@@ -22,9 +21,6 @@ use Rattle.text.proofs.TokenLaws.{found-tokens, found_inside, word-le}
 pub record Looking (l : List ℕ) (at i : ℕ) (b : Bool) : Type 0 where
   pub onward : at ≤ i
   pub names_are : names_in (tokens (drop at l)) ≡ names_from b (tokens (drop i l))
-
-pub looking_none : (l : List ℕ) (at : ℕ) → Looking l at at false
-looking_none l at = record { onward = le_refl at; names_are = refl }
 
 -- by the token r that stands next
 module _ {l : List ℕ} {at i : ℕ} {b : Bool} {r : Next} (h : Looking l at i b) (f : Found l i r) where
@@ -85,7 +81,3 @@ module _ {l : List ℕ} {at a e : ℕ} {r : Option (ℕ × ℕ)} (f : NameFound 
 
   pub name-within : e ≤ length l
   name-within = (name-inside f q).2
-
-  -- what is left of the line grows shorter
-  pub name-less : length l - e < length l - at
-  name-less = let k = name-inside f q in omega arith

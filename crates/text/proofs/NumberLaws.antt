@@ -86,9 +86,6 @@ pub record Counting (w : List ℕ) (i n : ℕ) : Type 0 where
   pub digits_are : all_of is_digit w ≡ all_of is_digit (drop i w)
   pub small : n < 10 ^ i
 
-pub counting_none : (w : List ℕ) → Counting w 0 0
-counting_none w = record { within = omega arith; number_is = refl; digits_are = refl; small = omega arith }
-
 module _ {w : List ℕ} {i n : ℕ} (h : Counting w i n) where
   -- a digit more fits
   pub counting_small : length w ≤ 19 → i < length w → n < 10 ^ 18

@@ -4,8 +4,8 @@
 --   WordEnds l at e    the word that starts at place at of the line l ends before place e
 --   first_token l r    the tokens that begin with what r found in the line l
 --   Found l at r       r is the first token at or behind place at of the line l
---   WordNext l at r    r is the word that stands next at or behind place at, by its first place and the place behind it,
---                      or none
+--   WordNext l at r    r is the word that stands next at or behind place at, by its first place and the place behind
+--                      it, or none
 --   NameNext l at r    the same of a word that is a name
 --   CloseNext l at r   r is the place behind the closing bracket that stands next, or none
 --   first_name l r     the names that begin with what r found in the line l
