@@ -71,8 +71,8 @@ pub fn rules(
     let mut k = from;
     while k != 0 {
         let rule = k - 1;
-        let at = 3 * rule;
-        let v = body(clauses.words[at + 1], clauses.words[at + 2], p);
+        let clause = clauses.at(rule);
+        let v = body(clause.plain, clause.negated, p);
         up |= v.trues;
         down &= v.falses;
         k = prev[rule];

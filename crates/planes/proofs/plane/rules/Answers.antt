@@ -20,7 +20,9 @@ pub loop-k-preserved : goal.loop-k-preserved
 loop-k-preserved c =
     let k = c.loop-k.k - 1 in
     let link = c.requires.1 k (omega arith) in
-    ruling_next _ _ _ _ _ _ _ _ _ _ c.loop-k.invariant k (omega arith) c.body-v.ensures link
+    let e = c.at-clause.ensures in
+    let v = rw (e.plain-is, e.negated-is) at c.body-v.ensures in
+    ruling_next _ _ _ _ _ _ _ _ _ _ c.loop-k.invariant k (omega arith) v link
 
 pub returns : goal.returns
 returns c = ruling_end _ _ _ _ _ _ _ _ c.loop-k.invariant c.loop-k-test.false
