@@ -1,7 +1,7 @@
 -- `choose` meets its contract: each minimal setting in turn is weighed against the cheapest. Assumes nothing.
 use mathlib.Core.Path.{◌≡◌, sym, ◌∙◌}
 use Rattle.cost.proofs.Least.{chosen-free}
-use Rattle.cost.proofs.Choosing.{choosing_start, choosing_next, choosing_end}
+use Rattle.cost.proofs.Choosing.{choosing_next, choosing_end}
 use Rattle.cost.proofs.cheapest.choose.Goals as goal
 use Rattle.cost.proofs.cheapest.choose.Goals.{in_default-via-in-None-1, in_default-via-in-Some+else-k-eq0}
 

@@ -1,6 +1,5 @@
 -- `bits` meets its contract: the place begins a word of the row, or the bits are glued from two. Assumes nothing.
-use native.Mathlib.Omega.{arith}
-use Rattle.explanation.proofs.Rows.{bits_whole, bits-glued}
+use Rattle.explanation.proofs.Rows.{bits-glued}
 use Rattle.explanation.proofs.cover.bits.Goals as goal
 
 pub returns : goal.returns

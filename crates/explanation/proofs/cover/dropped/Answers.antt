@@ -1,5 +1,4 @@
 -- The goals of `dropped`: no place below the row's first is read, and its loop keeps the invariant. Assumes nothing.
-use native.Mathlib.Omega.{arith}
 use Rattle.explanation.proofs.Rows.{dropping_start, dropping_next, dropping_end}
 use Rattle.explanation.proofs.cover.dropped.Goals as goal
 

@@ -1,7 +1,7 @@
 -- The goals of `all_met`: its loop keeps the invariant, and ends with every constraint passed. Assumes nothing.
 use native.Mathlib.Omega.{arith}
 use borrow.Author.Rules.{rules}
-use Rattle.explanation.proofs.Explaining.{passing_start, passing_next, passing_end}
+use Rattle.explanation.proofs.Explaining.{passing_next, passing_end}
 use Rattle.explanation.proofs.explain.all_met.Goals as goal
 
 pub loop-k-preserved : goal.loop-k-preserved

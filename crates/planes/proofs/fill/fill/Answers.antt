@@ -1,7 +1,6 @@
 -- The goals of `fill`: its loop keeps the invariant, and each way out gives what is promised. Assumes nothing.
-use native.Mathlib.Omega.{arith}
 use lib.ListN.{get_or-replicate}
-use Rattle.planes.proofs.Filling.{filling_start, filling_next, filling_end}
+use Rattle.planes.proofs.Filling.{filling_start, filling_next}
 use Rattle.planes.proofs.fill.fill.Goals as goal
 
 pub loop-j-init : goal.loop-j-init

@@ -1,6 +1,5 @@
 -- `commit` meets its contract: each atom of the word is taken into either plane (`Committing`). Assumes nothing.
-use borrow.Author.Rules.{rules}
-use Rattle.round.proofs.Committing.{committing_start, committing_next, committing_end}
+use Rattle.round.proofs.Committing.{committing_next, committing_end}
 use Rattle.round.proofs.redo.commit.Goals as goal
 
 pub loop-i-preserved : goal.loop-i-preserved
