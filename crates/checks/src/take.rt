@@ -103,7 +103,7 @@ fn with_cost(costed: u64, atom: Option<usize>) -> u64
     }
 }
 
-// Takes a line by its form: the checks from 6 on, then stores it.
+// Takes a line by its form: the checks from 6 on, then stores it. The tables are apart as in `store_form`.
 fn take_form(
     l: &[u8],
     x: Form,
@@ -142,7 +142,7 @@ fn take_form(
     })
 }
 
-// Takes a line: looks at it, then takes it by its form.
+// Takes a line: looks at it, then takes it by its form. The tables are apart as in `store_form`.
 pub fn take_line(
     l: &[u8],
     p: Progress,

@@ -83,7 +83,8 @@ fn store_query(l: &[u8], at: usize, c: Case, names: &[u8], formula: &mut [u8]) -
     next
 }
 
-// Stores what the line of a form says.
+// Stores what the line of a form says. The tables are no struct of `&mut`s: one of these cannot be lent as a `&`
+// through a `&mut` to the struct, which the borrow checker does not cover.
 pub fn store_form(
     l: &[u8],
     x: Form,

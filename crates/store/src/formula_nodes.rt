@@ -12,7 +12,7 @@ use formulas::keyword::node_of;
 use program::case::Case;
 use text::tokens::{Next, token};
 
-// What stands for the node of a word that is no form's.
+// What stands for the node of a word that is no form's, as the promise of `store_nodes` has it.
 const NO_NODE: u8 = 69;
 
 // The node of a word: of its form, or of its atom by a table of count names.
