@@ -48,7 +48,7 @@ fn price_fits(price: usize, supplement: usize) -> bool
     price <= 2000000 && supplement <= 100 && price_of(price, supplement) <= 2000000
 }
 
-// The checks from 9 to 10 of a line with at most 64 names; second tells whether it is a second cost.
+// The checks 9, 16, 17 and 10 of a line with at most 64 names; second tells whether it is a second cost.
 fn check_room(b: Brings, c: Case, second: bool) -> Result<(), Refusal>
     requires { InLimits c }
     ensures { (atoms : ℕ) → atoms ≤ 64
