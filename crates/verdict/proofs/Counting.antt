@@ -16,7 +16,8 @@ use Rattle.explanation.specs.Judge.{Judge}
 use Rattle.explanation.specs.Subset.{minimal}
 use Rattle.explanation.proofs.Minimal.{minimal_alike}
 use Rattle.verdict.specs.declared.counts.Counts.{Counts}
-use Rattle.verdict.specs.Walk.{only_if, minimals_below, passes_in_all, true_in_all, false_in_all, verdict_by, verdict_of, verdicts_of}
+use Rattle.verdict.specs.Walk.{only_if, minimals_below, passes_in_all, true_in_all, false_in_all}
+use Rattle.verdict.specs.Walk.{verdict_by, verdict_of, verdicts_of}
 use Rattle.verdict.specs.Counting.{no_counts, counts_with, verdicts_by, Counted}
 use Rattle.verdict.proofs.Verdicts.{passes_in_none, passes_in_more, verdict_is}
 
@@ -83,7 +84,8 @@ module _ {J : Judge} {cs : List ℕ} {s : ℕ} {k : Counts} (h : Counted J cs s 
     -- a word w of the queries whose values pass the test, with those of the setting more
     kept_more : (test : Value → Bool) {w : ℕ}
         → w ≡ word J.queries (λ q. passes_in_all test J q (minimals_below J cs s))
-        → word 64 (λ q. has w q && test (v q)) ≡ word J.queries (λ q. passes_in_all test J q (minimals_below J cs (s + 1)))
+        → word 64 (λ q. has w q && test (v q))
+        ≡ word J.queries (λ q. passes_in_all test J q (minimals_below J cs (s + 1)))
     kept_more test {w} g =
         let ms = minimals_below J cs s in
         ap (λ (x : ℕ). word 64 (λ q. has x q && test (v q))) g

@@ -35,7 +35,8 @@ pub cover-larger-requires : goal.cover-larger-requires
 cover-larger-requires c =
     let p = c.requires in
     let g = bounded p.0 p.1 p.2 in
-    (omega arith, word-inside g c.loop-b.invariant (omega arith), weights_few g c.weigh-weights.result c.weigh-weights.ensures)
+    let w = weights_few g c.weigh-weights.result c.weigh-weights.ensures in
+    (omega arith, word-inside g c.loop-b.invariant (omega arith), w)
 
 pub invariant_of-queries : goal.invariant_of-queries
 invariant_of-queries c = record { long = formula-fits _ _ _ _ c.requires.0.is-sound }
@@ -68,13 +69,14 @@ overflow_add-tally-in-loop-b c =
 pub choose-tally-requires : goal.choose-tally-requires
 choose-tally-requires c =
     let p = c.requires in
-    (p.3, c.priced_in-priced.ensures, omega (arith, c.minimals_of-minimals.ensures.first-is, end-few (bounded p.0 p.1 p.2)))
+    let few = end-few (bounded p.0 p.1 p.2) in
+    (p.3, c.priced_in-priced.ensures, omega (arith, c.minimals_of-minimals.ensures.first-is, few))
 
 pub loop-b-preserved : goal.loop-b-preserved
 loop-b-preserved c =
     let p = c.requires in
     let i = c.loop-b.invariant in
     let x = c.fill-next.ensures _ i.added_is in
-    walking_next (bounded p.0 p.1 p.2) i (omega arith) c.lanes_of-m.ensures x.0 c.run-sums.ensures c.weigh-weights.ensures
-    c.explaining-explains.ensures c.cover-larger.ensures x.1 c.visit-tally.ensures c.minimals_of-minimals.ensures
-    c.choose-tally.ensures
+    walking_next (bounded p.0 p.1 p.2) i (omega arith) c.lanes_of-m.ensures x.0 c.run-sums.ensures
+    c.weigh-weights.ensures c.explaining-explains.ensures c.cover-larger.ensures x.1 c.visit-tally.ensures
+    c.minimals_of-minimals.ensures c.choose-tally.ensures
