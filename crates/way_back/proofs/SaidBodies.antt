@@ -13,7 +13,7 @@ use Rattle.store.specs.Lent.{Lent}
 use Rattle.store.proofs.BodySizes.{clause_body, constraint_body, said_bodies}
 use Rattle.store.proofs.FilledRows.{no_row, no_constraint, clause-is, constraint-is}
 use Rattle.reader.specs.declared.read.Refused.{Refused}
-use Rattle.reader.specs.Answers.{refusal_in, line_in, case_in}
+use Rattle.reader.specs.Answers.{case_in}
 use Rattle.reader.proofs.FileSays.{Accepted}
 use Rattle.reader.proofs.WellFormed.{WellFormed}
 use Rattle.reader.proofs.WellFormedLines.{accepted-formed}
