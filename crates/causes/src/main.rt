@@ -27,14 +27,11 @@ impl Operation for Causes {
     ghost cut = { is_report-cut };
 
     fn write<W: Write>(&self, input: &[u8], to: &mut W) -> io::Result<()> {
-        let mut out = [0u8; USUAL_ROOM];
-        let a = report(input, &mut out);
-        let is_long = a.refusal != 0;
-        if is_long {
-            return write_long(input, to);
+        let mut out = [0; USUAL_ROOM];
+        match report(input, &mut out) {
+            Ok(length) => write_whole(to, &out[..length]),
+            Err(_) => write_long(input, to),
         }
-        let length = a.length;
-        write_whole(to, &out[..length])
     }
 }
 
@@ -42,8 +39,8 @@ impl Operation for Causes {
 fn write_long<W: Write>(file: &[u8], to: &mut W) -> io::Result<()>
     ensures { WritesText result (W.contents to.old) (W.contents to.new) (report_text file.now) }
 {
-    let mut out = [0u8; REPORT_ROOM];
-    let length = report(file, &mut out).length;
+    let mut out = [0; REPORT_ROOM];
+    let length = report(file, &mut out).unwrap();
     write_whole(to, &out[..length])
 }
 
@@ -56,7 +53,7 @@ fn main(rt: HostRuntime) {
         );
         return;
     }
-    let mut file = [0u8; FILE_ROOM];
+    let mut file = [0; FILE_ROOM];
     if let Err(fault) = answer(&Causes, &mut rt.stdin(), &mut rt.stdout(), &mut file) {
         let _ = tell(&mut errors, "causes", fault);
     }
