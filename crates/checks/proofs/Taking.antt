@@ -100,7 +100,8 @@ module _ {l : List ℕ} {x : Form} (f : Formed l x) {b : Brings} (g : Brought x 
     names-long-kept = kept-long _ _ names-kept long
 
     -- the refusal of the line is that of the checks from 8 on
-    late-number : (st : Said) → form_refusal st (tokens l) ≡ first_of (room_number st (tokens l)) (edition_number st (tokens l))
+    late-number : (st : Said) → form_refusal st (tokens l) ≡ first_of (room_number st (tokens l))
+        (edition_number st (tokens l))
     late-number st = form-refusal-is st (tokens l) ∙ rw (← text-number e)
 
     module _ (st : Said) (h : Held st c (lent cl co fo na pr)) where

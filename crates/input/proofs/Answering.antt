@@ -1,5 +1,6 @@
 -- What a program makes of the bytes read, and of writing its answer. Assumes nothing.
-use Rattle.std.proofs.Common.{◌≡◌, ℕ, ◌≤◌, ◌<◌, List, ◌++◌, length, take, ap, ◌∙◌, arith, append-nil, append_assoc, codes, refl, IsErrAnd, length-take-le, OnOk, subst}
+use Rattle.std.proofs.Common.{◌≡◌, ℕ, ◌≤◌, ◌<◌, List, ◌++◌, length, take, ap, ◌∙◌, arith, append-nil, append_assoc}
+use Rattle.std.proofs.Common.{codes, refl, IsErrAnd, length-take-le, OnOk, subst}
 use Rattle.std.proofs.Common.{Some, None, IfSome, Result, Ok, Err, MatchResult}
 use Rattle.std.proofs.lemmas.List.{take_all, take_at}
 use Rattle.std.proofs.Math.Nat.{eq-or-lt_of_le}

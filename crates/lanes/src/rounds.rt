@@ -29,8 +29,8 @@ pub struct Sums {
     pub decided: u64,
 }
 
-// Settles 64 settings in lanes, from the opening in each lane and from what they add, into the planes p; answers the sums
-// over the first m of them. The planes are lent, since a kilobyte that is returned is copied twice.
+// Settles 64 settings in lanes, from the opening in each lane and from what they add, into the planes p; answers the
+// sums over the first m of them. The planes are lent, since a kilobyte that is returned is copied twice.
 pub fn run(
     clauses: Clauses,
     preparation: &Preparation,

@@ -40,7 +40,8 @@ use Rattle.layer_report.proofs.Bounds.{entries_alike}
 use Rattle.layer_report.proofs.Sayings.{entries_said, layers_told, numbers-count, entries_few, entries_atoms}
 
 -- a file that is refused
-pub refused_reported : {f : List ℕ} {t u : Lent} {r : Result Case Refused} {out outAfter : List ℕ} {q : Result ℕ Refusal}
+pub refused_reported : {f : List ℕ} {t u : Lent} {r : Result Case Refused} {out outAfter : List ℕ}
+    {q : Result ℕ Refusal}
     → FullTables t → ReadAs f t u r → (refusal_in r ≡ 0 → ⊥)
     → ReportShown (refusal_text (refusal_in r) (line_in r)) out q outAfter → LayersReported f out q outAfter
 refused_reported {f} x h k s = record {

@@ -75,7 +75,8 @@ module _ (n : ℕ) (t : List ℕ) where
   peeled_start all e = record {
     size_is = refl;
     left_is = first;
-    entry-is = λ a l. get_or-replicate 64 a 0 0 l ∙ sym (ap (λ (b : Bool). pick b (least_number n r a) 0) (none (ltb a n) (has all a)
+    entry-is = λ a l. get_or-replicate 64 a 0 0 l
+        ∙ sym (ap (λ (b : Bool). pick b (least_number n r a) 0) (none (ltb a n) (has all a)
         (has_lowest n all a e)));
   }
     where
@@ -165,7 +166,8 @@ module _ (n : ℕ) (t : List ℕ) where
         entry a false false ex ey (inl h) = refl
 
     -- a round that changes nothing
-    pub peeled_end : (k left : ℕ) (u : List ℕ) → k ≤ n → Peeled k left u → bit_and left (word 64 (touched_by t left)) ≡ left
+    pub peeled_end : (k left : ℕ) (u : List ℕ) → k ≤ n → Peeled k left u
+        → bit_and left (word 64 (touched_by t left)) ≡ left
         → Numbered n t left u
     peeled_end k left u few p e =
         let f : chain_heads n r (suc k) ≡ chain_heads n r k = sym (lowered k left p.left_is) ∙ e ∙ p.left_is in

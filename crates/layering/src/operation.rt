@@ -10,8 +10,8 @@ use program::tables::Tables;
 use refusals::Refusal;
 use settle::check::check_case;
 
-// Answers the least numbers of a case's atoms, or a ring where the case isn't layered. Refuses a lent table shorter than
-// its size, and a case that isn't sound.
+// Answers the least numbers of a case's atoms, or a ring where the case isn't layered. Refuses a lent table shorter
+// than its size, and a case that isn't sound.
 pub fn layers(c: Case, t: Tables) -> Result<Layers, Refusal>
     ensures { Layering c t.entry.clauses.now t.entry.constraints.now t.entry.formula.now result }
 {

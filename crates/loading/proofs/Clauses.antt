@@ -1,5 +1,5 @@
--- The clause that is drawn from a state, by what the draws yield: its kind, its literals, its line, and the state behind
--- it. Assumes nothing.
+-- The clause that is drawn from a state, by what the draws yield: its kind, its literals, its line, and the state
+-- behind it. Assumes nothing.
 use mathlib.Core.Path.{◌≡◌, ap, ◌∙◌}
 use mathlib.Core.Bool.{true, false}
 use mathlib.Core.List.{[], ◌∷◌}

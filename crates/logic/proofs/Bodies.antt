@@ -110,7 +110,8 @@ module _ (i : Interpretation) (p n : ℕ) (g : Good i) (hp : p < 2 ^ 64) (hn : n
       (has-and p (2 ^ 64 - 1 - i.trues) a
       ∙ ap (λ (b : Bool). has p a && b) (has-not 64 i.trues a g.trues_fit l ∙ ap not (sym (true_at i a))))
       (has-and n (2 ^ 64 - 1 - i.falses) a
-      ∙ ap (λ (b : Bool). has n a && b) (has-not 64 i.falses a g.falses_fit l ∙ ap not (sym (false_at i g.disjoint a))))))
+      ∙ ap (λ (b : Bool). has n a && b) (has-not 64 i.falses a g.falses_fit l
+      ∙ ap not (sym (false_at i g.disjoint a))))))
       ∙ sym (true_literals (value_at i) p n 64)
 
   pub body_false : (against_in ≡ 0 → ⊥) → False ≡ value_of (value_at i) (body p n)

@@ -168,7 +168,8 @@ module _ (n : ℕ) (ks : List ℕ) (at : ℕ) where
           let q : get_or ks at 0 - 65 ≡ p = omega arith in
           spelled_at ks at h
           ∙ rw (r.reads.spelling_is, r'.reads.spelling_is)
-          (with-form (get_or ks at 0) r.reads.formula r'.reads.formula (spelled (drop next ks)) (omega arith) (omega arith)
+          (with-form (get_or ks at 0) r.reads.formula r'.reads.formula (spelled (drop next ks)) (omega arith)
+          (omega arith)
           ∙ rw q)
 
       pub form_measured : {z : ℕ} → z ≡ max d e → z < 16 → Measured n ks at (z + 1) next

@@ -101,7 +101,8 @@ pub high_none : (k : ℕ) (s : Spelling) {fs : List Formula} → 68 < k → with
 high_none k s {fs} h e = high_inv h (front k s fs e)
 
 pub operand_none : (k : ℕ) (s : Spelling) {fs : List Formula} → 64 ≤ k
-    → ((f : Formula) (fs : List Formula) → s ≡ Spelling.formulas (f ∷ fs) → ⊥) → with_node k s ≡ Spelling.formulas fs → ⊥
+    → ((f : Formula) (fs : List Formula) → s ≡ Spelling.formulas (f ∷ fs) → ⊥)
+    → with_node k s ≡ Spelling.formulas fs → ⊥
 operand_none k s {fs} h r e = go (front k s fs e)
   where
     go : Front k s fs → ⊥

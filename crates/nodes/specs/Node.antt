@@ -1,5 +1,4 @@
 -- Nodes by their numbers.
--- From: document 01, "Case tables and sound cases" (0 to 63 an atom, 64 not, 65 and, 66 or, 67 then, 68 same).
 --
 --   place f          the place of a form of two operands among them, from 0
 --   IsNode k n       the number k is the node n

@@ -109,7 +109,8 @@ taken_bounded {f} {t₀} {t} {p} i = record {
 }
 
 -- the line w of f from place at to place e is taken
-module _ {f : List ℕ} {t₀ t u : Lent} {p : Progress} {at e line : ℕ} {r : Result Progress Refusal} (i : LinesTaken f t₀ t p at line)
+module _ {f : List ℕ} {t₀ t u : Lent} {p : Progress} {at e line : ℕ} {r : Result Progress Refusal}
+    (i : LinesTaken f t₀ t p at line)
     (l : LineEnds f at e)
     (k : TakenAs (λ st. line_refusal st (take (e - at) (drop at f))) (λ st. said_after st (take (e - at) (drop at f))) p
     t r u) where

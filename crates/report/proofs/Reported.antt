@@ -130,7 +130,8 @@ module _ {f : List ℕ} {t u : Lent} {r : Result Case Refused} (x : FullTables t
         prices_are = rw (n, e) at h.prices_are ∙ filled-exact price_size _ t.prices x.prices-full;
       }
 
-  accepted_by : (o : Outcome) → read_file f ≡ o → Numbered o → refusal_of o ≡ 0 → length f ≤ 32768 → Accepted f u (case_in r)
+  accepted_by : (o : Outcome) → read_file f ≡ o → Numbered o → refusal_of o ≡ 0 → length f ≤ 32768
+      → Accepted f u (case_in r)
   accepted_by (Outcome.case st) e n k l = accepted-case st e l
   accepted_by (Outcome.refused m i) e n k l = absurd (n k)
 

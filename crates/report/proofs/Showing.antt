@@ -47,4 +47,5 @@ report_within {t} {out} s = shown-within (report_refusal t (length out)) s (λ e
 -- a report that the output is long enough for is not refused
 pub report_is_ok : {t out u : List ℕ} (r : Result ℕ Refusal) → ReportShown t out r u → length t ≤ length out → IsOk r
 report_is_ok (Ok m) s h = refl
-report_is_ok {t} {out} (Err e) s h = let n = number_some e in absurd (omega (arith, s.refusal_is, refusal-none t (length out) h))
+report_is_ok {t} {out} (Err e) s h = let n = number_some e in
+    absurd (omega (arith, s.refusal_is, refusal-none t (length out) h))

@@ -1,5 +1,4 @@
 -- What every operation on a case asks first.
--- From: document 01, "What each operation refuses" (1 before 13).
 --
 --   checked full sound   refuses a table that isn't of full size, then a case that isn't sound
 use Rattle.std.specs.Prelude.{Bool, true, false, Result, Ok, Err, ⊤}

@@ -128,7 +128,8 @@ ended at m l (code.Some (lit.Literal b a e next)) o ls p = absurd (o b a e next 
 
 module _ {at : List ℕ → ℕ} {l : List ℕ} {start i : ℕ} {m : Masks} {r : code.Option Lit} (h : Passed at l start i m)
     (f : LiteralFound l i r) where
-  pub passed-more : {b : Bool} {a e next atom : ℕ} {n : Masks} → r ≡ code.Some (lit.Literal b a e next) → atom ≡ at (take (e - a) (drop a l))
+  pub passed-more : {b : Bool} {a e next atom : ℕ} {n : Masks} → r ≡ code.Some (lit.Literal b a e next)
+      → atom ≡ at (take (e - a) (drop a l))
       → n ≡ with_literal m b atom → Passed at l start next n
   passed-more {b} {a} {e} {next} q k g =
       let first = f.literals_are ∙ ap (first_literal l) q in

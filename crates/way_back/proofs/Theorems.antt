@@ -24,7 +24,8 @@ use Rattle.way_back.proofs.TextRead.{text-read, text-refused}
 use Rattle.way_back.proofs.SaidBodies.{read-few}
 
 -- a text that writing gives, read into tables that fit
-module _ (c : Case) (t v u : Lent) (n : ℕ) (r : Result Case Refused) (h : write_refusal c t n ≡ 0) (fits : tables_fit v ≡ true)
+module _ (c : Case) (t v u : Lent) (n : ℕ) (r : Result Case Refused) (h : write_refusal c t n ≡ 0)
+    (fits : tables_fit v ≡ true)
     (a : ReadAs (case_text c t) v u r) where
   passed : Unrefused c t
   passed = unrefused c t n h

@@ -41,7 +41,8 @@ pub record SameUsed (c : Case) (t : Lent) (d : Case) (u : Lent) : Type 0 where
 -- literals, reading its text into any tables v that fit is not refused either, and gives c and t back
 abbrev pub WayBack : Type 0
 WayBack = (c : Case) (t v u : Lent) (n : ℕ) (r : Result Case Refused) → write_refusal c t n ≡ 0
-    → tables_fit v ≡ true → AllFew (body_sizes c t) → ReadAs (case_text c t) v u r → (refusal_in r ≡ 0) × SameUsed c t (case_in r) u
+    → tables_fit v ≡ true → AllFew (body_sizes c t) → ReadAs (case_text c t) v u r
+    → (refusal_in r ≡ 0) × SameUsed c t (case_in r) u
 
 -- where body k is the first that holds more, reading is refused with 20 at its line, which stands behind those of the
 -- atoms, that of edition 2 and those of the bodies before it

@@ -50,7 +50,8 @@ module _ (name : ℕ → List ℕ) (b : Bool) where
       pub literal-more : {r : Pen} {out₂ : List ℕ} {next : ℕ} → Spells (literal_tokens b (name a)) out₁ q r out₂
           → next ≡ without_bit left a → AtLiteral w out p next r out₂
       literal-more {r} {out₂} k e =
-          rw e (tokens-more h (literal_tokens b (name a)) (on_tokens name b (without_bit left a)) (on_lowest left a l) k)
+          rw e (tokens-more h (literal_tokens b (name a)) (on_tokens name b (without_bit left a))
+          (on_lowest left a l) k)
 
     pub literal-end : left ≡ 0 → Spells (on_tokens name b w) out p q out₁
     literal-end e = tokens-end h (ap (on_tokens name b) e ∙ on_none)

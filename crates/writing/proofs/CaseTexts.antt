@@ -140,7 +140,8 @@ module _ (c : Case) (t : Lent) where
             pub behind-clause : CaseLeft out from_constraints g₃ out₃
             behind-clause = case-more _ _ (behind-edition) h₃
 
-            module _ {out₄ : List ℕ} {g₄ : Page} (h₄ : Sets (constraint_texts t.names t.constraints c.constraints) out₃ g₃ g₄ out₄)
+            module _ {out₄ : List ℕ} {g₄ : Page}
+                (h₄ : Sets (constraint_texts t.names t.constraints c.constraints) out₃ g₃ g₄ out₄)
               where
                 pub behind-constraint : CaseLeft out from_seen g₄ out₄
                 behind-constraint = case-more _ _ (behind-clause) h₄
@@ -155,7 +156,8 @@ module _ (c : Case) (t : Lent) where
                         pub behind-negated : CaseLeft out from_queries g₆ out₆
                         behind-negated = case-more _ _ (behind-seen) h₆
 
-                        module _ {out₇ : List ℕ} {g₇ : Page} (h₇ : Sets (query_texts t.names c.nodes t.formula c.formulas) out₆ g₆ g₇ out₇)
+                        module _ {out₇ : List ℕ} {g₇ : Page}
+                            (h₇ : Sets (query_texts t.names c.nodes t.formula c.formulas) out₆ g₆ g₇ out₇)
                           where
                             pub behind-query : CaseLeft out from_costs g₇ out₇
                             behind-query = case-more _ _ (behind-negated) h₇

@@ -6,4 +6,5 @@ use Rattle.wording.proofs.put_abducibles.Given as goal
 
 abbrev pub invariant-loop-atom : goal.invariant-loop-atom
 invariant-loop-atom l =
-    AtCause (name_in l.names) l.causes.twofold l.causes.all l.setting l.initial.out l.at l.atom-iterator.left l.rest l.place l.out
+    AtCause (name_in l.names) l.causes.twofold l.causes.all l.setting l.initial.out l.at l.atom-iterator.left l.rest
+    l.place l.out

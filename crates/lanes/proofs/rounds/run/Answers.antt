@@ -13,7 +13,8 @@ use Rattle.lanes.proofs.rounds.run.Goals as goal
 pub loop-c-init : goal.loop-c-init
 loop-c-init c =
     let p = c.requires in (
-      settling_start _ _ _ p.0.opening-is _ _ _ _ _ _ _ p.1.trues_are p.1.falses_are p.1.heads_are _ c.begin-c.ensures _,
+      settling_start _ _ _ p.0.opening-is _ _ _ _ _ _ _ p.1.trues_are p.1.falses_are p.1.heads_are _
+          c.begin-c.ensures _,
       record { first-size = refl; second-size = refl },
     )
 

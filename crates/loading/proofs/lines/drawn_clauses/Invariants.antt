@@ -1,5 +1,5 @@
--- `lines::drawn_clauses` meets its contract. The loop's invariant: of the clauses those behind the ones done are still to be drawn and
--- written. Assumes nothing.
+-- `lines::drawn_clauses` meets its contract. The loop's invariant: of the clauses those behind the ones done are still
+-- to be drawn and written. Assumes nothing.
 use Rattle.loading.proofs.LineTexts.{ClausesLeft}
 use Rattle.loading.proofs.lines.drawn_clauses.Given as goal
 

@@ -15,4 +15,5 @@ close-requires c =
 
 pub returns : goal.returns
 returns c =
-    line-written first-query-form c.args.g c.begin-p.ensures (rw c.load_name.ensures at c.word-q.ensures) c.close.ensures
+    line-written first-query-form c.args.g c.begin-p.ensures
+    (rw c.load_name.ensures at c.word-q.ensures) c.close.ensures

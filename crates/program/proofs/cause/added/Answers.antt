@@ -7,7 +7,8 @@ use Rattle.program.proofs.cause.added.Goals as goal
 
 pub loop-atom-init : goal.loop-atom-init
 loop-atom-init c =
-    rw (c.into_iter-atom-iterator.ensures.into_iter_gives, c.bits_of-atom-items.ensures) (walked_start _ _ _ _ refl refl)
+    rw (c.into_iter-atom-iterator.ensures.into_iter_gives, c.bits_of-atom-items.ensures)
+    (walked_start _ _ _ _ refl refl)
 
 pub loop-atom-preserved : goal.loop-atom-preserved
 loop-atom-preserved c =

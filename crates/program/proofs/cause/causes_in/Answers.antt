@@ -13,5 +13,6 @@ returns-then-edition-ne2 c =
 
 pub returns : goal.returns
 returns c =
-    causes_overridden _ _ _ _ c.if-edition-ne2.false (c.unheaded-free.ensures ∙ ap₂ causes_among c.below.ensures c.requires.2)
+    causes_overridden _ _ _ _ c.if-edition-ne2.false
+    (c.unheaded-free.ensures ∙ ap₂ causes_among c.below.ensures c.requires.2)
     (ap₂ (λ (h f : ℕ). bit_and h (2 ^ 64 - 1 - f)) c.requires.2 c.firm_heads.ensures)

@@ -1,4 +1,5 @@
--- `program::sound::is_sound` meets its contract: within the limits the tables hold what the counts say. Assumes nothing.
+-- `program::sound::is_sound` meets its contract: within the limits the tables hold what the counts say. Assumes
+-- nothing.
 use mathlib.Core.Path.{sym, ◌∙◌}
 use Rattle.program.proofs.Soundness.{limits-atoms, clauses-held, constraints-held, formulas-held}
 use Rattle.program.proofs.sound.is_sound.Goals as goal

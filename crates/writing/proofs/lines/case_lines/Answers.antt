@@ -39,14 +39,16 @@ constraint_lines-bounded-requires c =
     let x = c.args.c in
     let t = lent_of c.args.t in
     let few = fit_constraints x t c.requires.0 in
-    let left = behind-clause x t c.atom_lines-named.ensures c.edition_lines-edited.ensures c.clause_lines-ruled.ensures in
+    let left = behind-clause x t c.atom_lines-named.ensures c.edition_lines-edited.ensures
+    c.clause_lines-ruled.ensures in
     (few.0, fit_names x t c.requires.0, few.1, fit_bars x t c.requires.0, case-room_for x t _ _ left c.requires.1)
 
 pub seen_lines-seen-requires : goal.seen_lines-seen-requires
 seen_lines-seen-requires c =
     let x = c.args.c in
     let t = lent_of c.args.t in
-    let left = behind-constraint x t c.atom_lines-named.ensures c.edition_lines-edited.ensures c.clause_lines-ruled.ensures
+    let left = behind-constraint x t c.atom_lines-named.ensures c.edition_lines-edited.ensures
+    c.clause_lines-ruled.ensures
     c.constraint_lines-bounded.ensures in
     (fit_names x t c.requires.0, case-room_for x t _ _ left c.requires.1)
 

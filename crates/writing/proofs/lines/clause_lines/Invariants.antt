@@ -5,4 +5,5 @@ use Rattle.writing.proofs.Growing.{AtEntry}
 use Rattle.writing.proofs.lines.clause_lines.Given as goal
 
 abbrev pub invariant-loop-k : goal.invariant-loop-k
-invariant-loop-k l = AtEntry (λ j. clause_texts l.names l.clauses.words.now j) l.clauses.count l.initial.out l.initial.page l.k l.page l.out
+invariant-loop-k l = AtEntry (λ j. clause_texts l.names l.clauses.words.now j) l.clauses.count l.initial.out
+    l.initial.page l.k l.page l.out

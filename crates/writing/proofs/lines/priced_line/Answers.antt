@@ -16,4 +16,5 @@ cost_line-requires c =
 
 pub returns : goal.returns
 returns c =
-    line-there _ (lt-ltb 0 (get_or c.args.prices.now c.args.atom 0) (omega arith)) (rw c.name_of.ensures at c.cost_line.ensures)
+    line-there _ (lt-ltb 0 (get_or c.args.prices.now c.args.atom 0) (omega arith))
+    (rw c.name_of.ensures at c.cost_line.ensures)

@@ -11,4 +11,5 @@ is_sound-requires c =
 pub atoms_writable-requires : goal.atoms_writable-requires
 atoms_writable-requires c =
     let t = c.tables.ensures in
-    atoms-held (lent_of c.args.t) c.requires _ (rw (t.clauses_are, t.constraints_are, t.formula-is) at c.is_sound.ensures) c.if-is_sound.true
+    atoms-held (lent_of c.args.t) c.requires _
+    (rw (t.clauses_are, t.constraints_are, t.formula-is) at c.is_sound.ensures) c.if-is_sound.true
