@@ -18,6 +18,7 @@ fn lacking(w: u64, v: u64) -> u64
 }
 
 // The lanes of w in which a constraint of a kind is met, where b says what its body is worth.
+// The kind is a word of a table that C lends, so it is any number.
 fn met(w: u64, kind: u64, b: Lanes) -> u64
     ensures { (v : ℕ → Value) → Worth b v → (j : ℕ) → j < 64 → has result j ≡ (has w j && met kind (v j)) }
 {

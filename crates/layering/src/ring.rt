@@ -41,6 +41,7 @@ fn follow(dependents: &[u64; 64], stuck: u64) -> Trail
     let mut len = 0;
     let mut seen = 0;
     let mut at = words::lowest_bit(stuck);
+    // It ends by what was seen, not by an index.
     while !words::test(seen, at) {
         atoms[len] = at as u64;
         len += 1;

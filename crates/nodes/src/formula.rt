@@ -1,4 +1,4 @@
-// The value and the depth of a formula, read from its nodes.
+// Nodes, and the value and the depth of a formula, read from them.
 ghost use Rattle.std.specs.Prelude.{◌≡◌, ℕ, true, ◌≤◌, ◌<◌, MatchOption};
 ghost use Rattle.logic.specs.Formula.{Formula, value_of};
 ghost use Rattle.logic.specs.Nodes.{joined, one_formula, formula_of};
@@ -27,7 +27,7 @@ pub enum Node {
 }
 
 impl Node {
-    // The node with a number.
+    // The node with a number, if there is one; that there is none is no error, so this is no TryFrom.
     pub fn of(number: u8) -> Option<Node>
         ensures { MatchOption result (68 < number) (IsNode number) }
     {

@@ -69,6 +69,7 @@ pub fn rules(
     let mut up: u64 = 0;
     let mut down: u64 = !0u64;
     let mut k = from;
+    // A chain is followed; no index is counted.
     while k != 0 {
         let rule = k - 1;
         let clause = clauses.at(rule);

@@ -6,7 +6,7 @@ ghost use Rattle.prepared.specs.Chains.{Lasts, Linked};
 use program::clauses::Clauses;
 
 // For each head one more than the number of its last rule, or 0, and for each clause the same for the last rule before
-// it with its head.
+// it with its head. No option in place of the 0: `Lasts` and `Linked` speak of these numbers.
 #[derive(Clone, Copy)]
 pub struct Chains {
     pub last: [usize; 64],

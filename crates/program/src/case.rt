@@ -51,7 +51,6 @@ impl Case {
 pub struct Atoms {
     pub count: usize,
     pub all: u64,
-    ghost some: { 1 ≤ count },
     ghost few: { count ≤ 64 },
     ghost each: { all + 1 ≡ 2 ^ count },
 }

@@ -25,6 +25,7 @@ pub fn run(clauses: Clauses, heads: u64, added: Additions) -> Settled
     let mut interpretation = Interpretation::nothing();
     let mut rounds: u32 = 0;
     let mut decided: u32 = 0;
+    // The rounds are no index: they are answered.
     loop {
         let next = apply(interpretation, clauses, heads, added);
         if next.decided == 0 {

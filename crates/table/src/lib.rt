@@ -20,7 +20,8 @@ pub fn byte_or_zero(w: &[u8], i: usize) -> u8
     w.get(i).copied().unwrap_or(0)
 }
 
-// Stores the bytes of w, then zeros, in the n entries from a place on.
+// Stores the bytes of w, then zeros, in the n entries from a place on. Copying and then filling would be no plainer,
+// since a w that is too long is cut.
 pub fn put_row(t: &mut [u8], at: usize, n: usize, w: &[u8])
     requires { at + n ≤ length t.old }
     ensures { t.new ≡ sets t.old at (padded n w.now) }
