@@ -24,8 +24,8 @@ impl Operation for Layers {
     ghost cut = { layers_cut };
 
     fn write<W: Write>(&self, input: &[u8], to: &mut W) -> io::Result<()> {
-        let mut out = [0u8; TEXT_ROOM];
-        let length = layer_report(input, &mut out).length;
+        let mut out = [0; TEXT_ROOM];
+        let length = layer_report(input, &mut out).unwrap();
         write_whole(to, &out[..length])
     }
 }
@@ -39,7 +39,7 @@ fn main(rt: HostRuntime) {
         );
         return;
     }
-    let mut file = [0u8; FILE_ROOM];
+    let mut file = [0; FILE_ROOM];
     if let Err(fault) = answer(&Layers, &mut rt.stdin(), &mut rt.stdout(), &mut file) {
         let _ = tell(&mut errors, "layers", fault);
     }
