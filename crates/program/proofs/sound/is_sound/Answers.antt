@@ -20,3 +20,6 @@ constraints_sound-requires c =
 pub formulas_sound-requires : goal.formulas_sound-requires
 formulas_sound-requires c =
     formulas-held _ _ _ _ c.requires (sym c.limits_hold.ensures ∙ c.if-not-limits_hold.false)
+
+pub settings_few-requires : goal.settings_few-requires
+settings_few-requires c = limits-atoms _ (sym c.limits_hold.ensures ∙ c.if-not-limits_hold.false)
