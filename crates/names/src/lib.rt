@@ -82,6 +82,7 @@ pub fn some_long(l: &[u8]) -> bool
     ensures { result ≡ some_long (names_in (tokens l.now)) }
 {
     let mut at = 0;
+    // Over where no room is left for such a name; no index is counted.
     while at + 16 < l.len() {
         let Some((a, e)) = next_name(l, at) else {
             return false;

@@ -107,6 +107,7 @@ fn take_lines(
     };
     let mut at = 0;
     let mut line: u32 = 1;
+    // No `split` at LF: behind the last one it would give a line more.
     while at < file.len() {
         let e = text::lines::line_end(file, at);
         match take_line(

@@ -31,6 +31,7 @@ pub fn write_whole<W: Write>(to: &mut W, text: &[u8]) -> io::Result<()>
     ensures { WritesText result (W.contents to.old) (W.contents to.new) text.now }
 {
     let mut done: usize = 0;
+    // A write takes any number of bytes, so this counts no index.
     while done < text.len() {
         let n = to.write(&text[done..])?;
         if n == 0 {

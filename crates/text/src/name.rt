@@ -13,7 +13,7 @@ pub fn is_name(w: &[u8]) -> bool
     w.first().is_some_and(|b| b.is_ascii_lowercase())
 }
 
-// The name that is the next word at or behind a place: its first place and the place behind it.
+// The name that stands next at or behind a place: its first place and the place behind it.
 pub fn name_at(l: &[u8], at: usize) -> Option<(usize, usize)>
     ensures { NameNext l.now at result }
 {

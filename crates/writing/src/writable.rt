@@ -52,6 +52,7 @@ fn atoms_writable(names: &[u8], prices: &[u32], n: usize) -> bool
     requires { (n ≤ 64) × (name_size ≤ length names.now) × (price_size ≤ length prices.now) }
     ensures { result ≡ every n (is_writable_atom names.now prices.now) }
 {
+    // No `all`: its closure would have to ask again what this function asks.
     for a in 0..n {
         if !is_writable_atom(names, prices, a) {
             return false;
