@@ -27,21 +27,21 @@ struct Load {
 }
 
 // Puts the text of a load, or of its refusal, in front of an output with room for every text, and answers its length.
-fn answer(load: Load, out: &mut [u8; TEXT_ROOM]) -> usize
-    ensures { Answered load.seed load.atoms load.clauses result out.new }
+fn answer(l: Load, out: &mut [u8; TEXT_ROOM]) -> usize
+    ensures { Answered l.seed l.atoms l.clauses result out.new }
 {
-    match generate(load.seed, load.atoms, load.clauses, out) {
+    match generate(l.seed, l.atoms, l.clauses, out) {
         Ok(length) => length,
         Err(refusal) => show_refusal(u32::from(refusal), 0, out).unwrap(),
     }
 }
 
 // Makes the text of a load, and writes it.
-fn run<W: Write>(to: &mut W, load: Load) -> io::Result<()>
-    ensures { WritesText result (W.contents to.old) (W.contents to.new) (load_answer load.seed load.atoms load.clauses) }
+fn run<W: Write>(to: &mut W, l: Load) -> io::Result<()>
+    ensures { WritesText result (W.contents to.old) (W.contents to.new) (load_answer l.seed l.atoms l.clauses) }
 {
     let mut out = [0; TEXT_ROOM];
-    let length = answer(load, &mut out);
+    let length = answer(l, &mut out);
     write_whole(to, &out[..length])
 }
 

@@ -14,4 +14,5 @@ unwrap-requires c =
 
 pub returns-in-Err : goal.returns-in-Err
 returns-in-Err c =
-    refusal-answered _ _ _ (omega arith) c.in-Err.ensures (rw (c.from.ensures, c.unwrap.ensures) at c.show_refusal.ensures)
+    let shown = rw (c.from.ensures, c.unwrap.ensures) at c.show_refusal.ensures in
+    refusal-answered _ _ _ (omega arith) c.in-Err.ensures shown
