@@ -3,7 +3,9 @@
 // argument.
 #![tactic(auto)]
 
-ghost use Rattle.tidy.specs.Program.{IsTidy, is_tidy-cut};
+ghost use Rattle.std.proofs.Common.{◌∙◌};
+ghost use Rattle.tidying.proofs.Theorems.{tidy_cut};
+ghost use Rattle.tidy.specs.Program.{IsTidy};
 
 use input::{Operation, answer, tell};
 use std::io::{self, Write};
@@ -20,11 +22,11 @@ struct Tidy;
 impl Operation for Tidy {
     ghost is_text = { IsTidy };
 
-    ghost cut = { is_tidy-cut };
+    ghost cut = { λ i t k h e. e ∙ tidy_cut i k h };
 
     fn write<W: Write>(&self, input: &[u8], to: &mut W) -> io::Result<()> {
-        let mut out = [0u8; TEXT_ROOM];
-        let length = tidy(input, &mut out).length;
+        let mut out = [0; TEXT_ROOM];
+        let length = tidy(input, &mut out).unwrap();
         write_whole(to, &out[..length])
     }
 }
@@ -38,7 +40,7 @@ fn main(rt: HostRuntime) {
         );
         return;
     }
-    let mut file = [0u8; FILE_ROOM];
+    let mut file = [0; FILE_ROOM];
     if let Err(fault) = answer(&Tidy, &mut rt.stdin(), &mut rt.stdout(), &mut file) {
         let _ = tell(&mut errors, "tidy", fault);
     }
