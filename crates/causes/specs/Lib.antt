@@ -1,2 +1,2 @@
--- Program: what the program's functions promise of what it reads and writes.
+-- Program: what the program writes of its input.
 pub mod Program

@@ -2,15 +2,14 @@
 // cannot be read or the report cannot be written whole, it says so on standard error. It takes no argument.
 #![tactic(auto)]
 
-ghost use Rattle.std.specs.Prelude.{◌<◌, length, take};
-ghost use Rattle.std.specs.Counts.{IsPrefixLen};
 ghost use Rattle.system.specs.Writing.{WritesText};
-ghost use Rattle.input.specs.Answering.{IsAnswered};
-ghost use Rattle.causes.specs.Program.{Answered, IsReport, ReportOf, WritesReport};
+ghost use Rattle.report.specs.Report.{report_text};
+ghost use Rattle.causes.specs.Program.{IsReport, is_report-cut};
 
-use input::{Fault, Input, end, read_input};
-use std::io::{self, Read, Write};
-use system::{argument_count, tell_fault, write_whole};
+use input::{Operation, answer, tell};
+use report::operation::report;
+use std::io::{self, Write};
+use system::{argument_count, write_whole};
 
 // Room for a byte more than a file may have (refusal 2), for the report of ten causes and less, and for every report
 // (crates/report/specs/Claims.antt).
@@ -20,52 +19,29 @@ const USUAL_ROOM: usize = 264640;
 
 const REPORT_ROOM: usize = 392640;
 
-// Puts the report of a file in front of an output with room for every report, and answers its length.
-fn answer(file: &[u8], out: &mut [u8; REPORT_ROOM]) -> usize
-    ensures { Answered file.now result out.new }
-{
-    let a = report::operation::report(file, out);
-    a.length
-}
+struct Causes;
 
-// Writes a text that is the report of the input. The buffer and what reading gave only say of which.
-fn write_report<W: Write>(to: &mut W, file: &[u8], input: Input, text: &[u8]) -> io::Result<()>
-    requires { ReportOf (length file.now) (take input.count file.now) text.now }
-    ensures { WritesText result (W.contents to.old) (W.contents to.new) text.now }
-{
-    write_whole(to, text)
-}
+impl Operation for Causes {
+    ghost is_text = { IsReport };
 
-// Writes the report of the input, whatever its length.
-fn write_long<W: Write>(to: &mut W, file: &[u8], input: Input) -> io::Result<()>
-    requires { IsPrefixLen input.count file.now × (32768 < length file.now) }
-    ensures { WritesReport (length file.now) (take input.count file.now) result (W.contents to.old)
-        (W.contents to.new) }
-{
-    let read = input.count;
-    let mut out = [0u8; REPORT_ROOM];
-    let length = answer(&file[..read], &mut out);
-    write_report(to, file, input, &out[..length])
-}
+    ghost cut = { is_report-cut };
 
-// Reads the input, and writes its report.
-fn run<R: Read, W: Write>(from: &mut R, to: &mut W) -> Result<(), Fault>
-    ensures { IsAnswered IsReport (R.remaining from.old) result (W.contents to.old) (W.contents to.new) }
-{
-    let mut file = [0u8; FILE_ROOM];
-    let input = read_input(from, &mut file);
-    let n = input.count;
-    if let Some(error) = input.fault {
-        return Err(Fault::Input(error));
+    fn write<W: Write>(&self, input: &[u8], to: &mut W) -> io::Result<()> {
+        let mut out = [0; USUAL_ROOM];
+        match report(input, &mut out) {
+            Ok(length) => write_whole(to, &out[..length]),
+            Err(_) => write_long(input, to),
+        }
     }
-    let mut out = [0u8; USUAL_ROOM];
-    let a = report::operation::report(&file[..n], &mut out);
-    let is_long = a.refusal != 0;
-    if is_long {
-        return end(write_long(to, &file, input));
-    }
-    let length = a.length;
-    end(write_report(to, &file, input, &out[..length]))
+}
+
+// Writes the report of a file, whatever its length.
+fn write_long<W: Write>(file: &[u8], to: &mut W) -> io::Result<()>
+    ensures { WritesText result (W.contents to.old) (W.contents to.new) (report_text file.now) }
+{
+    let mut out = [0; REPORT_ROOM];
+    let length = report(file, &mut out).unwrap();
+    write_whole(to, &out[..length])
 }
 
 fn main(rt: HostRuntime) {
@@ -77,13 +53,8 @@ fn main(rt: HostRuntime) {
         );
         return;
     }
-    match run(&mut rt.stdin(), &mut rt.stdout()) {
-        Ok(()) => {}
-        Err(Fault::Input(error)) => {
-            let _ = tell_fault(&mut errors, "causes: standard input", error);
-        }
-        Err(Fault::Output(error)) => {
-            let _ = tell_fault(&mut errors, "causes: standard output", error);
-        }
+    let mut file = [0; FILE_ROOM];
+    if let Err(fault) = answer(&Causes, &mut rt.stdin(), &mut rt.stdout(), &mut file) {
+        let _ = tell(&mut errors, "causes", fault);
     }
 }

@@ -3,22 +3,20 @@
 use mathlib.Core.Path.{◌≡◌, refl, sym, ap, ◌∙◌, subst}
 use mathlib.Core.Bool.{◌&&◌}
 use mathlib.Core.List.{List, [], ◌∷◌, ◌++◌}
-use Prim.Native.Nat.{ℕ, ◌+◌, ◌≤◌, ◌<◌}
+use Prim.Native.Nat.{ℕ, ◌+◌, ◌-◌, ◌≤◌, ◌<◌}
 use native.Mathlib.Omega.{arith}
-use denote.Enum.Declared.{tag_of}
-use types.Run.{OneOf, miss}
 use lib.Dec.{ltb}
-use lib.ListN.{length, length-append}
-use lib.Seq.{slice}
+use lib.ListN.{length, length-append, take, drop}
+use Rattle.std.specs.Prelude.{Some, None}
+use Rattle.text.proofs.Slices.{part_slice}
 use borrow.Author.Tests.{lt-ltb}
 use Rattle.words.specs.Bits.{has, word}
 use Rattle.words.proofs.Words.{has_word, is_word, word_lt}
 use Rattle.text.specs.Tokens.{tokens}
 use Rattle.text.proofs.Each.{Each}
 use Rattle.grammar.specs.declared.line.Form.{Form}
-use Rattle.grammar.specs.declared.line.Form.TheVariants.{Skipped, NoForm, Clause, Constraint, Seen, Query, Cost, Atom}
+use Rattle.grammar.specs.declared.line.Form.TheVariants.{Skipped, Clause, Constraint, Seen, Query, Cost, Atom}
 use Rattle.grammar.specs.declared.line.Form.TheVariants.{Edition}
-use Rattle.grammar.specs.contracts.line.Form.{the_type}
 use Rattle.grammar.specs.Line.{Line, line_names}
 use Rattle.grammar.specs.Bringing.{brings}
 use Rattle.grammar.specs.LineOf.{line_of}
@@ -123,9 +121,6 @@ module _ (st : Said) (c : Case) (t : Lent) (h : Held st c t) (long : Long t) (y 
 
 -- The ways out of `cost_atom`
 
-pub atom-many : {l na : List ℕ} {n : ℕ} → 64 < n → CostAtomIs l na n 64
-atom-many h = record { atom-is = λ k. absurd (omega arith) }
-
 module _ {l : List ℕ} {x : Form} (f : Formed l x) where
   form-told : {z : Form} → x ≡ z → FormIs l z (line_of (tokens l))
   form-told e = subst (λ q. FormIs l q (line_of (tokens l))) e f.form-is
@@ -137,26 +132,25 @@ module _ {l : List ℕ} {x : Form} (f : Formed l x) where
     pub name-within : e ≤ length l
     name-within = (form-told q).0.1
 
-    pub atom-found : {na : List ℕ} {n r : ℕ} → r ≡ row_of na n (slice a e l) → CostAtomIs l na n r
-    atom-found {na} {n} e = record { atom-is = λ _. e ∙ sym (ap (cost_atom (row_of na n)) (form-told q).1.line-is) }
+    pub atom-found : {na : List ℕ} {n r : ℕ} → r ≡ row_of na n (take (e - a) (drop a l)) → CostAtomIs l na n (Some r)
+    atom-found {na} {n} h = record {
+      atom-is =
+          h ∙ ap (row_of na n) (part_slice l a e name-onward)
+          ∙ sym (ap (cost_atom (row_of na n)) (form-told q).1.line-is);
+    }
 
--- the tags of the forms other than Cost
-abbrev others : List ℕ
-others = 0 ∷ (1 ∷ (2 ∷ (3 ∷ (4 ∷ (5 ∷ (7 ∷ (8 ∷ [])))))))
-
-other-atom : (at : List ℕ → ℕ) (l : List ℕ) (x : Form) (y : Line) → OneOf others (tag_of the_type x) → FormIs l x y
-    → cost_atom at y ≡ 64
+other-atom : (at : List ℕ → ℕ) (l : List ℕ) (x : Form) (y : Line) → ((a e p d : ℕ) → x ≡ Cost a e p d → ⊥)
+    → FormIs l x y → cost_atom at y ≡ 64
 other-atom at l Skipped y o f = rw f
-other-atom at l NoForm y o f = rw f
 other-atom at l (Clause k a e n) y o f = rw f.2.line-is
 other-atom at l (Constraint k i n) y o f = rw f.1.line-is
 other-atom at l (Seen i) y o f = rw f.line-is
 other-atom at l (Query i d) y o f = rw f.line-is
-other-atom at l (Cost a e p d) y o f = absurd (miss others 6 tt o)
+other-atom at l (Cost a e p d) y o f = absurd (o a e p d refl)
 other-atom at l (Atom a e) y o f = rw f.1
 other-atom at l (Edition n) y o f = rw f.2
 
-pub atom-none : {l na : List ℕ} {x : Form} {n : ℕ} → Formed l x → OneOf others (tag_of the_type x)
-    → CostAtomIs l na n 64
+pub atom-none : {l na : List ℕ} {x : Form} {n : ℕ} → Formed l x → ((a e p d : ℕ) → x ≡ Cost a e p d → ⊥)
+    → CostAtomIs l na n None
 atom-none {l} {na} {x} {n} f o =
-    record { atom-is = λ _. sym (other-atom (row_of na n) l x (line_of (tokens l)) o f.form-is) }
+    record { atom-is = sym (other-atom (row_of na n) l x (line_of (tokens l)) o f.form-is) }

@@ -5,10 +5,10 @@
 --
 --   costed_in cs         the atoms of the rows cs of costs, bit i for atom i
 --   cost_atom at x       the atom of the name of the cost x, by the lookup at, 64 where x is no cost
---   CostAtomIs l na n r r is that of the line l, by the first n names in the table na, where they are at most 64
+--   CostAtomIs l na n r r is that of the line l, by the first n names in the table na
 --   Reached st p t      p and the tables t hold st, which has one edition line at most
 --   Bounded p           the counts of p are within the limits
-use Rattle.std.specs.Prelude.{◌≡◌, List, ℕ, ◌≤◌, length}
+use Rattle.std.specs.Prelude.{◌≡◌, List, ℕ, ◌≤◌, length, Option, unwrap_or}
 use Rattle.words.specs.Bits.{word}
 use Rattle.text.specs.Tokens.{tokens}
 use Rattle.grammar.specs.Line.{Line}
@@ -34,8 +34,8 @@ cost_atom at (Line.cost w p s) = at w
 cost_atom at (Line.atom w) = 64
 cost_atom at (Line.edition e) = 64
 
-pub record CostAtomIs (l na : List ℕ) (n r : ℕ) : Type 0 where
-  pub atom-is : n ≤ 64 → r ≡ cost_atom (row_of na n) (line_of (tokens l))
+pub record CostAtomIs (l na : List ℕ) (n : ℕ) (r : Option ℕ) : Type 0 where
+  pub atom-is : unwrap_or r 64 ≡ cost_atom (row_of na n) (line_of (tokens l))
 
 pub record Reached (st : Said) (p : Progress) (t : Lent) : Type 0 where
   pub held : Held st p.found t

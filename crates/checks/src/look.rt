@@ -2,31 +2,30 @@
 ghost use Rattle.checks.specs.Looked.{LookedAs};
 
 use grammar::line::{Form, form_of};
+use refusals::Refusal;
 
-// What a line is: refused with a number, a comment, or a line with its form.
+// What a line is: a comment, or a line with its form.
 #[derive(Clone, Copy)]
 pub enum Looked {
-    Refused(u32),
     Comment,
     Line(Form),
 }
 
-// What a line is.
-pub fn look(l: &[u8]) -> Looked
+// What a line is, unless it is refused.
+pub fn look(l: &[u8]) -> Result<Looked, Refusal>
     ensures { LookedAs l.now result }
 {
     if text::lines::is_comment(l) {
-        return Looked::Comment;
+        return Ok(Looked::Comment);
     }
-    if 200 < l.len() {
-        return Looked::Refused(3);
+    if l.len() > 200 {
+        return Err(Refusal::LongLine);
     }
     if !text::bytes::all_allowed(l) {
-        return Looked::Refused(4);
+        return Err(Refusal::StrangeByte);
     }
-    let x = form_of(l);
-    let Form::NoForm = x else {
-        return Looked::Line(x);
-    };
-    Looked::Refused(5)
+    match form_of(l) {
+        Some(form) => Ok(Looked::Line(form)),
+        None => Err(Refusal::NoForm),
+    }
 }

@@ -1,88 +1,109 @@
 // Taking a line: its checks, and what it adds to the record and the tables.
-ghost use Rattle.std.specs.Prelude.{◌≡◌};
+ghost use Rattle.std.specs.Prelude.{◌≡◌, ◌&&◌, ℕ, ◌≤◌, ltb, length, unwrap_or};
+ghost use Rattle.words.specs.Bits.{has};
 ghost use Rattle.words.specs.Choice.{first_failed};
+ghost use Rattle.refusals.specs.Refusal.{refused_as};
+ghost use Rattle.program.specs.Case.{name_size};
 ghost use Rattle.text.specs.Tokens.{tokens};
 ghost use Rattle.text.specs.Words.{names_in};
 ghost use Rattle.store.specs.Lent.{lent};
 ghost use Rattle.store.specs.Held.{Long, InLimits};
+ghost use Rattle.store.specs.Masks.{with_atom};
 ghost use Rattle.checks.specs.Checks.{price_fits, text_checks, room_checks};
 ghost use Rattle.checks.specs.Looked.{Formed};
-ghost use Rattle.checks.specs.Progress.{Bounded};
+ghost use Rattle.checks.specs.Progress.{Bounded, CostAtomIs};
 ghost use Rattle.checks.specs.Took.{FormTaken, LineTaken};
 
 use crate::look::{Looked, look};
-use crate::progress::{Progress, cost_atom, is_costed};
+use crate::progress::{Progress, is_costed};
 use grammar::brings::Brings;
 use grammar::line::{Form, brings};
 use program::case::Case;
+use refusals::Refusal;
+use store::atom::atom_of;
 use store::form::store_form;
 use store::masks::with_atom;
 use store::price::price_of;
 
-// What taking a line answers: 0 and what is known after it, or the number of its refusal.
-#[derive(Clone, Copy)]
-pub struct Taken {
-    pub refusal: u32,
-    pub reached: Progress,
-}
-
-// The number of the first of the checks 6, 7 and 20 that a line fails, or 0.
-fn text_refusal(l: &[u8], b: Brings) -> u32
-    ensures { result ≡ first_failed (text_checks (names_in (tokens l.now)) b) }
+// The checks 6, 7 and 20 of a line that brings something.
+fn check_text(l: &[u8], b: Brings) -> Result<(), Refusal>
+    ensures { refused_as result ≡ first_failed (text_checks (names_in (tokens l.now)) b) }
 {
     if names::some_long(l) {
-        return 6;
+        return Err(Refusal::LongName);
     }
-    if 16 < b.depth {
-        return 7;
+    if b.depth > 16 {
+        return Err(Refusal::DeepFormula);
     }
-    if 11 < b.literals {
-        return 20;
+    if b.literals > 11 {
+        return Err(Refusal::ManyLiterals);
     }
-    0
+    Ok(())
 }
 
 // Whether a price, the price worked out with a supplement, and the supplement pass check 16.
 fn price_fits(price: usize, supplement: usize) -> bool
     ensures { result ≡ price_fits price supplement }
 {
-    if 2000000 < price {
-        return false;
-    }
-    if 100 < supplement {
-        return false;
-    }
-    price_of(price, supplement) <= 2000000
+    price <= 2000000 && supplement <= 100 && price_of(price, supplement) <= 2000000
 }
 
-// The number of the first of the checks from 8 to 10 that a line fails, with a number of names, or 0; second tells
-// whether it is a second cost.
-fn room_refusal(b: Brings, c: Case, atoms: usize, second: bool) -> u32
+// The checks 9, 16, 17 and 10 of a line with at most 64 names; second tells whether it is a second cost.
+fn check_room(b: Brings, c: Case, second: bool) -> Result<(), Refusal>
     requires { InLimits c }
-    ensures { result ≡ first_failed (room_checks atoms c.clauses c.constraints c.formulas second b) }
+    ensures { (atoms : ℕ) → atoms ≤ 64
+        → refused_as result ≡ first_failed (room_checks atoms c.clauses c.constraints c.formulas second b) }
 {
-    if Case::ATOMS < atoms {
-        return 8;
+    if b.clauses > Case::CLAUSES - c.clauses {
+        return Err(Refusal::ManyRules);
     }
-    if Case::CLAUSES - c.clauses < b.clauses {
-        return 9;
-    }
-    if Case::CONSTRAINTS - c.constraints < b.constraints {
-        return 9;
+    if b.constraints > Case::CONSTRAINTS - c.constraints {
+        return Err(Refusal::ManyRules);
     }
     if !price_fits(b.price, b.supplement) {
-        return 16;
+        return Err(Refusal::HighPrice);
     }
     if second {
-        return 17;
+        return Err(Refusal::SecondCost);
     }
-    if Case::FORMULAS - c.formulas < b.queries {
-        return 10;
+    if b.queries > Case::FORMULAS - c.formulas {
+        return Err(Refusal::ManyQueries);
     }
-    0
+    Ok(())
 }
 
-// Takes a line by its form: the checks from 6 on, then stores it.
+// The atom of the name of a cost by a table of count names, where a line is a cost.
+fn cost_atom(l: &[u8], x: Form, names: &[u8], count: usize) -> Option<usize>
+    requires { Formed l.now x × (count ≤ 64) × (name_size ≤ length names.now) }
+    ensures { CostAtomIs l.now names.now count result }
+{
+    match x {
+        Form::Cost(a, e, _, _) => Some(atom_of(names, count, &l[a..e])),
+        _ => None,
+    }
+}
+
+// Whether the atom of a line is one of those with a cost line.
+fn is_second(costed: u64, atom: Option<usize>) -> bool
+    ensures { result ≡ (ltb (unwrap_or atom 64) 64 && has costed (unwrap_or atom 64)) }
+{
+    match atom {
+        Some(a) => is_costed(costed, a),
+        None => false,
+    }
+}
+
+// The atoms with a cost line, with that of a line.
+fn with_cost(costed: u64, atom: Option<usize>) -> u64
+    ensures { result ≡ with_atom costed (unwrap_or atom 64) }
+{
+    match atom {
+        Some(a) => with_atom(costed, a),
+        None => costed,
+    }
+}
+
+// Takes a line by its form: the checks from 6 on, then stores it. The tables are apart as in `store_form`.
 fn take_form(
     l: &[u8],
     x: Form,
@@ -92,7 +113,7 @@ fn take_form(
     formula: &mut [u8],
     names: &mut [u8],
     prices: &mut [u32],
-) -> Taken
+) -> Result<Progress, Refusal>
     requires { Long (lent clauses.old constraints.old formula.old names.old prices.old)
         × Bounded p × Formed l.now x }
     ensures { FormTaken l.now p
@@ -102,44 +123,26 @@ fn take_form(
         prices.new) }
 {
     let b = brings(x);
-    let early = text_refusal(l, b);
-    if early != 0 {
-        return Taken {
-            refusal: early,
-            reached: p,
-        };
-    }
+    check_text(l, b)?;
     let c = p.found;
-    let atoms = names::intern_line(l, names, c.atoms);
+    let Some(atoms) = names::intern_line(l, names, c.atoms) else {
+        return Err(Refusal::ManyNames);
+    };
     let atom = cost_atom(l, x, names, atoms);
-    let late = room_refusal(b, c, atoms, is_costed(p.costed, atom));
-    if late != 0 {
-        return Taken {
-            refusal: late,
-            reached: p,
-        };
+    check_room(b, c, is_second(p.costed, atom))?;
+    if b.editions > 1 - p.editions {
+        return Err(Refusal::SecondEdition);
     }
-    if 1 - p.editions < b.editions {
-        return Taken {
-            refusal: 21,
-            reached: p,
-        };
-    }
-    let mut named = c;
-    named.atoms = atoms;
+    let named = Case { atoms, ..c };
     let found = store_form(l, x, named, names, clauses, constraints, formula, prices);
-    let costed = with_atom(p.costed, atom);
-    Taken {
-        refusal: 0,
-        reached: Progress {
-            found,
-            costed,
-            editions: p.editions + b.editions,
-        },
-    }
+    Ok(Progress {
+        found,
+        costed: with_cost(p.costed, atom),
+        editions: p.editions + b.editions,
+    })
 }
 
-// Takes a line: looks at it, then takes it by its form.
+// Takes a line: looks at it, then takes it by its form. The tables are apart as in `store_form`.
 pub fn take_line(
     l: &[u8],
     p: Progress,
@@ -148,7 +151,7 @@ pub fn take_line(
     formula: &mut [u8],
     names: &mut [u8],
     prices: &mut [u32],
-) -> Taken
+) -> Result<Progress, Refusal>
     requires { Long (lent clauses.old constraints.old formula.old names.old prices.old)
         × Bounded p }
     ensures { LineTaken l.now p
@@ -157,15 +160,8 @@ pub fn take_line(
         (lent clauses.new constraints.new formula.new names.new
         prices.new) }
 {
-    match look(l) {
-        Looked::Refused(number) => Taken {
-            refusal: number,
-            reached: p,
-        },
-        Looked::Comment => Taken {
-            refusal: 0,
-            reached: p,
-        },
+    match look(l)? {
+        Looked::Comment => Ok(p),
         Looked::Line(x) => take_form(l, x, p, clauses, constraints, formula, names, prices),
     }
 }

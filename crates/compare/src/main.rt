@@ -3,7 +3,8 @@
 // or a line cannot be written, it says so on standard error and ends.
 #![tactic(auto)]
 
-ghost use Rattle.std.specs.Prelude.{◌≤◌};
+ghost use Rattle.std.specs.Prelude.{IfOk};
+ghost use Rattle.std.specs.Counts.{IsPrefixLen};
 ghost use Rattle.system.specs.Writing.{WritesText};
 ghost use Rattle.compare.specs.Program.{outcome_line};
 
@@ -12,11 +13,11 @@ use std::env::Env;
 use std::io::{self, Write};
 use system::{argument, argument_count, tell_fault, write_whole};
 
-// How the first e bytes of a word compare with row 1.
-fn compare_row(names: &[u8; 1024], word: &[u8; 32], e: usize) -> Compared
-    requires { e ≤ 32 }
-{
-    compare(names, 1, word, 0, e)
+// Why a line has not been written: an argument is missing, empty or longer than its room, or the output failed.
+#[derive(Clone, Copy)]
+enum Fault {
+    Arguments,
+    Output(io::Error),
 }
 
 // Writes the line of an outcome.
@@ -30,44 +31,53 @@ fn write_outcome<W: Write>(to: &mut W, c: Compared) -> io::Result<()>
     }
 }
 
-// Compares argument i with argument j, an entry in a row between full ones, and answers whether the outcome is written.
-fn compare_pair<W: Write, E: Write>(
+// Puts argument i at the start of a buffer, and answers its length.
+fn word(arguments: &impl Env, i: usize, buf: &mut [u8]) -> Result<usize, Fault>
+    ensures { IfOk result (λ n. IsPrefixLen n buf.new) }
+{
+    match argument(arguments, i, buf) {
+        None | Some(0) => Err(Fault::Arguments),
+        Some(n) => Ok(n),
+    }
+}
+
+// Compares argument i with argument j, an entry in a row between full ones, and writes the outcome.
+fn compare_pair<W: Write>(
     arguments: &impl Env,
     i: usize,
     j: usize,
     to: &mut W,
-    errors: &mut E,
-) -> bool {
-    let mut word = [0u8; 32];
+) -> Result<(), Fault> {
+    let mut words = [0u8; 32];
+    let n = word(arguments, i, &mut words)?;
     let mut entry = [0u8; 16];
-    let e = argument(arguments, i, &mut word);
-    let n = argument(arguments, j, &mut entry);
-    if e == 0 || n == 0 {
-        let _ = write_whole(
-            errors,
-            b"compare: takes pairs of a word of 1 to 32 bytes and an entry of 1 to 16\n",
-        );
-        return false;
-    }
+    let m = word(arguments, j, &mut entry)?;
     let mut names = [b'a'; 1024];
-    table::put_row(&mut names, 16, 16, &entry, 0, n);
-    if let Err(error) = write_outcome(to, compare_row(&names, &word, e)) {
-        let _ = tell_fault(errors, "compare: standard output", error);
-        return false;
+    table::put_row(&mut names, 16, 16, &entry[..m]);
+    let outcome = compare(&names, 1, &words[..n]);
+    write_outcome(to, outcome).map_err(Fault::Output)
+}
+
+// Compares each pair of arguments.
+fn run<W: Write>(arguments: &impl Env, to: &mut W) -> Result<(), Fault> {
+    for k in 0..argument_count(arguments) / 2 {
+        compare_pair(arguments, 2 * k + 1, 2 * k + 2, to)?;
     }
-    true
+    Ok(())
 }
 
 fn main(rt: HostRuntime) {
-    for k in 0..argument_count(&rt) / 2 {
-        if !compare_pair(
-            &rt,
-            2 * k + 1,
-            2 * k + 2,
-            &mut rt.stdout(),
-            &mut rt.stderr(),
-        ) {
-            return;
+    let mut errors = rt.stderr();
+    match run(&rt, &mut rt.stdout()) {
+        Ok(()) => {}
+        Err(Fault::Arguments) => {
+            let _ = write_whole(
+                &mut errors,
+                b"compare: takes pairs of a word of 1 to 32 bytes and an entry of 1 to 16\n",
+            );
+        }
+        Err(Fault::Output(error)) => {
+            let _ = tell_fault(&mut errors, "compare: standard output", error);
         }
     }
 }

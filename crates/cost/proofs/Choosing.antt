@@ -1,6 +1,7 @@
 -- The minimal settings of a block taken one by one into the cheapest. Assumes nothing.
 use mathlib.Core.Path.{◌≡◌, refl, sym, ap, subst, ◌∙◌}
 use mathlib.Core.List.{List, [], ◌∷◌, ◌++◌, append-nil, append_assoc}
+use Rattle.std.specs.Prelude.{Option}
 use Prim.Native.Nat.{ℕ, ◌+◌}
 use Rattle.words.specs.OneBit.{without_bit, LowestOf}
 use Rattle.words.proofs.Bits.{has-zero}
@@ -13,13 +14,13 @@ use Rattle.cost.specs.Block.{settings_at}
 use Rattle.cost.proofs.Lanes.{settings-at-none, settings-at_lowest}
 
 -- x and y are the planes of a block, w its minimal lanes, of which left are to come; best was the cheapest before
-pub record Choosing (pr x y : List ℕ) (first w : ℕ) (best r : Cheapest) (left : ℕ) : Type 0 where
+pub record Choosing (pr x y : List ℕ) (first w : ℕ) (best r : Option Cheapest) (left : ℕ) : Type 0 where
   pub passed : List ℕ
   pub all_are : passed ++ settings_at first left 64 ≡ settings_at first w 64
   pub chosen : (causes : Causes) (l : List ℕ) → Filled causes first x y → Chosen (cost_under pr causes) l best
       → Chosen (cost_under pr causes) (l ++ passed) r
 
-module _ {pr x y : List ℕ} {first w : ℕ} {best : Cheapest} where
+module _ {pr x y : List ℕ} {first w : ℕ} {best : Option Cheapest} where
   pub choosing_start : Choosing pr x y first w best best w
   choosing_start = record {
     passed = [];
@@ -27,8 +28,8 @@ module _ {pr x y : List ℕ} {first w : ℕ} {best : Cheapest} where
     chosen = λ causes l f c. subst (λ (m : List ℕ). Chosen (cost_under pr causes) m best) (sym (append-nil l)) c;
   }
 
-  module _ {r : Cheapest} {left : ℕ} (k : Choosing pr x y first w best r left) where
-    pub choosing_next : {j n : ℕ} {r₁ : Cheapest} → LowestOf left j
+  module _ {r : Option Cheapest} {left : ℕ} (k : Choosing pr x y first w best r left) where
+    pub choosing_next : {j n : ℕ} {r₁ : Option Cheapest} → LowestOf left j
         → ((causes : Causes) (s : ℕ) → Filled causes s x y → n ≡ cost_under pr causes (s + j))
         → ((f : ℕ → ℕ) (l : List ℕ) → n ≡ f (first + j) → Chosen f l r → Chosen f (l ++ ((first + j) ∷ [])) r₁)
         → Choosing pr x y first w best r₁ (without_bit left j)

@@ -3,13 +3,23 @@
 use mathlib.Core.Path.{◌≡◌, refl, sym, ap, ◌∙◌}
 use mathlib.Core.Bool.{Bool, true, false, true≢false, false≢true}
 use mathlib.Core.List.{List, [], ◌∷◌, ◌++◌}
+use Rattle.std.specs.Prelude.{Option, None, Some}
 use Prim.Native.Nat.{ℕ, ◌≤◌, ◌<◌}
 use native.Mathlib.Omega.{arith}
 use lib.Dec.{ltb}
 use borrow.Author.Tests.{lt-ltb, le-ltb}
 use Rattle.words.specs.Choice.{pick}
 use Rattle.cost.specs.declared.cheapest.Cheapest.{Cheapest}
-use Rattle.cost.specs.Cheapest.{cheaper, cheapest_of, lowest_cost, none_chosen, Chosen}
+use Rattle.cost.specs.Cheapest.{cheaper, cheapest_of, lowest_cost, Chosen}
+
+-- whether there is a cheapest, and which it is, otherwise another
+abbrev some : Option Cheapest → Bool
+some None = false
+some (Some k) = true
+
+abbrev or : Cheapest → Option Cheapest → Cheapest
+or d None = d
+or d (Some k) = k
 
 module _ (f : ℕ → ℕ) where
   -- ---- the first of least cost
@@ -66,51 +76,56 @@ module _ (f : ℕ → ℕ) where
   cheapest_free s l m e = cheaper-append s l m ∙ cheaper-free (cheaper f s l) m e
 
   -- ---- what is chosen
-  pub chosen_none : Chosen f [] none_chosen
-  chosen_none = record { some_is = refl; cost-is = sym lowest_none; setting-is = sym cheapest_none }
+  pub chosen_none : Chosen f [] None
+  chosen_none = refl
 
-  -- the setting t, which costs n
-  abbrev chosen_one : ℕ → ℕ → Cheapest
-  chosen_one t n = record { some = true; cost = n; setting = t }
+  -- what is chosen of a list with a setting
+  module _ (s : ℕ) (l : List ℕ) {k : Cheapest} where
+    pub chosen-some : k.cost ≡ lowest_cost f (s ∷ l) → k.setting ≡ cheapest_of f (s ∷ l) → Chosen f (s ∷ l) (Some k)
+    chosen-some p q i = Some (record { cost = p i; setting = q i })
+
+    module _ (c : Chosen f (s ∷ l) (Some k)) where
+      pub cost-is : k.cost ≡ lowest_cost f (s ∷ l)
+      cost-is = ap (λ (o : Option Cheapest). (or k o).cost) c
+
+      pub setting-is : k.setting ≡ cheapest_of f (s ∷ l)
+      setting-is = ap (λ (o : Option Cheapest). (or k o).setting) c
 
   -- settings more, and the cheapest stays
-  chosen-same : (s : ℕ) (l m : List ℕ) {k : Cheapest} → Chosen f (s ∷ l) k
-      → cheapest_of f ((s ∷ l) ++ m) ≡ cheapest_of f (s ∷ l) → Chosen f ((s ∷ l) ++ m) k
-  chosen-same s l m c q = record {
-    some_is = c.some_is;
-    cost-is = c.cost-is ∙ lowest-is s l ∙ ap f (sym q) ∙ sym (lowest-is s (l ++ m));
-    setting-is = c.setting-is ∙ sym q;
-  }
+  chosen-same : (s : ℕ) (l m : List ℕ) {k : Cheapest} → Chosen f (s ∷ l) (Some k)
+      → cheapest_of f ((s ∷ l) ++ m) ≡ cheapest_of f (s ∷ l) → Chosen f ((s ∷ l) ++ m) (Some k)
+  chosen-same s l m c q =
+      chosen-some s (l ++ m)
+      (cost-is s l c ∙ lowest-is s l ∙ ap f (sym q) ∙ sym (lowest-is s (l ++ m)))
+      (setting-is s l c ∙ sym q)
 
-  module _ {k : Cheapest} {t n : ℕ} where
-    pub chosen-first : (l : List ℕ) → Chosen f l k → k.some ≡ false → n ≡ f t
-        → Chosen f (l ++ (t ∷ [])) (chosen_one t n)
-    chosen-first [] c h e = record {
-      some_is = refl;
-      cost-is = e ∙ ap f (sym (cheapest_one t)) ∙ sym (lowest-is t []);
-      setting-is = sym (cheapest_one t);
-    }
-    chosen-first (s ∷ l) c h e = absurd (true≢false (sym c.some_is ∙ h))
+  module _ {k : Cheapest} where
+    pub chosen-first : (l : List ℕ) → Chosen f l None → k.cost ≡ f k.setting
+        → Chosen f (l ++ (k.setting ∷ [])) (Some k)
+    chosen-first [] c e =
+        chosen-some k.setting []
+        (e ∙ ap f (sym (cheapest_one k.setting)) ∙ sym (lowest-is k.setting []))
+        (sym (cheapest_one k.setting))
+    chosen-first (s ∷ l) c e = absurd (false≢true (ap some c))
 
-    pub chosen_less : (l : List ℕ) → Chosen f l k → k.some ≡ true → n < k.cost → n ≡ f t
-        → Chosen f (l ++ (t ∷ [])) (chosen_one t n)
-    chosen_less [] c h m e = absurd (false≢true (sym c.some_is ∙ h))
-    chosen_less (s ∷ l) c h m e =
-        let q = cheapest_less s l t (omega (arith, c.cost-is, lowest-is s l)) in
-        record {
-          some_is = refl;
-          cost-is = e ∙ ap f (sym q) ∙ sym (lowest-is s (l ++ (t ∷ [])));
-          setting-is = sym q;
-        }
+    module _ {best : Cheapest} where
+      pub chosen_less : (l : List ℕ) → Chosen f l (Some best) → k.cost < best.cost → k.cost ≡ f k.setting
+          → Chosen f (l ++ (k.setting ∷ [])) (Some k)
+      chosen_less [] c m e = absurd (true≢false (ap some c))
+      chosen_less (s ∷ l) c m e =
+          let q = cheapest_less s l k.setting (omega (arith, cost-is s l c, lowest-is s l)) in
+          chosen-some s (l ++ (k.setting ∷ []))
+          (e ∙ ap f (sym q) ∙ sym (lowest-is s (l ++ (k.setting ∷ []))))
+          (sym q)
 
-    pub chosen-kept : (l : List ℕ) → Chosen f l k → k.some ≡ true → k.cost ≤ n → n ≡ f t
-        → Chosen f (l ++ (t ∷ [])) k
-    chosen-kept [] c h m e = absurd (false≢true (sym c.some_is ∙ h))
-    chosen-kept (s ∷ l) c h m e =
-        let q = cheapest_kept s l t (omega (arith, c.cost-is, lowest-is s l)) in
-        chosen-same s l (t ∷ []) c q
+      pub chosen-kept : (l : List ℕ) → Chosen f l (Some best) → best.cost ≤ k.cost → k.cost ≡ f k.setting
+          → Chosen f (l ++ (k.setting ∷ [])) (Some best)
+      chosen-kept [] c m e = absurd (true≢false (ap some c))
+      chosen-kept (s ∷ l) c m e =
+          let q = cheapest_kept s l k.setting (omega (arith, cost-is s l c, lowest-is s l)) in
+          chosen-same s l (k.setting ∷ []) c q
 
-  pub chosen-free : (l m : List ℕ) {k : Cheapest} → Chosen f l k → k.some ≡ true → k.cost ≡ 0 → Chosen f (l ++ m) k
-  chosen-free [] m c h z = absurd (false≢true (sym c.some_is ∙ h))
-  chosen-free (s ∷ l) m c h z =
-      chosen-same s l m c (cheapest_free s l m (sym (lowest-is s l) ∙ sym c.cost-is ∙ z))
+  pub chosen-free : (l m : List ℕ) {k : Cheapest} → Chosen f l (Some k) → k.cost ≡ 0 → Chosen f (l ++ m) (Some k)
+  chosen-free [] m c z = absurd (true≢false (ap some c))
+  chosen-free (s ∷ l) m c z =
+      chosen-same s l m c (cheapest_free s l m (sym (lowest-is s l) ∙ sym (cost-is s l c) ∙ z))

@@ -5,10 +5,9 @@
 --   cheaper f s l     the first of least cost among s and the settings of l
 --   cheapest_of f l   the first of least cost in l, 0 where l is empty
 --   lowest_cost f l   what it costs, 0 where l is empty
---   some l            whether l has a setting
---   none_chosen       before the first setting
---   Chosen f l k      k is the cheapest of l, and whether there is one
-use Rattle.std.specs.Prelude.{◌≡◌, Bool, true, false, List, [], ◌∷◌, ℕ, ltb}
+--   chosen_of f l     the cheapest of l and what it costs, where l has a setting
+--   Chosen f l k      k is the cheapest of l and what it costs, or none
+use Rattle.std.specs.Prelude.{◌≡◌, List, [], ◌∷◌, ℕ, Option, None, Some, ltb}
 use Rattle.words.specs.Choice.{pick}
 use Rattle.cost.specs.declared.cheapest.Cheapest.{Cheapest}
 
@@ -24,14 +23,9 @@ unfoldable pub lowest_cost : (ℕ → ℕ) → List ℕ → ℕ
 lowest_cost f [] = 0
 lowest_cost f (s ∷ l) = f (cheapest_of f (s ∷ l))
 
-abbrev pub some : List ℕ → Bool
-some [] = false
-some (s ∷ l) = true
+abbrev pub chosen_of : (ℕ → ℕ) → List ℕ → Option Cheapest
+chosen_of f [] = None
+chosen_of f (s ∷ l) = Some (record { cost = lowest_cost f (s ∷ l); setting = cheapest_of f (s ∷ l) })
 
-abbrev pub none_chosen : Cheapest
-none_chosen = record { some = false; cost = 0; setting = 0 }
-
-pub record Chosen (f : ℕ → ℕ) (l : List ℕ) (k : Cheapest) : Type 0 where
-  pub some_is : k.some ≡ some l
-  pub cost-is : k.cost ≡ lowest_cost f l
-  pub setting-is : k.setting ≡ cheapest_of f l
+abbrev pub Chosen : (ℕ → ℕ) → List ℕ → Option Cheapest → Type 0
+Chosen f l k = k ≡ chosen_of f l

@@ -6,17 +6,17 @@ ghost use Rattle.program.specs.Case.{price_size};
 ghost use Rattle.planes.specs.Fill.{Filled};
 ghost use Rattle.cost.specs.Cost.{cost_under, priced_in};
 
+use planes::fill::AddedPlanes;
+use words::walk::bits_of;
+
 // The atoms with a price above 0.
 pub fn priced_in(prices: &[u32]) -> u64
     requires { price_size ≤ length prices.now }
     ensures { result ≡ priced_in prices.now }
 {
     let mut priced: u64 = 0;
-    let mut a: u32 = 0;
-    while a < 64 {
-        let at = a as usize;
-        priced = words::with_bit(priced, 0 < prices[at], a);
-        a += 1;
+    for a in 0..64 {
+        priced = words::with_bit(priced, 0 < prices[a as usize], a);
     }
     priced
 }
@@ -25,26 +25,20 @@ pub fn priced_in(prices: &[u32]) -> u64
 fn price_if(on: bool, price: u32) -> u64
     ensures { result ≡ pick on price 0 }
 {
-    if on {
-        return price as u64;
-    }
-    0
+    if on { price as u64 } else { 0 }
 }
 
-// The cost of the set in lane j of the planes x of facts and y of assumptions; priced has the atoms with a price above
-// 0.
-pub fn cost_in(prices: &[u32], priced: u64, x: &[u64; 64], y: &[u64; 64], j: u32) -> u64
+// The cost of the set in lane j of what settings add; priced has the atoms with a price above 0.
+pub fn cost_in(prices: &[u32], priced: u64, added: &AddedPlanes, j: u32) -> u64
     requires { (price_size ≤ length prices.now) × (priced ≡ priced_in prices.now) × (j < 64) }
-    ensures { (causes : Causes) (s : ℕ) → Filled causes s x.now y.now
+    ensures { (causes : Causes) (s : ℕ) → Filled causes s added.now.facts added.now.assumptions
         → result ≡ cost_under prices.now causes (s + j) }
 {
     let mut cost: u64 = 0;
-    let mut left = priced;
-    while left != 0 {
-        let a = words::lowest_bit(left) as usize;
-        let added = words::test(x[a] | y[a], j);
-        cost = cost + price_if(added, prices[a]);
-        left = words::without_lowest(left);
+    for a in bits_of(priced) {
+        let at = a as usize;
+        let on = words::test(added.facts[at] | added.assumptions[at], j);
+        cost += price_if(on, prices[at]);
     }
     cost
 }

@@ -4,30 +4,65 @@
 #![tactic(auto)]
 
 ghost use Rattle.std.specs.Prelude.{◌≡◌, [], ◌∷◌, ◌++◌, ◌≤◌, length};
-ghost use Rattle.words.specs.Bits.{digit};
 ghost use Rattle.words.specs.Lists.{over};
+ghost use Rattle.refusals.specs.Refusal.{refused_as};
 ghost use Rattle.store.specs.Lent.{lent};
-ghost use Rattle.embed.specs.Words.{case_words, case_in, settled_words, asked_words};
+ghost use Rattle.reader.specs.Answers.{refusal_in};
+ghost use Rattle.embed.specs.Words.{case_in, found_words, settled_words, asked_words, layers_words, length_words};
 ghost use Rattle.embed.specs.Operation.{ReadOut, SettleOut, QuestionOut, LayersOut};
 ghost use Rattle.embed.specs.Operation.{WriteOut, ReportOut, GenerateOut};
 
+use layering::answer::Layers;
 use program::case::Case;
+use program::tables::Tables;
+use reader::read::Refused;
+use refusals::Refusal;
+use settle::settle::Settled;
+use std::array;
+use store::lent::LentTables;
+
+// The words of a case record.
+const CASE_WORDS: usize = 23;
 
 // The words of an answer that is the length of a text.
 const LENGTH_WORDS: usize = 1;
+
+// The number of the refusal of lent words that are too few.
+const TOO_FEW: u32 = 1;
+
+// The number of the refusal, 0 for none.
+fn number<T: Copy>(answer: Result<T, Refusal>) -> u32
+    ensures { result ≡ refused_as answer }
+{
+    match answer {
+        Ok(_) => 0,
+        Err(refusal) => u32::from(refusal),
+    }
+}
+
+// The number of the refusal of a file, 0 for none.
+fn number_read(found: Result<Case, Refused>) -> u32
+    ensures { result ≡ refusal_in found }
+{
+    match found {
+        Ok(_) => 0,
+        Err(refused) => u32::from(refused.refusal),
+    }
+}
 
 // The counts in 16 words.
 fn counts_in(words: &[u64]) -> [usize; 16]
     requires { length words.now ≡ 16 }
     ensures { result ≡ words.now }
 {
-    let mut counts = [0usize; 16];
-    let mut i: usize = 0;
-    while i < 16 {
-        counts[i] = words[i] as usize;
-        i += 1;
-    }
-    counts
+    array::from_fn(|i| words[i] as usize)
+}
+
+// The words of 16 counts.
+fn words_of(counts: [usize; 16]) -> [u64; 16]
+    ensures { result ≡ counts }
+{
+    counts.map(|count| count as u64)
 }
 
 // The case record in 23 words.
@@ -35,7 +70,6 @@ fn case_in(fields: &[u64]) -> Case
     requires { 23 ≤ length fields.now }
     ensures { result ≡ case_in fields.now }
 {
-    let nodes = counts_in(&fields[6..22]);
     Case {
         atoms: fields[0] as usize,
         clauses: fields[1] as usize,
@@ -43,33 +77,17 @@ fn case_in(fields: &[u64]) -> Case
         formulas: fields[3] as usize,
         plain: fields[4],
         negated: fields[5],
-        nodes,
+        nodes: counts_in(&fields[6..22]),
         edition: fields[22] as usize,
     }
 }
 
 // Puts words in front of lent ones.
-fn put_words(answer: &mut [u64], words: &[u64])
+fn put(answer: &mut [u64], words: &[u64])
     requires { length words.now ≤ length answer.old }
     ensures { answer.new ≡ over words.now answer.old }
 {
-    let mut i: usize = 0;
-    while i < words.len() {
-        answer[i] = words[i];
-        i += 1;
-    }
-}
-
-// Puts counts in front of lent words.
-fn put_counts(answer: &mut [u64], counts: &[usize])
-    requires { length counts.now ≤ length answer.old }
-    ensures { answer.new ≡ over counts.now answer.old }
-{
-    let mut i: usize = 0;
-    while i < counts.len() {
-        answer[i] = counts[i] as u64;
-        i += 1;
-    }
+    answer[..words.len()].copy_from_slice(words);
 }
 
 // Puts the last words of a case record: the node counts of its formulas, and its edition.
@@ -77,77 +95,101 @@ fn put_nodes(answer: &mut [u64], c: Case)
     requires { 17 ≤ length answer.old }
     ensures { answer.new ≡ over (c.nodes ++ (c.edition ∷ [])) answer.old }
 {
-    let nodes = c.nodes;
-    let edition = [c.edition as u64];
-    put_counts(answer, &nodes);
-    put_words(&mut answer[16..], &edition);
+    let nodes = words_of(c.nodes);
+    put(answer, &nodes);
+    put(&mut answer[16..], &[c.edition as u64]);
 }
 
 // Puts what reading answers to words: the line of a refusal, then the 23 words of the case record.
-fn put_found(answer: &mut [u64], a: reader::read::Answer)
+fn put_found(answer: &mut [u64], found: Result<Case, Refused>)
     requires { 24 ≤ length answer.old }
-    ensures { answer.new ≡ over (a.line ∷ case_words a.found) answer.old }
+    ensures { answer.new ≡ over (found_words found) answer.old }
 {
-    let c = a.found;
-    let words = [
-        a.line as u64,
-        c.atoms as u64,
-        c.clauses as u64,
-        c.constraints as u64,
-        c.formulas as u64,
-        c.plain,
-        c.negated,
-    ];
-    put_words(answer, &words);
-    put_nodes(&mut answer[7..], c);
+    match found {
+        Ok(c) => {
+            let words = [
+                0,
+                c.atoms as u64,
+                c.clauses as u64,
+                c.constraints as u64,
+                c.formulas as u64,
+                c.plain,
+                c.negated,
+            ];
+            put(answer, &words);
+            put_nodes(&mut answer[7..], c);
+        }
+        Err(refused) => {
+            let mut words = [0; 24];
+            words[0] = refused.line as u64;
+            put(answer, &words);
+        }
+    }
 }
 
 // Puts what settling answers to words: the true atoms, the false atoms, the rounds, the number of decided atoms.
-fn put_settled(answer: &mut [u64], a: settle::operation::Answer)
+fn put_settled(answer: &mut [u64], settled: Result<Settled, Refusal>)
     requires { 4 ≤ length answer.old }
-    ensures { answer.new ≡ over (settled_words a) answer.old }
+    ensures { answer.new ≡ over (settled_words settled) answer.old }
 {
-    let rounds = a.rounds as u64;
-    let decided = a.decided as u64;
-    let words = [a.trues, a.falses, rounds, decided];
-    put_words(answer, &words);
+    match settled {
+        Ok(a) => {
+            let i = a.interpretation;
+            put(
+                answer,
+                &[i.trues, i.falses, a.rounds as u64, a.decided as u64],
+            );
+        }
+        Err(_) => put(answer, &[0; 4]),
+    }
 }
 
 // Puts what the question answers to words: the 16 verdict numbers, the number of minimal explanations, how many are
 // listed, the rounds and the decided atoms over all settings, the lowest cost and the setting that has it.
-fn put_asked(answer: &mut [u64], a: question::operation::Answer)
+fn put_asked(answer: &mut [u64], asked: Result<question::operation::Answer, Refusal>)
     requires { 22 ≤ length answer.old }
-    ensures { answer.new ≡ over (asked_words a) answer.old }
+    ensures { answer.new ≡ over (asked_words asked) answer.old }
 {
-    let verdicts = a.verdicts;
-    let written = a.written as u64;
-    let counts = [a.minimal, written, a.rounds, a.decided, a.cost, a.cheapest];
-    put_words(answer, &verdicts);
-    put_words(&mut answer[16..], &counts);
+    match asked {
+        Ok(a) => {
+            put(answer, &a.verdicts);
+            let counts = [
+                a.minimal,
+                a.written as u64,
+                a.rounds,
+                a.decided,
+                a.cost,
+                a.cheapest,
+            ];
+            put(&mut answer[16..], &counts);
+        }
+        Err(_) => put(answer, &[0; 22]),
+    }
 }
 
 // Puts what layering answers to words: 1 where the case is layered and 0 where it isn't, the number of entries, and the
 // 64 entries.
-fn put_layers(answer: &mut [u64], a: layering::operation::Answer)
+fn put_layers(answer: &mut [u64], layers: Result<Layers, Refusal>)
     requires { 66 ≤ length answer.old }
-    ensures { answer.new
-        ≡ over (digit a.layered ∷ a.count ∷ a.entries) answer.old }
+    ensures { answer.new ≡ over (layers_words layers) answer.old }
 {
-    let layered = a.layered as u64;
-    let count = a.count as u64;
-    let front = [layered, count];
-    let entries = a.entries;
-    put_words(answer, &front);
-    put_words(&mut answer[2..], &entries);
+    let (layered, found) = match layers {
+        Ok(Layers::Layered(found)) => (1, found),
+        Ok(Layers::Ring(found)) => (0, found),
+        Err(_) => return put(answer, &[0; 66]),
+    };
+    let front = [layered, found.count as u64];
+    put(answer, &front);
+    put(&mut answer[2..], &found.entries);
 }
 
 // Puts what writing a text answers to words: its length.
-fn put_length(answer: &mut [u64], a: output::Answer)
+fn put_length(answer: &mut [u64], written: Result<usize, Refusal>)
     requires { 1 ≤ length answer.old }
-    ensures { answer.new ≡ over (a.length ∷ []) answer.old }
+    ensures { answer.new ≡ over (length_words written) answer.old }
 {
-    let words = [a.length as u64];
-    put_words(answer, &words);
+    let length = written.unwrap_or(0);
+    put(answer, &[length as u64]);
 }
 
 // Reads a case file into five lent tables. Answer: the line of a refusal, then the 23 words of the case record.
@@ -169,11 +211,11 @@ pub extern "C" fn causes_read(
         answer.old result answer.new }
 {
     if answer.len() < 24 {
-        return 1;
+        return TOO_FEW;
     }
-    let a = reader::read::read(file, clauses, constraints, formula, names, prices);
-    put_found(answer, a);
-    a.refusal
+    let found = reader::read::read(file, clauses, constraints, formula, names, prices);
+    put_found(answer, found);
+    number_read(found)
 }
 
 // Settles one setting of a case. Answer: the true atoms, the false atoms, the rounds, the number of decided atoms.
@@ -190,16 +232,17 @@ pub extern "C" fn causes_settle(
         formula.now
         setting answer.old result answer.new }
 {
-    if fields.len() < 23 {
-        return 1;
+    if fields.len() < CASE_WORDS || answer.len() < 4 {
+        return TOO_FEW;
     }
-    if answer.len() < 4 {
-        return 1;
-    }
-    let c = case_in(fields);
-    let a = settle::operation::settle_one(c, clauses, constraints, formula, setting);
-    put_settled(answer, a);
-    a.refusal
+    let tables = Tables {
+        clauses,
+        constraints,
+        formula,
+    };
+    let settled = settle::operation::settle_one(case_in(fields), tables, setting);
+    put_settled(answer, settled);
+    number(settled)
 }
 
 // Answers the question of a case, with a lent list and work area. Answer: the 16 verdict numbers, the number of minimal
@@ -221,16 +264,17 @@ pub extern "C" fn causes_question(
         list.old work.old answer.old result list.new work.new
         answer.new }
 {
-    if fields.len() < 23 {
-        return 1;
+    if fields.len() < CASE_WORDS || answer.len() < 22 {
+        return TOO_FEW;
     }
-    if answer.len() < 22 {
-        return 1;
-    }
-    let c = case_in(fields);
-    let a = question::operation::ask(c, clauses, constraints, formula, prices, list, work);
-    put_asked(answer, a);
-    a.refusal
+    let tables = Tables {
+        clauses,
+        constraints,
+        formula,
+    };
+    let asked = question::operation::ask(case_in(fields), tables, prices, list, work);
+    put_asked(answer, asked);
+    number(asked)
 }
 
 // Answers the layers of a case, or a ring. Answer: 1 where the case is layered and 0 where it isn't, the number of
@@ -247,16 +291,17 @@ pub extern "C" fn causes_layers(
         formula.now
         answer.old result answer.new }
 {
-    if fields.len() < 23 {
-        return 1;
+    if fields.len() < CASE_WORDS || answer.len() < 66 {
+        return TOO_FEW;
     }
-    if answer.len() < 66 {
-        return 1;
-    }
-    let c = case_in(fields);
-    let a = layering::operation::layers(c, clauses, constraints, formula);
-    put_layers(answer, a);
-    a.refusal
+    let tables = Tables {
+        clauses,
+        constraints,
+        formula,
+    };
+    let layers = layering::operation::layers(case_in(fields), tables);
+    put_layers(answer, layers);
+    number(layers)
 }
 
 // Writes a case back as a file to a lent output. Answer: the length of the text.
@@ -276,16 +321,19 @@ pub extern "C" fn causes_write(
         prices.now)
         out.old answer.old result out.new answer.new }
 {
-    if fields.len() < 23 {
-        return 1;
+    if fields.len() < CASE_WORDS || answer.len() < LENGTH_WORDS {
+        return TOO_FEW;
     }
-    if answer.len() < LENGTH_WORDS {
-        return 1;
-    }
-    let c = case_in(fields);
-    let a = writing::operation::write(c, clauses, constraints, formula, names, prices, out);
-    put_length(answer, a);
-    a.refusal
+    let tables = LentTables {
+        clauses,
+        constraints,
+        formula,
+        names,
+        prices,
+    };
+    let written = writing::operation::write(case_in(fields), tables, out);
+    put_length(answer, written);
+    number(written)
 }
 
 // Writes the report of a file's bytes to a lent output. Answer: the length of the text.
@@ -295,11 +343,11 @@ pub extern "C" fn causes_report(file: &[u8], out: &mut [u8], answer: &mut [u64])
         answer.new }
 {
     if answer.len() < LENGTH_WORDS {
-        return 1;
+        return TOO_FEW;
     }
-    let a = report::operation::report(file, out);
-    put_length(answer, a);
-    a.refusal
+    let written = report::operation::report(file, out);
+    put_length(answer, written);
+    number(written)
 }
 
 // Writes the case file that follows from a seed, with so many atoms and clauses, to a lent output. Answer: the length
@@ -316,9 +364,9 @@ pub extern "C" fn causes_generate(
         answer.new }
 {
     if answer.len() < LENGTH_WORDS {
-        return 1;
+        return TOO_FEW;
     }
-    let a = loading::operation::generate(seed, atoms, clauses, out);
-    put_length(answer, a);
-    a.refusal
+    let written = loading::operation::generate(seed, atoms, clauses, out);
+    put_length(answer, written);
+    number(written)
 }

@@ -1,11 +1,13 @@
 // Which of 64 settings have a proper subset that explains, by a bit for each setting that says whether it is covered:
 // whether a subset of it, itself included, explains. The bit of setting s has place 59072 + s of the row.
-ghost use Rattle.std.specs.Prelude.{◌≡◌, ℕ, ◌+◌, ◌*◌, ◌≤◌, ◌<◌, length, get_or};
+ghost use Rattle.std.specs.Prelude.{◌≡◌, ℕ, ◌+◌, ◌*◌, ◌≤◌, ◌<◌, get_or};
 ghost use Rattle.words.specs.Bits.{has};
 ghost use Rattle.words.specs.OneBit.{BitOf};
 ghost use Rattle.explanation.specs.Row.{row_bit, Glued, Droppable, Covers};
 
+use planes::fill::AddedPlanes;
 use program::cause::Causes;
+use words::walk::bits_of;
 
 // The upper bits of low from bit r on, and behind them the lower bits of high.
 fn glue(low: u64, high: u64, r: u32) -> u64
@@ -34,22 +36,19 @@ fn dropped(
     place: usize,
     causes: u64,
     weights: &[usize; 64],
-    x: &[u64; 64],
-    y: &[u64; 64],
+    added: &AddedPlanes,
 ) -> u64
     requires { (place < 118144) × ((a : ℕ) → BitOf causes a → 2 * get_or weights.now a 0 ≤ place) }
-    ensures { Droppable row.now place causes weights.now x.now
-        y.now result }
+    ensures { Droppable row.now place causes weights.now added.now.facts
+        added.now.assumptions result }
 {
     let mut lanes: u64 = 0;
-    let mut left = causes;
-    while left != 0 {
-        let a = words::lowest_bit(left) as usize;
-        let w = weights[a];
-        let facts = bits(row, place - w) & x[a];
-        let assumptions = bits(row, place - 2 * w) & y[a];
-        lanes = lanes | (facts | assumptions);
-        left = words::without_lowest(left);
+    for a in bits_of(causes) {
+        let at = a as usize;
+        let w = weights[at];
+        let facts = bits(row, place - w) & added.facts[at];
+        let assumptions = bits(row, place - 2 * w) & added.assumptions[at];
+        lanes |= facts | assumptions;
     }
     lanes
 }
@@ -62,18 +61,17 @@ pub fn cover(
     e: u64,
     causes: Causes,
     weights: &[usize; 64],
-    x: &[u64; 64],
-    y: &[u64; 64],
+    added: &AddedPlanes,
 ) -> u64
-    requires { (length row.old ≡ 1848) × (923 ≤ b) × (b < 1846)
+    requires { (923 ≤ b) × (b < 1846)
         × ((a : ℕ) → BitOf causes.all a → 2 * get_or weights.now a 0 ≤ 59072) }
-    ensures { Covers row.old b e causes weights.now x.now y.now
+    ensures { Covers row.old b e causes weights.now added.now.facts added.now.assumptions
         row.new result }
 {
     let mut word = e;
     row[b] = e;
     loop {
-        let larger = dropped(row, 64 * b, causes.all, weights, x, y);
+        let larger = dropped(row, 64 * b, causes.all, weights, added);
         let all = word | larger;
         if all == word {
             break larger;

@@ -1,23 +1,18 @@
--- What items begin with, by the token that was found in front of them.
+-- What items begin with, by the tokens or by the token that was found in front of them.
 --
---   Filled x                                        x is none or not empty
---   name_first x                                    x begins with a name
---   Unclosed ts                                     the items of the tokens ts begin with no closing bracket
---   NotClose r, NotWord r, NotEnd r, EndOrClose r   what the token r that was found is not, or is
+--   Filled x       x is none or not empty
+--   name_first x   x begins with a name
 -- Assumes nothing.
 use mathlib.Core.Path.{◌≡◌, refl}
-use mathlib.Core.Bool.{Bool, true, false}
+use mathlib.Core.Bool.{Bool, true, false, true≢false}
 use mathlib.Core.List.{List, [], ◌∷◌}
 use mathlib.Core.Option.{Option}
 use Prim.Native.Nat.{ℕ}
 use lib.ListN.{drop}
-use denote.Enum.Declared.{tag_of}
-use types.Run.{OneOf, miss}
 use Rattle.text.specs.Tokens.{Token, tokens}
-use Rattle.text.specs.Scanning.{Found, first_token}
+use Rattle.text.specs.Scanning.{Found, first_token, begins_word, begins_name, begins_closing}
 use Rattle.text.specs.declared.tokens.Next.{Next}
 use Rattle.text.specs.declared.tokens.Next.TheVariants.{End, Open, Close, Word}
-use Rattle.text.specs.contracts.tokens.Next.{the_type}
 use Rattle.formulas.specs.Sentence.{Sentence}
 use Rattle.formulas.specs.Items.{Item, items_of}
 use Rattle.formulas.specs.Parsing.{Items, begins_formula, closed_among}
@@ -35,21 +30,6 @@ name_first (Option.some (Item.closing ∷ l)) = false
 name_first (Option.some (Item.formula (Sentence.name w) ∷ l)) = true
 name_first (Option.some (Item.formula (Sentence.negation f) ∷ l)) = false
 name_first (Option.some (Item.formula (Sentence.joined k f g) ∷ l)) = false
-
-pub record Unclosed (ts : List Token) : Type 0 where
-  pub unclosed : (f : Sentence) → closed_among f (items_of ts) ≡ Option.none
-
-abbrev pub NotClose : Next → Type 0
-NotClose r = OneOf (0 ∷ (1 ∷ (3 ∷ []))) (tag_of the_type r)
-
-abbrev pub NotWord : Next → Type 0
-NotWord r = OneOf (0 ∷ (1 ∷ (2 ∷ []))) (tag_of the_type r)
-
-abbrev pub NotEnd : Next → Type 0
-NotEnd r = OneOf (1 ∷ (2 ∷ (3 ∷ []))) (tag_of the_type r)
-
-abbrev pub EndOrClose : Next → Type 0
-EndOrClose r = OneOf (0 ∷ (2 ∷ [])) (tag_of the_type r)
 
 -- By the first token
 
@@ -87,57 +67,52 @@ word-unclosed : {w : List ℕ} {ts : List Token} {x : Items} (f : Sentence) → 
 word-unclosed f Read.nothing = refl
 word-unclosed f (Read.name e r) = refl
 
--- By what was found, where it is not the token that was looked for
+-- By the tokens, where they do not begin with what was looked for
+
+pub unclosed_items : (ts : List Token) → begins_closing ts ≡ false → (f : Sentence)
+    → closed_among f (items_of ts) ≡ Option.none
+unfolding items_of
+unclosed_items [] h f = refl
+unclosed_items (Token.opening ∷ ts) h f = opening-unclosed f (items_read (Token.opening ∷ ts))
+unclosed_items (Token.closing ∷ ts) h f = absurd (true≢false h)
+unclosed_items (Token.word w ∷ ts) h f = word-unclosed f (items_read (Token.word w ∷ ts))
+
+pub unnamed_items : (ts : List Token) → begins_name ts ≡ false → name_first (items_of ts) ≡ false
+unfolding items_of
+unnamed_items [] h = refl
+unnamed_items (Token.opening ∷ ts) h = opening_unnamed (items_read (Token.opening ∷ ts))
+unnamed_items (Token.closing ∷ ts) h = closing_unnamed (items_read (Token.closing ∷ ts))
+unnamed_items (Token.word w ∷ ts) h = rw h
+
+-- behind an opening bracket
+pub wordless_items : (ts : List Token) → begins_word ts ≡ false → items_of (Token.opening ∷ ts) ≡ Option.none
+unfolding items_of
+wordless_items [] h = refl
+wordless_items (Token.opening ∷ ts) h = refl
+wordless_items (Token.closing ∷ ts) h = refl
+wordless_items (Token.word w ∷ ts) h = absurd (true≢false h)
+
+-- By what was found
 
 module _ (l : List ℕ) where
-  first-unclosed : (r : Next) → NotClose r → (f : Sentence)
-      → closed_among f (items_of (first_token l r)) ≡ Option.none
-  unfolding items_of
-  first-unclosed End h f = refl
-  first-unclosed (Open n) h f = opening-unclosed f (items_read (first_token l (Open n)))
-  first-unclosed (Close n) h f = absurd (miss (0 ∷ (1 ∷ (3 ∷ []))) 2 tt h)
-  first-unclosed (Word a e) h f = word-unclosed f (items_read (first_token l (Word a e)))
-
-  first_unnamed : (r : Next) → NotWord r → name_first (items_of (first_token l r)) ≡ false
-  unfolding items_of
-  first_unnamed End h = refl
-  first_unnamed (Open n) h = opening_unnamed (items_read (first_token l (Open n)))
-  first_unnamed (Close n) h = closing_unnamed (items_read (first_token l (Close n)))
-  first_unnamed (Word a e) h = absurd (miss (0 ∷ (1 ∷ (2 ∷ []))) 3 tt h)
-
-  first-filled : (r : Next) → NotEnd r → Filled (items_of (first_token l r))
-  first-filled End h = absurd (miss (1 ∷ (2 ∷ (3 ∷ []))) 0 tt h)
+  first-filled : (r : Next) → (r ≡ End → ⊥) → Filled (items_of (first_token l r))
+  first-filled End h = absurd (h refl)
   first-filled (Open n) h = token_filled _ _
   first-filled (Close n) h = token_filled _ _
   first-filled (Word a e) h = token_filled _ _
 
-  first_begins : (r : Next) → EndOrClose r → begins_formula (items_of (first_token l r)) ≡ false
+  first_begins : (r : Next) → ((n : ℕ) → r ≡ Open n → ⊥) → ((a e : ℕ) → r ≡ Word a e → ⊥)
+      → begins_formula (items_of (first_token l r)) ≡ false
   unfolding items_of
-  first_begins End h = refl
-  first_begins (Open n) h = absurd (miss (0 ∷ (2 ∷ [])) 1 tt h)
-  first_begins (Close n) h = closing_begins (items_read (first_token l (Close n)))
-  first_begins (Word a e) h = absurd (miss (0 ∷ (2 ∷ [])) 3 tt h)
-
-  -- behind an opening bracket
-  second_begins : (r : Next) → NotWord r → items_of (Token.opening ∷ first_token l r) ≡ Option.none
-  unfolding items_of
-  second_begins End h = refl
-  second_begins (Open n) h = refl
-  second_begins (Close n) h = refl
-  second_begins (Word a e) h = absurd (miss (0 ∷ (1 ∷ (2 ∷ []))) 3 tt h)
+  first_begins End h k = refl
+  first_begins (Open n) h k = absurd (h n refl)
+  first_begins (Close n) h k = closing_begins (items_read (first_token l (Close n)))
+  first_begins (Word a e) h k = absurd (k a e refl)
 
 module _ {l : List ℕ} {at : ℕ} {r : Next} (t : Found l at r) where
-  pub found-unclosed : NotClose r → Unclosed (tokens (drop at l))
-  found-unclosed h = record { unclosed = λ f. rw t.tokens_are (first-unclosed l r h f) }
-
-  pub found_unnamed : NotWord r → name_first (items_of (tokens (drop at l))) ≡ false
-  found_unnamed h = rw t.tokens_are (first_unnamed l r h)
-
-  pub found-filled : NotEnd r → Filled (items_of (tokens (drop at l)))
+  pub found-filled : (r ≡ End → ⊥) → Filled (items_of (tokens (drop at l)))
   found-filled h = rw t.tokens_are (first-filled l r h)
 
-  pub found_begins : EndOrClose r → begins_formula (items_of (tokens (drop at l))) ≡ false
-  found_begins h = rw t.tokens_are (first_begins l r h)
-
-  pub found-behind : NotWord r → items_of (Token.opening ∷ tokens (drop at l)) ≡ Option.none
-  found-behind h = rw t.tokens_are (second_begins l r h)
+  pub found_begins : ((n : ℕ) → r ≡ Open n → ⊥) → ((a e : ℕ) → r ≡ Word a e → ⊥)
+      → begins_formula (items_of (tokens (drop at l))) ≡ false
+  found_begins h k = rw t.tokens_are (first_begins l r h k)

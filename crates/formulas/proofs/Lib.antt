@@ -1,6 +1,5 @@
 -- Theorems: a proof of each claim.
 -- Keywords: the numbers that words have.
--- WordTables: words in a table.
 -- Sentences: how a formula's depth, nodes and tokens bound each other, and its names.
 -- NameSentence: the formula that is a name.
 -- FormSentence: the formulas that are forms.
@@ -13,7 +12,6 @@
 -- Formulas: formulas at a place of a line.
 pub mod Theorems
 pub mod Keywords
-pub mod WordTables
 pub mod Sentences
 pub mod NameSentence
 pub mod FormSentence

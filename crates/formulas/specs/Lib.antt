@@ -3,11 +3,9 @@
 -- Keyword: the words of forms, told apart.
 -- Items: formulas read from tokens.
 -- Claims: what is claimed of the words of forms.
--- WordTable: words in a table of bytes.
 -- Parsing: what parsing a formula from a place finds.
 pub mod Sentence
 pub mod Keyword
 pub mod Items
 pub mod Claims
-pub mod WordTable
 pub mod Parsing

@@ -6,15 +6,15 @@
 --   Parsed l at r      r is the formula at place at of the line l, with its depth and the place behind it, or none
 --   Closed l at d r    r is a form of depth d whose closing bracket is at or behind place at, or none
 use Rattle.std.specs.Prelude.{◌≡◌, Bool, true, false, List, [], ◌∷◌, ℕ, ◌+◌, ◌*◌, ◌≤◌, ◌<◌, length, drop}
+use Rattle.std.specs.Prelude as code
 use Rattle.std.proofs.Math.Option.{Option}
 use Rattle.std.proofs.Math.Seq.{slice}
 use Rattle.text.specs.Tokens.{tokens}
 use Rattle.formulas.specs.Sentence.{Sentence, depth_of}
 use Rattle.formulas.specs.Items.{prepend, Item, closed, with_form, items_of}
 use Rattle.formulas.specs.declared.formula.Head.{Head}
-use Rattle.formulas.specs.declared.formula.Head.TheVariants.{NoHead, Name, Form}
+use Rattle.formulas.specs.declared.formula.Head.TheVariants.{Name, Form}
 use Rattle.formulas.specs.declared.formula.Parse.{Parse}
-use Rattle.formulas.specs.declared.formula.Parse.TheVariants.{NoFormula, Formula}
 
 -- what tokens are read as, or that they are none
 abbrev pub Items : Type 0
@@ -42,10 +42,10 @@ pub record FormAt (l : List ℕ) (at k e : ℕ) : Type 0 where
   pub onward : at + 2 ≤ e
   pub within : e ≤ length l
 
-abbrev pub HeadAt : List ℕ → ℕ → Head → Type 0
-HeadAt l at NoHead = begins_formula (items_of (tokens (drop at l))) ≡ false
-HeadAt l at (Name a e) = NameAt l at a e
-HeadAt l at (Form k e) = FormAt l at k e
+abbrev pub HeadAt : List ℕ → ℕ → code.Option Head → Type 0
+HeadAt l at code.None = begins_formula (items_of (tokens (drop at l))) ≡ false
+HeadAt l at (code.Some (Name a e)) = NameAt l at a e
+HeadAt l at (code.Some (Form k e)) = FormAt l at k e
 
 unfoldable pub size_of : Sentence → ℕ
 size_of (Sentence.name w) = 1
@@ -61,9 +61,9 @@ pub record FormulaAt (l : List ℕ) (at next d : ℕ) : Type 0 where
   pub within : next ≤ length l
   pub room : at + 2 * size_of sentence ≤ next + 1
 
-abbrev pub Parsed : List ℕ → ℕ → Parse → Type 0
-Parsed l at NoFormula = begins_formula (items_of (tokens (drop at l))) ≡ false
-Parsed l at (Formula next d) = FormulaAt l at next d
+abbrev pub Parsed : List ℕ → ℕ → code.Option Parse → Type 0
+Parsed l at code.None = begins_formula (items_of (tokens (drop at l))) ≡ false
+Parsed l at (code.Some p) = FormulaAt l at p.next p.depth
 
 -- the form f, where the items begin with its closing bracket
 abbrev pub closed_among : Sentence → Items → Items
@@ -77,6 +77,6 @@ pub record ClosingAt (l : List ℕ) (at next : ℕ) : Type 0 where
   pub onward : at < next
   pub within : next ≤ length l
 
-abbrev pub Closed : List ℕ → ℕ → ℕ → Parse → Type 0
-Closed l at d NoFormula = (f : Sentence) → closed_among f (items_of (tokens (drop at l))) ≡ Option.none
-Closed l at d (Formula next e) = (e ≡ d) × ClosingAt l at next
+abbrev pub Closed : List ℕ → ℕ → ℕ → code.Option Parse → Type 0
+Closed l at d code.None = (f : Sentence) → closed_among f (items_of (tokens (drop at l))) ≡ Option.none
+Closed l at d (code.Some p) = (p.depth ≡ d) × ClosingAt l at p.next

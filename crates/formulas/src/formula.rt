@@ -1,85 +1,60 @@
 // Formulas in a line.
-ghost use Rattle.std.specs.Prelude.{◌≡◌, max};
 ghost use Rattle.formulas.specs.Parsing.{HeadAt, Parsed, Closed};
 
-use crate::keyword::node_of;
+use crate::keyword::{NOT, node_of};
 use text::name::is_name;
-use text::tokens::{Next, token};
+use text::tokens::{Next, close_at, token, word_at};
 
 // What a formula begins with: a name and its ends, or the node of a form and the place behind its word.
 #[derive(Clone, Copy)]
 pub enum Head {
-    NoHead,
     Name(usize, usize),
     Form(u8, usize),
 }
 
 // A formula found in a line: the place behind it, and its depth.
 #[derive(Clone, Copy)]
-pub enum Parse {
-    NoFormula,
-    Formula(usize, usize),
+pub struct Parse {
+    pub next: usize,
+    pub depth: usize,
 }
 
 // What the formula at or behind a place begins with.
-pub fn head_at(l: &[u8], at: usize) -> Head
+pub fn head_at(l: &[u8], at: usize) -> Option<Head>
     ensures { HeadAt l.now at result }
 {
     match token(l, at) {
-        Next::Word(a, e) => {
-            if is_name(l, a, e) {
-                return Head::Name(a, e);
-            }
-            Head::NoHead
-        }
+        Next::Word(a, e) => is_name(&l[a..e]).then_some(Head::Name(a, e)),
         Next::Open(i) => {
-            let Next::Word(a, e) = token(l, i) else {
-                return Head::NoHead;
-            };
-            let node = node_of(l, a, e);
-            if 68 < node {
-                return Head::NoHead;
-            }
-            Head::Form(node, e)
+            let (a, e) = word_at(l, i)?;
+            let node = node_of(&l[a..e])?;
+            Some(Head::Form(node, e))
         }
-        _ => Head::NoHead,
+        _ => None,
     }
 }
 
-fn greater_of(a: usize, b: usize) -> usize
-    ensures { result ≡ max a b }
-{
-    if a < b { b } else { a }
-}
-
 // A form of a depth, where its closing bracket is at or behind a place.
-fn closed_form(l: &[u8], at: usize, depth: usize) -> Parse
+fn closed_form(l: &[u8], at: usize, depth: usize) -> Option<Parse>
     ensures { Closed l.now at depth result }
 {
-    let Next::Close(next) = token(l, at) else {
-        return Parse::NoFormula;
-    };
-    Parse::Formula(next, depth)
+    let next = close_at(l, at)?;
+    Some(Parse { next, depth })
 }
 
 // The formula at or behind a place.
-pub fn formula_at(l: &[u8], at: usize) -> Parse
+pub fn formula_at(l: &[u8], at: usize) -> Option<Parse>
     ensures { Parsed l.now at result }
 {
-    match head_at(l, at) {
-        Head::NoHead => Parse::NoFormula,
-        Head::Name(_, e) => Parse::Formula(e, 1),
+    match head_at(l, at)? {
+        Head::Name(_, next) => Some(Parse { next, depth: 1 }),
         Head::Form(node, e) => {
-            let Parse::Formula(j, d) = formula_at(l, e) else {
-                return Parse::NoFormula;
-            };
-            if node == 64 {
-                return closed_form(l, j, d + 1);
+            let first = formula_at(l, e)?;
+            if node == NOT {
+                return closed_form(l, first.next, first.depth + 1);
             }
-            let Parse::Formula(k, f) = formula_at(l, j) else {
-                return Parse::NoFormula;
-            };
-            closed_form(l, k, greater_of(d, f) + 1)
+            let second = formula_at(l, first.next)?;
+            closed_form(l, second.next, first.depth.max(second.depth) + 1)
         }
     }
 }

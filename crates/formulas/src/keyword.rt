@@ -1,37 +1,25 @@
 // The words of forms.
-ghost use Rattle.std.specs.Prelude.{◌≡◌, ◌≤◌, length};
-ghost use Rattle.std.proofs.Math.Seq.{slice};
+ghost use Rattle.std.specs.Prelude.{map, length};
 ghost use Rattle.text.specs.Words.{place_of};
-ghost use Rattle.formulas.specs.Keyword.{node_of};
-ghost use Rattle.formulas.specs.WordTable.{word_rows, HasWords};
+ghost use Rattle.formulas.specs.Keyword.{Below, NodeFound};
 
-use text::bytes::is_same;
+// The node of a negation, the first of the forms.
+pub const NOT: u8 = 64;
 
-// The words of forms, in the order of their nodes, each behind its length.
-const FORM_WORDS: [u8; 21] = *b"\x03not\x03and\x02or\x04then\x04same";
+// The words of forms, in the order of their nodes.
+const FORM_WORDS: [&[u8]; 5] = [b"not", b"and", b"or", b"then", b"same"];
 
-// The place of the part of l from a to e among the first n words of a table, or n.
-pub fn place_of(l: &[u8], a: usize, e: usize, words: &[u8], n: usize) -> usize
-    requires { (a ≤ e) × (e ≤ length l.now) × HasWords words.now n }
-    ensures { result ≡ place_of (word_rows words.now n) (slice a e l.now) }
+// The place of a word among words, or none.
+pub fn place_of(w: &[u8], words: &[&[u8]]) -> Option<usize>
+    ensures { Below (length words.now) (place_of (map (λ v. v.now) words.now) w.now) result }
 {
-    let mut t = words;
-    let mut i = 0;
-    while i < n {
-        let next = 1 + t[0] as usize;
-        if is_same(l, a, e, &t[1..next]) {
-            return i;
-        }
-        t = &t[next..];
-        i += 1;
-    }
-    n
+    words.iter().position(|v| *v == w)
 }
 
-// The node of the form whose word is the part of l from a to e, or 69.
-pub fn node_of(l: &[u8], a: usize, e: usize) -> u8
-    requires { (a ≤ e) × (e ≤ length l.now) }
-    ensures { result ≡ node_of (slice a e l.now) }
+// The node of the form that has a word.
+pub fn node_of(w: &[u8]) -> Option<u8>
+    ensures { NodeFound w.now result }
 {
-    64 + place_of(l, a, e, &FORM_WORDS, 5) as u8
+    let place = place_of(w, &FORM_WORDS)?;
+    Some(NOT + place as u8)
 }

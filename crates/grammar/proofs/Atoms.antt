@@ -1,29 +1,26 @@
 -- Laws of atom lines: how they are spelled, and one law for each way out of `atom_form`.
 -- Assumes nothing.
-use mathlib.Core.Path.{◌≡◌, refl}
+use mathlib.Core.Path.{◌≡◌, refl, sym, ◌∙◌}
 use mathlib.Core.Bool.{Bool, true, false}
 use mathlib.Core.List.{List, [], ◌∷◌}
 use mathlib.Core.Logic.{inl, inr}
+use mathlib.Core.Option.{Option}
+use Rattle.std.specs.Prelude.{Some, None}
+use Rattle.std.specs.Bool.{then_some}
 use Prim.Native.Nat.{ℕ}
 use native.Mathlib.Omega.{arith}
 use lib.ListN.{drop}
-use lib.Seq.{slice}
-use denote.Enum.Declared.{tag_of}
-use types.Run.{OneOf}
 use Rattle.words.specs.Choice.{pick}
 use Rattle.text.specs.Tokens.{Token, tokens}
 use Rattle.text.specs.Words.{begins_with_letter}
-use Rattle.text.specs.Scanning.{Found}
-use Rattle.text.specs.declared.tokens.Next.{Next}
-use Rattle.text.specs.declared.tokens.Next.TheVariants.{Word}
-use Rattle.text.specs.contracts.tokens.Next.{the_type}
-use Rattle.text.proofs.TokenLaws.{word-filled, word-within}
+use Rattle.text.specs.Scanning.{begins_name, NamedNext}
+use Rattle.formulas.specs.Items.{prepend}
 use Rattle.grammar.specs.Line.{Line, line_tokens, is_line}
 use Rattle.grammar.specs.LineOf.{flat_words, atom_line, with_words}
 use Rattle.grammar.specs.Parsing.{ends_line, FormAfter}
-use Rattle.grammar.specs.declared.line.Form.TheVariants.{NoForm, Atom}
-use Rattle.grammar.proofs.Flat.{flat_tokens, LineSpells, flat_word, ended-words, wordless_form, wrong_form}
-use Rattle.grammar.proofs.Flat.{unended-form}
+use Rattle.grammar.specs.declared.line.Form.TheVariants.{Atom}
+use Rattle.grammar.proofs.Forms.{either}
+use Rattle.grammar.proofs.Flat.{Words, flat_tokens, LineSpells, flat_word, ended-words, unnamed_form, unended-form}
 
 -- What is read is spelled
 
@@ -47,22 +44,25 @@ atom-words w h = rw h
 
 -- The ways out of `atom_form`
 
-module _ {l : List ℕ} {at : ℕ} {r : Next} (t : Found l at r) where
-  pub atom_wordless : OneOf (0 ∷ (1 ∷ (2 ∷ []))) (tag_of the_type r) → FormAfter l at 8 NoForm
-  atom_wordless h = wordless_form 8 (omega arith) refl t h
+unnamed_atom : (w : List ℕ) → begins_with_letter w ≡ false → (x : Words) → with_words 8 (prepend w x) ≡ Line.no_form
+unnamed_atom w h Option.none = refl
+unnamed_atom w h (Option.some []) = rw h
+unnamed_atom w h (Option.some (v ∷ ws)) = refl
 
-  module _ {a e : ℕ} (w : r ≡ Word a e) where
-    pub atom_unnamed : begins_with_letter (slice a e l) ≡ false → FormAfter l at 8 NoForm
-    atom_unnamed h = wrong_form 8 (omega arith) (λ _ _ _. refl) t w (rw h)
+pub atom_unnamed : (l : List ℕ) (at : ℕ) → begins_name (tokens (drop at l)) ≡ false → FormAfter l at 8 None
+atom_unnamed l at h = unnamed_form 8 (omega arith) refl unnamed_atom l at h
 
-    pub atom-unended : ends_line l e ≡ false → FormAfter l at 8 NoForm
-    atom-unended h = unended-form 8 (omega arith) (λ _ _ _. refl) t w h
+module _ {l : List ℕ} {at a e : ℕ} (n : NamedNext l at a e) where
+  atom-ended : ends_line l e ≡ true → FormAfter l at 8 (Some (Atom a e))
+  unfolding ends_line
+  atom-ended h = record {
+    form-is = (
+      (n.found.inside.1, n.found.inside.2),
+      rw (flat_word n.found, ended-words (tokens (drop e l)) h, n.lettered),
+    );
+  }
 
-    pub atom-found : begins_with_letter (slice a e l) ≡ true → ends_line l e ≡ true → FormAfter l at 8 (Atom a e)
-    unfolding ends_line
-    atom-found b h = record {
-      form-is = (
-        (word-filled t w, word-within t w),
-        rw (flat_word t w, ended-words (tokens (drop e l)) h, b),
-      );
-    }
+  pub atom_found : {b : Bool} → b ≡ ends_line l e → FormAfter l at 8 (then_some b (Atom a e))
+  atom_found {b} q =
+      either (FormAfter l at 8) (Atom a e) b (λ h. atom-ended (sym q ∙ h))
+      (λ h. unended-form 8 (omega arith) (λ _ _ _. refl) n.found (sym q ∙ h))

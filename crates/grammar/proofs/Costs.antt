@@ -1,36 +1,34 @@
 -- Laws of costs: how they are spelled, and one law for each way out of `numeral_at` and `cost_form`.
 -- Assumes nothing.
-use mathlib.Core.Path.{◌≡◌, refl, subst}
+use mathlib.Core.Path.{◌≡◌, refl, sym, ◌∙◌}
 use mathlib.Core.Bool.{Bool, true, false, and-false}
 use mathlib.Core.List.{List, [], ◌∷◌}
 use mathlib.Core.Logic.{inl, inr}
 use mathlib.Core.Option.{Option}
-use Prim.Native.Nat.{ℕ}
+use Rattle.std.specs.Prelude as code
+use Rattle.std.specs.Prelude.{Some, None}
+use Rattle.std.specs.Bool.{then_some}
+use Prim.Native.Nat.{ℕ, ◌-◌}
 use native.Mathlib.Omega.{arith}
-use lib.ListN.{drop}
+use lib.ListN.{take, drop}
 use lib.Seq.{slice}
-use denote.Enum.Declared.{tag_of}
-use types.Run.{OneOf}
 use Rattle.words.specs.Choice.{pick}
 use Rattle.text.specs.Tokens.{Token, tokens}
 use Rattle.text.specs.Words.{begins_with_letter}
 use Rattle.text.specs.Numbers.{is_number}
-use Rattle.text.specs.Scanning.{Found, NumberIs, NumberRead}
-use Rattle.text.specs.declared.tokens.Next.{Next}
+use Rattle.text.specs.Scanning.{Found, NumberRead, begins_word, begins_name, NamedNext}
 use Rattle.text.specs.declared.tokens.Next.TheVariants.{Word}
-use Rattle.text.specs.declared.number.Number.{Number}
-use Rattle.text.specs.declared.number.Number.TheVariants.{NoNumber, Value}
-use Rattle.text.specs.contracts.tokens.Next.{the_type}
-use Rattle.text.proofs.TokenLaws.{word-filled, word-within}
+use Rattle.text.proofs.Slices.{part_slice}
+use Rattle.text.proofs.TokenLaws.{word-le}
 use Rattle.formulas.specs.Items.{prepend}
 use Rattle.grammar.specs.Line.{Line, line_tokens, is_cost, is_line}
 use Rattle.grammar.specs.LineOf.{flat_words, cost_line, with_words}
-use Rattle.grammar.specs.Parsing.{Unnumbered, NumeralAt, NumeralIs, NumeralFound, ends_line, FormAfter}
-use Rattle.grammar.specs.declared.numeral.Numeral as read
-use Rattle.grammar.specs.declared.numeral.Numeral.TheVariants.{NoNumeral, Numeral}
-use Rattle.grammar.specs.declared.line.Form.TheVariants.{NoForm, Cost}
-use Rattle.grammar.proofs.Flat.{Words, Wordless, Followed, flat_tokens, LineSpells, flat_word, flat_other}
-use Rattle.grammar.proofs.Flat.{ended-words, unended-words, wordless_form}
+use Rattle.grammar.specs.Parsing.{Unnumbered, NumeralAt, NumeralFound, ends_line, FormAfter}
+use Rattle.grammar.specs.declared.numeral.Numeral.{Numeral}
+use Rattle.grammar.specs.declared.line.Form.TheVariants.{Cost}
+use Rattle.grammar.proofs.Forms.{either}
+use Rattle.grammar.proofs.Flat.{Words, Wordless, Followed, flat_tokens, LineSpells, flat_word, word_wordless}
+use Rattle.grammar.proofs.Flat.{ended-words, unended-words, unnamed_form}
 
 -- What is read is spelled
 
@@ -101,90 +99,92 @@ word_unnumbered : (w : List ℕ) (x : Words) → is_number w ≡ false → Unnum
 word_unnumbered w Option.none h = tt
 word_unnumbered w (Option.some ws) h = h
 
-module _ {l : List ℕ} {at : ℕ} {r : Next} (t : Found l at r) where
-  pub numeral_wordless : OneOf (0 ∷ (1 ∷ (2 ∷ []))) (tag_of the_type r) → NumeralFound l at NoNumeral
-  numeral_wordless h = record { numeral_is = wordless_unnumbered _ (flat_other t h) }
+pub numeral_wordless : (l : List ℕ) (at : ℕ) → begins_word (tokens (drop at l)) ≡ false → NumeralFound l at None
+numeral_wordless l at h = record { numeral_is = wordless_unnumbered _ (word_wordless (tokens (drop at l)) h) }
 
-  module _ {a e : ℕ} (w : r ≡ Word a e) {n : Number} (d : NumberRead (slice a e l) n) where
-    pub numeral_none : n ≡ NoNumber → NumeralFound l at NoNumeral
-    numeral_none h = record {
-      numeral_is = rw (flat_word t w)
-          (word_unnumbered (slice a e l) (flat_words (tokens (drop e l)))
-          (subst (NumberIs (slice a e l)) h d.number_is));
-    }
+-- by what number the word is, as the code reads it
+module _ {l : List ℕ} {at a e : ℕ} (t : Found l at (Word a e)) where
+  read-as : {x : code.Option ℕ} → NumberRead (take (e - a) (drop a l)) x → NumberRead (slice a e l) x
+  read-as d = rw (part_slice l a e (word-le t refl)) at d
 
-    pub numeral_found : {v : ℕ} → n ≡ Value v → NumeralFound l at (Numeral v e)
-    numeral_found h =
-        let k = subst (NumberIs (slice a e l)) h d.number_is in
-        record {
-          numeral_is =
-              record { digits = slice a e l; words_are = flat_word t w; is-number = k.0; value-is = k.1 };
-        }
+  pub numeral_none : NumberRead (take (e - a) (drop a l)) None → NumeralFound l at None
+  numeral_none d = record {
+    numeral_is = rw (flat_word t)
+        (word_unnumbered (slice a e l) (flat_words (tokens (drop e l))) (read-as d).number_is);
+  }
+
+  pub numeral_found : {v : ℕ} → NumberRead (take (e - a) (drop a l)) (Some v)
+      → NumeralFound l at (Some (record { value = v; next = e }))
+  numeral_found d =
+      let k = (read-as d).number_is in
+      record {
+        numeral_is =
+            record { digits = slice a e l; words_are = flat_word t; is-number = k.0; value-is = k.1 };
+      }
 
 -- The ways out of `cost_form`
 
-module _ {l : List ℕ} {at : ℕ} {r : Next} (t : Found l at r) where
-  pub cost_wordless : OneOf (0 ∷ (1 ∷ (2 ∷ []))) (tag_of the_type r) → FormAfter l at 7 NoForm
-  cost_wordless h = wordless_form 7 (omega arith) refl t h
+pub cost_unnamed : (l : List ℕ) (at : ℕ) → begins_name (tokens (drop at l)) ≡ false → FormAfter l at 7 None
+cost_unnamed l at h = unnamed_form 7 (omega arith) refl unnamed_line l at h
 
-  module _ {a e : ℕ} (w : r ≡ Word a e) where
-    pub cost_unnamed : begins_with_letter (slice a e l) ≡ false → FormAfter l at 7 NoForm
-    cost_unnamed h = record {
-      form-is = rw (flat_word t w) (unnamed_line (slice a e l) h (flat_words (tokens (drop e l))));
+module _ {l : List ℕ} {at a e : ℕ} (n : NamedNext l at a e) where
+  pub cost_unpriced : NumeralFound l e None → FormAfter l at 7 None
+  cost_unpriced p = record {
+    form-is = rw (flat_word n.found)
+        (unpriced_line (slice a e l) (flat_words (tokens (drop e l))) p.numeral_is);
+  }
+
+  module _ {p : Numeral} (u : NumeralFound l e (Some p)) where
+    price-at : NumeralAt l e p.value p.next
+    price-at = u.numeral_is
+
+    pub cost-half_priced : NumeralFound l p.next None → FormAfter l at 7 None
+    cost-half_priced s = record {
+      form-is = rw (flat_word n.found, price-at.words_are)
+          (half_priced_line (slice a e l) price-at.digits (flat_words (tokens (drop p.next l))) s.numeral_is);
     }
 
-    module _ {p : read.Numeral} (u : NumeralFound l e p) where
-      pub cost_unpriced : p ≡ NoNumeral → FormAfter l at 7 NoForm
-      cost_unpriced h = record {
-        form-is = rw (flat_word t w)
-            (unpriced_line (slice a e l) (flat_words (tokens (drop e l))) (subst (NumeralIs l e) h u.numeral_is));
+    module _ {s : Numeral} (v : NumeralFound l p.next (Some s)) where
+      supplement-at : NumeralAt l p.next s.value s.next
+      supplement-at = v.numeral_is
+
+      abbrev three : List Token → Line
+      three ts = behind (slice a e l) price-at.digits supplement-at.digits (flat_words ts)
+
+      three-words : (z : Line) → three (tokens (drop s.next l)) ≡ z
+          → with_words 7 (flat_words (tokens (drop at l))) ≡ z
+      three-words z k = rw (flat_word n.found, price-at.words_are, supplement-at.words_are) k
+
+      cost-unended : ends_line l s.next ≡ false → FormAfter l at 7 None
+      unfolding ends_line
+      cost-unended h = record {
+        form-is = three-words Line.no_form
+            (unended (slice a e l) price-at.digits supplement-at.digits
+            (flat_words (tokens (drop s.next l))) (unended-words (tokens (drop s.next l)) h));
       }
 
-      module _ {n f : ℕ} (v : p ≡ Numeral n f) {s : read.Numeral} (x : NumeralFound l f s) where
-        price-at : NumeralAt l e n f
-        price-at = subst (NumeralIs l e) v u.numeral_is
-
-        pub cost-half_priced : s ≡ NoNumeral → FormAfter l at 7 NoForm
-        cost-half_priced h = record {
-          form-is = rw (flat_word t w, price-at.words_are)
-              (half_priced_line (slice a e l) price-at.digits (flat_words (tokens (drop f l)))
-              (subst (NumeralIs l f) h x.numeral_is));
-        }
-
-        module _ {m g : ℕ} (y : s ≡ Numeral m g) where
-          supplement-at : NumeralAt l f m g
-          supplement-at = subst (NumeralIs l f) y x.numeral_is
-
-          abbrev three : List Token → Line
-          three ts = behind (slice a e l) price-at.digits supplement-at.digits (flat_words ts)
-
-          three-words : (z : Line) → three (tokens (drop g l)) ≡ z → with_words 7 (flat_words (tokens (drop at l))) ≡ z
-          three-words z k = rw (flat_word t w, price-at.words_are, supplement-at.words_are) k
-
-          pub cost-unended : ends_line l g ≡ false → FormAfter l at 7 NoForm
-          unfolding ends_line
-          cost-unended h = record {
-            form-is = three-words Line.no_form
-                (unended (slice a e l) price-at.digits supplement-at.digits
-                (flat_words (tokens (drop g l))) (unended-words (tokens (drop g l)) h));
+      cost-ended : ends_line l s.next ≡ true → FormAfter l at 7 (Some (Cost a e p.value s.value))
+      unfolding ends_line
+      cost-ended h =
+          let c = Line.cost (slice a e l) price-at.digits supplement-at.digits in
+          let made : three (tokens (drop s.next l)) ≡ c =
+          rw (ended-words (tokens (drop s.next l)) h)
+          (rw (n.lettered, price-at.is-number, supplement-at.is-number)) in
+          record {
+            form-is = (
+              (n.found.inside.1, n.found.inside.2),
+              record {
+                price = price-at.digits;
+                supplement = supplement-at.digits;
+                price-is = price-at.value-is;
+                supplement-is = supplement-at.value-is;
+                line-is = three-words c made;
+              },
+            );
           }
 
-          pub cost-found : begins_with_letter (slice a e l) ≡ true → ends_line l g ≡ true
-              → FormAfter l at 7 (Cost a e n m)
-          unfolding ends_line
-          cost-found b h =
-              let c = Line.cost (slice a e l) price-at.digits supplement-at.digits in
-              let made : three (tokens (drop g l)) ≡ c =
-              rw (ended-words (tokens (drop g l)) h) (rw (b, price-at.is-number, supplement-at.is-number)) in
-              record {
-                form-is = (
-                  (word-filled t w, word-within t w),
-                  record {
-                    price = price-at.digits;
-                    supplement = supplement-at.digits;
-                    price-is = price-at.value-is;
-                    supplement-is = supplement-at.value-is;
-                    line-is = three-words c made;
-                  },
-                );
-              }
+      pub cost_found : {b : Bool} → b ≡ ends_line l s.next
+          → FormAfter l at 7 (then_some b (Cost a e p.value s.value))
+      cost_found {b} q =
+          either (FormAfter l at 7) (Cost a e p.value s.value) b (λ h. cost-ended (sym q ∙ h))
+          (λ h. cost-unended (sym q ∙ h))

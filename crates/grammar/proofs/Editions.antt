@@ -4,27 +4,25 @@ use mathlib.Core.Path.{◌≡◌, refl, sym, ◌∙◌}
 use mathlib.Core.Bool.{Bool, true, false, true≢false}
 use mathlib.Core.List.{List, [], ◌∷◌}
 use mathlib.Core.Logic.{inl, inr}
-use Prim.Native.Nat.{ℕ, zero, suc, ◌+◌, ◌-◌, ◌≤◌, ◌<◌}
+use Prim.Native.Nat.{ℕ, zero, suc, ◌+◌, ◌-◌, ◌≤◌}
 use native.Mathlib.Omega.{arith}
-use lib.ListN.{length, drop, get_or}
-use lib.Seq.{slice, slice-cons, slice_empty, length-slice}
-use denote.Enum.Declared.{tag_of}
-use types.Run.{OneOf}
+use Rattle.std.specs.Prelude.{Some, None}
+use lib.ListN.{length, take, drop, get_or}
+use lib.Seq.{slice}
 use borrow.Author.Tests.{le-leb, ne_eqb}
 use Rattle.words.specs.Choice.{pick}
 use Rattle.text.specs.Bytes.{all_of}
 use Rattle.text.specs.Numbers.{is_number}
 use Rattle.text.specs.Tokens.{Token, tokens}
-use Rattle.text.specs.Scanning.{Found}
-use Rattle.text.specs.declared.tokens.Next.{Next}
+use Rattle.text.specs.Scanning.{Found, begins_word}
 use Rattle.text.specs.declared.tokens.Next.TheVariants.{Word}
-use Rattle.text.specs.contracts.tokens.Next.{the_type}
 use Rattle.text.proofs.NumberLaws.{digits_number}
-use Rattle.text.proofs.TokenLaws.{word-filled, word-within}
+use Rattle.text.proofs.Slices.{part_slice}
+use Rattle.text.proofs.TokenLaws.{word-le}
 use Rattle.grammar.specs.Line.{Line, line_tokens, is_edition, is_line}
 use Rattle.grammar.specs.LineOf.{flat_words, digit_line, edition_line, with_words}
 use Rattle.grammar.specs.Parsing.{ends_line, FormAfter}
-use Rattle.grammar.specs.declared.line.Form.TheVariants.{NoForm, Edition}
+use Rattle.grammar.specs.declared.line.Form.TheVariants.{Edition}
 use Rattle.grammar.proofs.Flat.{flat_tokens, LineSpells, flat_word, ended-words, wordless_form, wrong_form}
 use Rattle.grammar.proofs.Flat.{unended-form}
 
@@ -53,10 +51,20 @@ digit-line e h = let z : 48 + e - 48 ≡ e = omega arith in rw (z, h)
 no_digit_line : (d : ℕ) → (d ≡ 49 → ⊥) → (d ≡ 50 → ⊥) → digit_line (d ∷ []) ≡ Line.no_form
 no_digit_line d n m = rw (no_edition (d - 48) (λ z. n (omega arith)) (λ z. m (omega arith)))
 
-long-line : (w : List ℕ) → 1 < length w → digit_line w ≡ Line.no_form
+long-line : (w : List ℕ) → (length w ≡ 1 → ⊥) → digit_line w ≡ Line.no_form
 long-line [] h = refl
-long-line (d ∷ []) h = absurd (omega arith)
+long-line (d ∷ []) h = absurd (h refl)
 long-line (d ∷ (c ∷ w)) h = refl
+
+other-line : (w : List ℕ) → (get_or w 0 0 ≡ 49 → ⊥) → (get_or w 0 0 ≡ 50 → ⊥) → digit_line w ≡ Line.no_form
+other-line [] n m = refl
+other-line (d ∷ []) n m = no_digit_line d n m
+other-line (d ∷ (c ∷ w)) n m = refl
+
+one_digit : (w : List ℕ) {d : ℕ} → length w ≡ 1 → get_or w 0 0 ≡ d → w ≡ d ∷ []
+one_digit [] h e = absurd (omega arith)
+one_digit (c ∷ []) h e = rw e
+one_digit (c ∷ (b ∷ w)) h e = absurd (omega arith)
 
 -- What is read is spelled
 
@@ -85,50 +93,41 @@ edition-words e h = digit-line e h
 
 -- The ways out of `edition_form`
 
-module _ {l : List ℕ} {at : ℕ} {r : Next} (t : Found l at r) where
-  pub edition_wordless : OneOf (0 ∷ (1 ∷ (2 ∷ []))) (tag_of the_type r) → FormAfter l at 9 NoForm
-  edition_wordless h = wordless_form 9 (omega arith) refl t h
+pub edition_wordless : (l : List ℕ) (at : ℕ) → begins_word (tokens (drop at l)) ≡ false → FormAfter l at 9 None
+edition_wordless l at h = wordless_form 9 (omega arith) refl l at h
 
-  module _ {a e : ℕ} (w : r ≡ Word a e) where
-    pub word_starts : a < length l
-    word_starts =
-        let f = word-filled t w in
-        omega (arith, word-within t w)
+module _ {l : List ℕ} {at a e : ℕ} (t : Found l at (Word a e)) where
+  pub edition-unended : ends_line l e ≡ false → FormAfter l at 9 None
+  edition-unended h = unended-form 9 (omega arith) (λ _ _ _. refl) t h
 
-    pub edition-long : 1 < e - a → FormAfter l at 9 NoForm
-    edition-long h =
-        wrong_form 9 (omega arith) (λ _ _ _. refl) t w
-        (long-line (slice a e l) (rw (length-slice a e l (word-within t w)) h))
+  -- the word, as the code reads it
+  abbrev pub word-read : List ℕ
+  word-read = take (e - a) (drop a l)
 
-    pub edition-unended : ends_line l e ≡ false → FormAfter l at 9 NoForm
-    edition-unended h = unended-form 9 (omega arith) (λ _ _ _. refl) t w h
+  word-is : word-read ≡ slice a e l
+  word-is = part_slice l a e (word-le t refl)
 
-    module _ (s : e - a ≤ 1) where
-      one_byte : slice a e l ≡ get_or l a 0 ∷ []
-      one_byte =
-          let f = word-filled t w in
-          let q : e ≡ suc a = omega arith in
-          slice-cons a e l 0 f (word-within t w) ∙ rw (q, slice_empty)
+  edition-none : digit_line word-read ≡ Line.no_form → FormAfter l at 9 None
+  edition-none n = wrong_form 9 (omega arith) (λ _ _ _. refl) t (rw word-is at n)
 
-      pub edition-none : (get_or l a 0 ≡ 49 → ⊥) → (get_or l a 0 ≡ 50 → ⊥) → FormAfter l at 9 NoForm
-      edition-none n m =
-          wrong_form 9 (omega arith) (λ _ _ _. refl) t w (rw one_byte (no_digit_line (get_or l a 0) n m))
+  pub edition-long : (length word-read ≡ 1 → ⊥) → FormAfter l at 9 None
+  edition-long h = edition-none (long-line word-read h)
 
-      module _ (h : ends_line l e ≡ true) where
-        edition-found : (n : ℕ) → is_edition n ≡ true → get_or l a 0 ≡ 48 + n → FormAfter l at 9 (Edition n)
-        unfolding ends_line
-        edition-found n i d =
-            let b = edition_between n i in
-            record {
-              form-is = (
-                b.0,
-                b.1,
-                rw (flat_word t w, ended-words (tokens (drop e l)) h, one_byte, d) (digit-line n i),
-              );
-            }
+  pub edition-other : (get_or word-read 0 0 ≡ 49 → ⊥) → (get_or word-read 0 0 ≡ 50 → ⊥) → FormAfter l at 9 None
+  edition-other n m = edition-none (other-line word-read n m)
 
-        pub edition-first : get_or l a 0 ≡ 49 → FormAfter l at 9 (Edition 1)
-        edition-first d = edition-found 1 refl d
+  module _ (h : ends_line l e ≡ true) (s : length word-read ≡ 1) where
+    edition-found : (n : ℕ) → is_edition n ≡ true → get_or word-read 0 0 ≡ 48 + n → FormAfter l at 9 (Some (Edition n))
+    unfolding ends_line
+    edition-found n i d =
+        let b = edition_between n i in
+        let w = sym word-is ∙ one_digit word-read s d in
+        record {
+          form-is = (b.0, b.1, rw (flat_word t, ended-words (tokens (drop e l)) h, w) (digit-line n i));
+        }
 
-        pub edition-second : get_or l a 0 ≡ 50 → FormAfter l at 9 (Edition 2)
-        edition-second d = edition-found 2 refl d
+    pub edition-first : get_or word-read 0 0 ≡ 49 → FormAfter l at 9 (Some (Edition 1))
+    edition-first d = edition-found 1 refl d
+
+    pub edition-second : get_or word-read 0 0 ≡ 50 → FormAfter l at 9 (Some (Edition 2))
+    edition-second d = edition-found 2 refl d

@@ -15,22 +15,18 @@ use mathlib.Core.Option.{Option}
 use Prim.Native.Nat.{ℕ, ◌≤◌}
 use lib.ListN.{drop, get_or}
 use lib.Seq.{slice}
-use denote.Enum.Declared.{tag_of}
-use types.Run.{OneOf, miss}
-use borrow.Author.Tests.{le-ltb, ne_eqb}
+use borrow.Author.Tests.{le-ltb}
 use Rattle.text.specs.Tokens.{Token, tokens}
-use Rattle.text.specs.Scanning.{Found, first_token}
-use Rattle.text.specs.declared.tokens.Next.{Next}
-use Rattle.text.specs.declared.tokens.Next.TheVariants.{End, Open, Close, Word}
-use Rattle.text.specs.contracts.tokens.Next.{the_type}
-use Rattle.text.proofs.TokenLaws.{found-tokens}
+use Rattle.text.specs.Words.{begins_with_letter}
+use Rattle.text.specs.Scanning.{Found, begins_word, begins_name}
+use Rattle.text.specs.declared.tokens.Next.TheVariants.{Word}
 use Rattle.formulas.specs.Items.{prepend, Item, items_of}
 use Rattle.formulas.proofs.Reading.{items_end, items_closing}
 use Rattle.formulas.proofs.Spelling.{spelled_items, Spells, items_spell}
 use Rattle.grammar.specs.Line.{Line, line_words, line_tokens, is_line}
 use Rattle.grammar.specs.LineOf.{flat_words, flat_line, with_words}
 use Rattle.grammar.specs.Parsing.{ends_items, ends_line, FormAfter}
-use Rattle.grammar.specs.declared.line.Form.TheVariants.{NoForm}
+use Rattle.std.specs.Prelude.{None}
 use Rattle.grammar.proofs.Forms.{ends_is}
 
 -- the words of a flat line, or none
@@ -50,13 +46,12 @@ unfolding flat_words
 closed_wordless [] = inr refl
 closed_wordless (t ∷ ts) = inl refl
 
-first_wordless : (l : List ℕ) (r : Next) → OneOf (0 ∷ (1 ∷ (2 ∷ []))) (tag_of the_type r)
-    → Wordless (flat_words (first_token l r))
+pub word_wordless : (ts : List Token) → begins_word ts ≡ false → Wordless (flat_words ts)
 unfolding flat_words
-first_wordless l End h = inl refl
-first_wordless l (Open n) h = inl refl
-first_wordless l (Close n) h = closed_wordless (tokens (drop n l))
-first_wordless l (Word a e) h = absurd (miss (0 ∷ (1 ∷ (2 ∷ []))) 3 tt h)
+word_wordless [] h = inl refl
+word_wordless (Token.opening ∷ ts) h = inl refl
+word_wordless (Token.closing ∷ ts) h = closed_wordless ts
+word_wordless (Token.word w ∷ ts) h = absurd (true≢false h)
 
 -- What is read is spelled
 
@@ -89,14 +84,10 @@ LineSpells k ws x =
 
 -- The words at a place of a line
 
-pub flat_word : {l : List ℕ} {at a e : ℕ} {r : Next} → Found l at r → r ≡ Word a e
+pub flat_word : {l : List ℕ} {at a e : ℕ} → Found l at (Word a e)
     → flat_words (tokens (drop at l)) ≡ prepend (slice a e l) (flat_words (tokens (drop e l)))
 unfolding flat_words
-flat_word t w = rw (found-tokens t w)
-
-pub flat_other : {l : List ℕ} {at : ℕ} {r : Next} → Found l at r → OneOf (0 ∷ (1 ∷ (2 ∷ []))) (tag_of the_type r)
-    → Wordless (flat_words (tokens (drop at l)))
-flat_other {l} {r = r} t h = rw t.tokens_are (first_wordless l r h)
+flat_word t = rw t.tokens_are
 
 -- a closing bracket alone has no words
 ended-tokens : (ts : List Token) → items_of ts ≡ Option.some (Item.closing ∷ []) → ts ≡ Token.closing ∷ []
@@ -139,33 +130,39 @@ unended-line k one w Option.none h = refl
 unended-line k one w (Option.some []) h = absurd h
 unended-line k one w (Option.some (v ∷ ws)) h = one w v ws
 
+-- a kind of line that needs a name
+unnamed_line : (k : ℕ) → flat_line k [] ≡ Line.no_form
+    → ((w : List ℕ) → begins_with_letter w ≡ false → (x : Words) → with_words k (prepend w x) ≡ Line.no_form)
+    → (ts : List Token) → begins_name ts ≡ false → with_words k (flat_words ts) ≡ Line.no_form
+unfolding flat_words
+unnamed_line k n f [] h = refl
+unnamed_line k n f (Token.opening ∷ ts) h = refl
+unnamed_line k n f (Token.closing ∷ ts) h = wordless_line k n (flat_words (Token.closing ∷ ts)) (closed_wordless ts)
+unnamed_line k n f (Token.word w ∷ ts) h = f w h (flat_words ts)
+
 -- no form of a flat kind, by the words behind the line's word
 
-flat_none : {l : List ℕ} {at k : ℕ} → 7 ≤ k → with_words k (flat_words (tokens (drop at l))) ≡ Line.no_form
-    → FormAfter l at k NoForm
+pub flat_none : {l : List ℕ} {at k : ℕ} → 7 ≤ k → with_words k (flat_words (tokens (drop at l))) ≡ Line.no_form
+    → FormAfter l at k None
 flat_none {k = k} i h = record { form-is = rw (le-ltb k 7 i) h }
 
 module _ (k : ℕ) (i : 7 ≤ k) where
-  pub wordless_form : flat_line k [] ≡ Line.no_form → {l : List ℕ} {at : ℕ} {r : Next} → Found l at r
-      → OneOf (0 ∷ (1 ∷ (2 ∷ []))) (tag_of the_type r) → FormAfter l at k NoForm
-  wordless_form n t h = flat_none i (wordless_line k n _ (flat_other t h))
+  pub wordless_form : flat_line k [] ≡ Line.no_form → (l : List ℕ) (at : ℕ)
+      → begins_word (tokens (drop at l)) ≡ false → FormAfter l at k None
+  wordless_form n l at h = flat_none i (wordless_line k n _ (word_wordless (tokens (drop at l)) h))
 
-  module _ (one : OneWord k) {l : List ℕ} {at : ℕ} {r : Next} (t : Found l at r) {a e : ℕ} (w : r ≡ Word a e) where
-    pub wrong_form : flat_line k (slice a e l ∷ []) ≡ Line.no_form → FormAfter l at k NoForm
+  pub unnamed_form : flat_line k [] ≡ Line.no_form
+      → ((w : List ℕ) → begins_with_letter w ≡ false → (x : Words) → with_words k (prepend w x) ≡ Line.no_form)
+      → (l : List ℕ) (at : ℕ) → begins_name (tokens (drop at l)) ≡ false → FormAfter l at k None
+  unnamed_form n f l at h = flat_none i (unnamed_line k n f (tokens (drop at l)) h)
+
+  module _ (one : OneWord k) {l : List ℕ} {at a e : ℕ} (t : Found l at (Word a e)) where
+    pub wrong_form : flat_line k (slice a e l ∷ []) ≡ Line.no_form → FormAfter l at k None
     wrong_form n =
-        flat_none i (rw (flat_word t w) (wrong_line k one (slice a e l) n (flat_words (tokens (drop e l)))))
+        flat_none i (rw (flat_word t) (wrong_line k one (slice a e l) n (flat_words (tokens (drop e l)))))
 
-    pub unended-form : ends_line l e ≡ false → FormAfter l at k NoForm
+    pub unended-form : ends_line l e ≡ false → FormAfter l at k None
     unfolding ends_line
     unended-form h =
         let f = unended-words (tokens (drop e l)) h in
-        flat_none i (rw (flat_word t w) (unended-line k one (slice a e l) (flat_words (tokens (drop e l))) f))
-
--- no kind
-
-kindless_line : (k : ℕ) → (k ≡ 7 → ⊥) → (k ≡ 8 → ⊥) → (k ≡ 9 → ⊥) → (x : Words) → with_words k x ≡ Line.no_form
-kindless_line k n m o Option.none = refl
-kindless_line k n m o (Option.some ws) = rw (ne_eqb k 7 n, ne_eqb k 8 m, ne_eqb k 9 o)
-
-pub flat_kindless : {l : List ℕ} {at k : ℕ} → 7 ≤ k → (k ≡ 7 → ⊥) → (k ≡ 8 → ⊥) → (k ≡ 9 → ⊥) → FormAfter l at k NoForm
-flat_kindless {l} {at} {k} h n m o = flat_none h (kindless_line k n m o (flat_words (tokens (drop at l))))
+        flat_none i (rw (flat_word t) (unended-line k one (slice a e l) (flat_words (tokens (drop e l))) f))

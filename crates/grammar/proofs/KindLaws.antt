@@ -9,6 +9,7 @@ use native.Mathlib.Omega.{arith}
 use lib.ListN.{length, get_or}
 use borrow.Author.Tests.{lt-ltb, le-ltb, ne_eqb}
 use Rattle.text.specs.Bytes.{same_bytes}
+use Rattle.text.specs.Tokens.{Token}
 use Rattle.text.specs.Words.{place_of}
 use Rattle.text.proofs.Places.{place-name}
 use Rattle.formulas.specs.Parsing.{Items}
@@ -18,6 +19,7 @@ use Rattle.formulas.proofs.Keywords.{own-place}
 use Rattle.formulas.proofs.FirstItem.{name_first}
 use Rattle.grammar.specs.Line.{Line, Literal, line_words, takes}
 use Rattle.grammar.specs.LineOf.{with_body, clause_of, body_line, of_kind, with_items, kind_of}
+use Rattle.grammar.specs.LineOf.{flat_words, with_words, behind_word}
 use Rattle.grammar.specs.Parsing.{literals_among, fits_body}
 
 pub word-kind : (k : ℕ) → k < length line_words → kind_of (get_or line_words k []) ≡ k
@@ -61,3 +63,13 @@ module _ (k : ℕ) (i : k ≤ 2) where
 pub body-kind : (k : ℕ) (x : Items) → 3 ≤ k → k < 6 → with_items k x ≡ with_body k (body_line k) (literals_among x)
 body-kind k Option.none i j = refl
 body-kind k (Option.some m) i j = rw (le-ltb k 3 i, ne_eqb k 6 (λ z. omega arith))
+
+-- no kind
+
+kindless_words : (k : ℕ) → 9 < k → (x : Option (List (List ℕ))) → with_words k x ≡ Line.no_form
+kindless_words k n Option.none = refl
+kindless_words k n (Option.some ws) =
+    rw (ne_eqb k 7 (λ z. omega arith), ne_eqb k 8 (λ z. omega arith), ne_eqb k 9 (λ z. omega arith))
+
+pub kindless-behind : (k : ℕ) (ts : List Token) → 9 < k → behind_word k ts ≡ Line.no_form
+kindless-behind k ts h = rw (le-ltb k 7 (omega arith)) (kindless_words k h (flat_words ts))

@@ -7,7 +7,7 @@
 --   Shaped n x       the bodies of the line x have a literal, a constraint its kind, a query at most n / 2 nodes, an
 --                    edition line its edition
 -- Assumes nothing.
-use mathlib.Core.Path.{◌≡◌, refl, sym, ap, ◌∙◌, subst}
+use mathlib.Core.Path.{◌≡◌, refl, sym, ap, ◌∙◌}
 use mathlib.Core.Bool.{true, false}
 use mathlib.Core.List.{List, [], ◌∷◌, ◌++◌, append_assoc, append-nil}
 use mathlib.Core.Logic.{inl, inr}
@@ -32,13 +32,7 @@ use Rattle.formulas.specs.Items.{Item}
 use Rattle.formulas.proofs.Sizes.{formula-size}
 use Rattle.grammar.specs.Line.{Literal, Line, line_words, of_literal, body_tokens, line_tokens, are_named, takes}
 use Rattle.grammar.specs.Line.{is_cost, is_edition, is_line, body_names, line_names}
-use Rattle.grammar.specs.Bringing.{bodied, asking, pricing, editing, nothing}
 use Rattle.grammar.specs.LineOf.{line_of}
-use Rattle.grammar.specs.Parsing.{Brought}
-use Rattle.grammar.specs.declared.line.Form.{Form}
-use Rattle.grammar.specs.declared.line.Form.TheVariants.{Skipped, NoForm, Clause, Constraint, Seen, Query, Cost}
-use Rattle.grammar.specs.declared.line.Form.TheVariants.{Atom, Edition}
-use Rattle.grammar.specs.declared.brings.Brings.{Brings}
 use Rattle.grammar.proofs.Editions.{edition-number}
 use Rattle.grammar.proofs.LineReading.{sentence-read, ClauseParts, clause-parts, ConstraintParts}
 use Rattle.grammar.proofs.LineReading.{constraint-parts}
@@ -168,47 +162,6 @@ name-is-line w = refl
 pub edition-is-line : (e : ℕ) → is_line (Line.edition e) ≡ is_edition e
 unfolding is_line
 edition-is-line e = refl
-
--- What a line brings, by its form
-
-abbrev brings_of : Form → Brings
-brings_of Skipped = nothing
-brings_of NoForm = nothing
-brings_of (Clause k a e n) = bodied 1 0 n
-brings_of (Constraint k at n) = bodied 0 1 n
-brings_of (Seen at) = nothing
-brings_of (Query at d) = asking d
-brings_of (Cost a e p s) = pricing p s
-brings_of (Atom a e) = nothing
-brings_of (Edition n) = editing
-
-brought : (x : Form) → Brought x (brings_of x)
-brought Skipped l y h = rw h
-brought NoForm l y h = rw h
-brought (Clause k a e n) l y h = rw (h.2.line-is, h.2.count-is)
-brought (Constraint k at n) l y h = rw (h.1.line-is, h.1.count-is)
-brought (Seen at) l y h = rw h.line-is
-brought (Query at d) l y h = rw (h.line-is, h.depth_is)
-brought (Cost a e p s) l y h = rw (h.1.line-is, h.1.price-is, h.1.supplement-is)
-brought (Atom a e) l y h = rw h.1
-brought (Edition n) l y h = rw h.2
-
--- the other forms bring nothing
-pub brought-nothing : (x : Form) → ((k a e n : ℕ) → x ≡ Clause k a e n → ⊥) → ((k at n : ℕ) → x ≡ Constraint k at n → ⊥)
-    → ((at d : ℕ) → x ≡ Query at d → ⊥) → ((a e p s : ℕ) → x ≡ Cost a e p s → ⊥) → ((n : ℕ) → x ≡ Edition n → ⊥)
-    → Brought x nothing
-brought-nothing Skipped f g h i j = brought Skipped
-brought-nothing NoForm f g h i j = brought NoForm
-brought-nothing (Clause k a e n) f g h i j = absurd (f k a e n refl)
-brought-nothing (Constraint k at n) f g h i j = absurd (g k at n refl)
-brought-nothing (Seen at) f g h i j = brought (Seen at)
-brought-nothing (Query at d) f g h i j = absurd (h at d refl)
-brought-nothing (Cost a e p s) f g h i j = absurd (i a e p s refl)
-brought-nothing (Atom a e) f g h i j = brought (Atom a e)
-brought-nothing (Edition n) f g h i j = absurd (j n refl)
-
-pub brought_as : {x : Form} (y : Form) → x ≡ y → Brought x (brings_of y)
-brought_as y e = subst (λ z. Brought z (brings_of y)) (sym e) (brought y)
 
 -- Literals and nodes
 

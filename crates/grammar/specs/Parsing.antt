@@ -5,8 +5,10 @@
 --   BodyFound l at k r    r is the number of the literals from place at to the line's end, as many as a line of kind k
 --                         takes, or that there are none
 --   NumeralFound l at r   r is the number at place at of the flat line l, with the place behind it, or none
---   FormFound l r         r is the form of the line l, with the places of its parts
+--   FormIs l f x          f is the form of the line x, with the places of its parts in l
+--   FormFound l r         r is the form of the line l, with the places of its parts, or none
 use Rattle.std.specs.Prelude.{◌≡◌, Bool, true, false, List, [], ◌∷◌, ℕ, ◌≤◌, ◌<◌, length, drop}
+use Rattle.std.specs.Prelude as code
 use Rattle.std.proofs.Math.Option.{Option}
 use Rattle.std.proofs.Math.Seq.{slice}
 use Rattle.text.specs.Tokens.{Token, tokens}
@@ -17,12 +19,9 @@ use Rattle.formulas.specs.Sentence.{Sentence}
 use Rattle.formulas.specs.Items.{prepend, Item, items_of}
 use Rattle.grammar.specs.declared.literal.Lit.{Lit}
 use Rattle.grammar.specs.declared.literal.Lit.TheVariants as lit
-use Rattle.grammar.specs.declared.literal.Body.{Body}
-use Rattle.grammar.specs.declared.literal.Body.TheVariants as body
 use Rattle.grammar.specs.declared.numeral.Numeral.{Numeral}
-use Rattle.grammar.specs.declared.numeral.Numeral.TheVariants as numeral
 use Rattle.grammar.specs.declared.line.Form.{Form}
-use Rattle.grammar.specs.declared.line.Form.TheVariants.{Skipped, NoForm, Clause, Constraint, Seen, Query, Cost}
+use Rattle.grammar.specs.declared.line.Form.TheVariants.{Skipped, Clause, Constraint, Seen, Query, Cost}
 use Rattle.grammar.specs.declared.line.Form.TheVariants.{Atom, Edition}
 use Rattle.grammar.specs.declared.brings.Brings.{Brings}
 use Rattle.grammar.specs.Line.{Line, Literal, takes}
@@ -41,27 +40,28 @@ abbrev pub body_in : List Token → Option (List Literal)
 body_in ts = literals_among (items_of ts)
 
 -- the literals that begin with what r found in the line l
-abbrev pub first_literal : List ℕ → Lit → Option (List Literal)
-first_literal l lit.NoLiteral = Option.none
-first_literal l lit.BodyEnd = Option.some []
-first_literal l (lit.Literal b a e next) = prepend (Literal.literal b (slice a e l)) (body_in (tokens (drop next l)))
+abbrev pub first_literal : List ℕ → code.Option Lit → Option (List Literal)
+first_literal l code.None = Option.none
+first_literal l (code.Some lit.BodyEnd) = Option.some []
+first_literal l (code.Some (lit.Literal b a e next)) =
+    prepend (Literal.literal b (slice a e l)) (body_in (tokens (drop next l)))
 
 -- what was found lies in the line, behind place at
-abbrev pub LiteralInside : List ℕ → ℕ → Lit → Type 0
-LiteralInside l at lit.NoLiteral = Unit {0}
-LiteralInside l at lit.BodyEnd = Unit {0}
-LiteralInside l at (lit.Literal b a e next) = (at < next) × (next ≤ length l) × (a < e) × (e ≤ length l)
+abbrev pub LiteralInside : List ℕ → ℕ → code.Option Lit → Type 0
+LiteralInside l at code.None = Unit {0}
+LiteralInside l at (code.Some lit.BodyEnd) = Unit {0}
+LiteralInside l at (code.Some (lit.Literal b a e next)) = (at < next) × (next ≤ length l) × (a < e) × (e ≤ length l)
 
 -- the tokens ts begin with the literal that r found behind place at
-pub record LiteralIn (ts : List Token) (l : List ℕ) (at : ℕ) (r : Lit) : Type 0 where
+pub record LiteralIn (ts : List Token) (l : List ℕ) (at : ℕ) (r : code.Option Lit) : Type 0 where
   pub literals_are : body_in ts ≡ first_literal l r
   pub inside : LiteralInside l at r
 
-abbrev pub LiteralFound : List ℕ → ℕ → Lit → Type 0
+abbrev pub LiteralFound : List ℕ → ℕ → code.Option Lit → Type 0
 LiteralFound l at r = LiteralIn (tokens (drop at l)) l at r
 
 -- the same of a literal whose opening bracket stands before place at
-abbrev pub NegationFound : List ℕ → ℕ → Lit → Type 0
+abbrev pub NegationFound : List ℕ → ℕ → code.Option Lit → Type 0
 NegationFound l at r = LiteralIn (Token.opening ∷ tokens (drop at l)) l at r
 
 -- there are literals, as many as a line of kind k takes
@@ -76,11 +76,11 @@ pub record CountedBody (k n : ℕ) (x : Option (List Literal)) : Type 0 where
   pub fits : takes k (length literals) ≡ true
   pub count-is : n ≡ length literals
 
-abbrev pub BodyIs : ℕ → Option (List Literal) → Body → Type 0
-BodyIs k x body.NoBody = fits_body k x ≡ false
-BodyIs k x (body.Literals n) = CountedBody k n x
+abbrev pub BodyIs : ℕ → Option (List Literal) → code.Option ℕ → Type 0
+BodyIs k x code.None = fits_body k x ≡ false
+BodyIs k x (code.Some n) = CountedBody k n x
 
-pub record BodyFound (l : List ℕ) (at k : ℕ) (r : Body) : Type 0 where
+pub record BodyFound (l : List ℕ) (at k : ℕ) (r : code.Option ℕ) : Type 0 where
   pub body_is : BodyIs k (body_in (tokens (drop at l))) r
 
 -- what flat words begin with is no number
@@ -96,11 +96,11 @@ pub record NumeralAt (l : List ℕ) (at n next : ℕ) : Type 0 where
   pub is-number : is_number digits ≡ true
   pub value-is : n ≡ number_of digits
 
-abbrev pub NumeralIs : List ℕ → ℕ → Numeral → Type 0
-NumeralIs l at numeral.NoNumeral = Unnumbered (flat_words (tokens (drop at l)))
-NumeralIs l at (numeral.Numeral n next) = NumeralAt l at n next
+abbrev pub NumeralIs : List ℕ → ℕ → code.Option Numeral → Type 0
+NumeralIs l at code.None = Unnumbered (flat_words (tokens (drop at l)))
+NumeralIs l at (code.Some n) = NumeralAt l at n.value n.next
 
-pub record NumeralFound (l : List ℕ) (at : ℕ) (r : Numeral) : Type 0 where
+pub record NumeralFound (l : List ℕ) (at : ℕ) (r : code.Option Numeral) : Type 0 where
   pub numeral_is : NumeralIs l at r
 
 -- the literals from place at on, n of them, make the line x
@@ -137,7 +137,6 @@ Part l a e = (a < e) × (e ≤ length l)
 
 abbrev pub FormIs : List ℕ → Form → Line → Type 0
 FormIs l Skipped x = x ≡ Line.skipped
-FormIs l NoForm x = x ≡ Line.no_form
 FormIs l (Clause k a e n) x = (k ≤ 2) × Part l a e × BodyMakes l e n (Line.clause k (slice a e l)) x
 FormIs l (Constraint k at n) x = (k ≤ 1) × BodyMakes l at n (Line.constraint k) x
 FormIs l (Seen at) x = SeenMakes l at x
@@ -146,16 +145,20 @@ FormIs l (Cost a e p s) x = Part l a e × CostMakes (slice a e l) p s x
 FormIs l (Atom a e) x = Part l a e × (x ≡ Line.atom (slice a e l))
 FormIs l (Edition n) x = (1 ≤ n) × (n ≤ 2) × (x ≡ Line.edition n)
 
+abbrev pub FormOrNone : List ℕ → code.Option Form → Line → Type 0
+FormOrNone l code.None x = x ≡ Line.no_form
+FormOrNone l (code.Some f) x = FormIs l f x
+
 -- the line of a kind whose tokens behind its word begin at place at
-pub record FormAfter (l : List ℕ) (at kind : ℕ) (r : Form) : Type 0 where
-  pub form-is : FormIs l r (behind_word kind (tokens (drop at l)))
+pub record FormAfter (l : List ℕ) (at kind : ℕ) (r : code.Option Form) : Type 0 where
+  pub form-is : FormOrNone l r (behind_word kind (tokens (drop at l)))
 
 -- a closing bracket is all that is left of the line from place at on
 unfoldable pub ends_line : List ℕ → ℕ → Bool
 ends_line l at = ends_items (items_of (tokens (drop at l)))
 
-pub record FormFound (l : List ℕ) (r : Form) : Type 0 where
-  pub form-is : FormIs l r (line_of (tokens l))
+pub record FormFound (l : List ℕ) (r : code.Option Form) : Type 0 where
+  pub form-is : FormOrNone l r (line_of (tokens l))
 
 -- r is what a line of the form x brings
 abbrev pub Brought : Form → Brings → Type 0

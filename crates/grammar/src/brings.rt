@@ -13,3 +13,16 @@ pub struct Brings {
     pub supplement: usize,
     pub editions: usize,
 }
+
+impl Brings {
+    pub const NOTHING: Brings = Brings {
+        clauses: 0,
+        constraints: 0,
+        queries: 0,
+        depth: 0,
+        literals: 0,
+        price: 0,
+        supplement: 0,
+        editions: 0,
+    };
+}

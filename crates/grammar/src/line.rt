@@ -1,16 +1,16 @@
 // The form of a line.
 ghost use Rattle.std.specs.Prelude.{◌≤◌, ◌≡◌, length};
-ghost use Rattle.std.proofs.Math.Seq.{slice};
+ghost use Rattle.formulas.specs.Keyword.{Below};
 ghost use Rattle.grammar.specs.LineOf.{kind_of};
 ghost use Rattle.grammar.specs.Parsing.{FormFound, FormAfter, Brought, ends_line};
 
 use crate::brings::Brings;
-use crate::literal::{Body, body_at};
-use crate::numeral::{Numeral, numeral_at};
+use crate::literal::body_at;
+use crate::numeral::numeral_at;
 use formulas::formula::{Parse, formula_at};
 use formulas::keyword::place_of;
-use text::name::is_name;
-use text::tokens::{Next, token};
+use text::name::name_at;
+use text::tokens::{Next, close_at, token, word_at};
 
 // The form of a line with the places of its parts: a clause's kind, the ends of its head, behind which its literals
 // begin, and their number; a constraint's kind, the place where its literals begin, and their number; the place where
@@ -19,7 +19,6 @@ use text::tokens::{Next, token};
 #[derive(Clone, Copy)]
 pub enum Form {
     Skipped,
-    NoForm,
     Clause(usize, usize, usize, usize),
     Constraint(usize, usize, usize),
     Seen(usize),
@@ -29,176 +28,114 @@ pub enum Form {
     Edition(usize),
 }
 
-// The words of lines, in the order of their kinds, each behind its length.
-const LINE_WORDS: [u8; 55] =
-    *b"\x04true\x05false\x02if\x05never\x05avoid\x04seen\x05query\x04cost\x04atom\x07edition";
+// The words of lines, in the order of their kinds. A kind is a number, as the tables hold it.
+const LINE_WORDS: [&[u8]; 10] = [
+    b"true", b"false", b"if", b"never", b"avoid", b"seen", b"query", b"cost", b"atom", b"edition",
+];
 
-// The kind of the line whose word is the part of l from a to e, or 10.
-fn kind_of(l: &[u8], a: usize, e: usize) -> usize
-    requires { (a ≤ e) × (e ≤ length l.now) }
-    ensures { result ≡ kind_of (slice a e l.now) }
+// The kind of the line that has a word.
+fn kind_of(w: &[u8]) -> Option<usize>
+    ensures { Below 10 (kind_of w.now) result }
 {
-    place_of(l, a, e, &LINE_WORDS, 10)
+    place_of(w, &LINE_WORDS)
 }
 
 // Whether a closing bracket is all that is left of a line from a place on.
 fn ends_line(l: &[u8], at: usize) -> bool
     ensures { result ≡ ends_line l.now at }
 {
-    let Next::Close(i) = token(l, at) else {
-        return false;
-    };
-    let Next::End = token(l, i) else {
-        return false;
-    };
-    true
+    match close_at(l, at) {
+        Some(i) => matches!(token(l, i), Next::End),
+        None => false,
+    }
 }
 
 // A clause from behind its word on.
-fn clause_form(l: &[u8], at: usize, kind: usize) -> Form
+fn clause_form(l: &[u8], at: usize, kind: usize) -> Option<Form>
     requires { kind ≤ 2 }
     ensures { FormAfter l.now at kind result }
 {
-    let Next::Word(a, e) = token(l, at) else {
-        return Form::NoForm;
-    };
-    if !is_name(l, a, e) {
-        return Form::NoForm;
-    }
-    let Body::Literals(n) = body_at(l, e, kind) else {
-        return Form::NoForm;
-    };
-    Form::Clause(kind, a, e, n)
+    let (a, e) = name_at(l, at)?;
+    let literals = body_at(l, e, kind)?;
+    Some(Form::Clause(kind, a, e, literals))
 }
 
 // A query from behind its word on.
-fn query_form(l: &[u8], at: usize) -> Form
+fn query_form(l: &[u8], at: usize) -> Option<Form>
     ensures { FormAfter l.now at 6 result }
 {
-    let Parse::Formula(next, depth) = formula_at(l, at) else {
-        return Form::NoForm;
-    };
-    if !ends_line(l, next) {
-        return Form::NoForm;
-    }
-    Form::Query(at, depth)
+    let Parse { next, depth } = formula_at(l, at)?;
+    ends_line(l, next).then_some(Form::Query(at, depth))
 }
 
 // A cost from behind its word on: a name, a price and a supplement.
-fn cost_form(l: &[u8], at: usize) -> Form
+fn cost_form(l: &[u8], at: usize) -> Option<Form>
     ensures { FormAfter l.now at 7 result }
 {
-    let Next::Word(a, e) = token(l, at) else {
-        return Form::NoForm;
-    };
-    if !is_name(l, a, e) {
-        return Form::NoForm;
-    }
-    let Numeral::Numeral(price, f) = numeral_at(l, e) else {
-        return Form::NoForm;
-    };
-    let Numeral::Numeral(supplement, g) = numeral_at(l, f) else {
-        return Form::NoForm;
-    };
-    if !ends_line(l, g) {
-        return Form::NoForm;
-    }
-    Form::Cost(a, e, price, supplement)
+    let (a, e) = name_at(l, at)?;
+    let price = numeral_at(l, e)?;
+    let supplement = numeral_at(l, price.next)?;
+    ends_line(l, supplement.next).then_some(Form::Cost(a, e, price.value, supplement.value))
 }
 
 // An atom line from behind its word on: a name.
-fn atom_form(l: &[u8], at: usize) -> Form
+fn atom_form(l: &[u8], at: usize) -> Option<Form>
     ensures { FormAfter l.now at 8 result }
 {
-    let Next::Word(a, e) = token(l, at) else {
-        return Form::NoForm;
-    };
-    if !is_name(l, a, e) {
-        return Form::NoForm;
-    }
-    if !ends_line(l, e) {
-        return Form::NoForm;
-    }
-    Form::Atom(a, e)
+    let (a, e) = name_at(l, at)?;
+    ends_line(l, e).then_some(Form::Atom(a, e))
 }
 
 // An edition line from behind its word on: the digit 1 or 2.
-fn edition_form(l: &[u8], at: usize) -> Form
+fn edition_form(l: &[u8], at: usize) -> Option<Form>
     ensures { FormAfter l.now at 9 result }
 {
-    let Next::Word(a, next) = token(l, at) else {
-        return Form::NoForm;
-    };
-    if 1 < next - a {
-        return Form::NoForm;
+    let (a, e) = word_at(l, at)?;
+    if !ends_line(l, e) {
+        return None;
     }
-    if !ends_line(l, next) {
-        return Form::NoForm;
+    match &l[a..e] {
+        b"1" => Some(Form::Edition(1)),
+        b"2" => Some(Form::Edition(2)),
+        _ => None,
     }
-    let digit = l[a];
-    if digit == b'1' {
-        return Form::Edition(1);
-    }
-    if digit == b'2' {
-        return Form::Edition(2);
-    }
-    Form::NoForm
-}
-
-// A flat line of a kind from behind its word on.
-fn flat_form(l: &[u8], at: usize, kind: usize) -> Form
-    requires { 7 ≤ kind }
-    ensures { FormAfter l.now at kind result }
-{
-    if kind == 7 {
-        return cost_form(l, at);
-    }
-    if kind == 8 {
-        return atom_form(l, at);
-    }
-    if kind == 9 {
-        return edition_form(l, at);
-    }
-    Form::NoForm
 }
 
 // The form of a kind from behind its word on.
-fn form_of_kind(l: &[u8], at: usize, kind: usize) -> Form
+fn form_of_kind(l: &[u8], at: usize, kind: usize) -> Option<Form>
     requires { at ≤ length l.now }
     ensures { FormAfter l.now at kind result }
 {
-    if kind <= 2 {
-        return clause_form(l, at, kind);
+    match kind {
+        0..=2 => clause_form(l, at, kind),
+        3..=4 => {
+            let literals = body_at(l, at, kind)?;
+            Some(Form::Constraint(kind - 3, at, literals))
+        }
+        5 => {
+            body_at(l, at, 5)?;
+            Some(Form::Seen(at))
+        }
+        6 => query_form(l, at),
+        7 => cost_form(l, at),
+        8 => atom_form(l, at),
+        9 => edition_form(l, at),
+        _ => None,
     }
-    if 7 <= kind {
-        return flat_form(l, at, kind);
-    }
-    if kind == 6 {
-        return query_form(l, at);
-    }
-    let Body::Literals(n) = body_at(l, at, kind) else {
-        return Form::NoForm;
-    };
-    if kind < 5 {
-        return Form::Constraint(kind - 3, at, n);
-    }
-    Form::Seen(at)
 }
 
 // The form of a line.
-pub fn form_of(l: &[u8]) -> Form
+pub fn form_of(l: &[u8]) -> Option<Form>
     ensures { FormFound l.now result }
 {
     match token(l, 0) {
-        Next::End => Form::Skipped,
-        Next::Close(_) => Form::NoForm,
-        Next::Word(_, _) => Form::NoForm,
+        Next::End => Some(Form::Skipped),
         Next::Open(i) => {
-            let Next::Word(a, e) = token(l, i) else {
-                return Form::NoForm;
-            };
-            form_of_kind(l, e, kind_of(l, a, e))
+            let (a, e) = word_at(l, i)?;
+            let kind = kind_of(&l[a..e])?;
+            form_of_kind(l, e, kind)
         }
+        _ => None,
     }
 }
 
@@ -209,63 +146,28 @@ pub fn brings(x: Form) -> Brings
     match x {
         Form::Clause(_, _, _, literals) => Brings {
             clauses: 1,
-            constraints: 0,
-            queries: 0,
-            depth: 0,
-            literals: literals,
-            price: 0,
-            supplement: 0,
-            editions: 0,
+            literals,
+            ..Brings::NOTHING
         },
         Form::Constraint(_, _, literals) => Brings {
-            clauses: 0,
             constraints: 1,
-            queries: 0,
-            depth: 0,
-            literals: literals,
-            price: 0,
-            supplement: 0,
-            editions: 0,
+            literals,
+            ..Brings::NOTHING
         },
         Form::Query(_, depth) => Brings {
-            clauses: 0,
-            constraints: 0,
             queries: 1,
-            depth: depth,
-            literals: 0,
-            price: 0,
-            supplement: 0,
-            editions: 0,
+            depth,
+            ..Brings::NOTHING
         },
         Form::Cost(_, _, price, supplement) => Brings {
-            clauses: 0,
-            constraints: 0,
-            queries: 0,
-            depth: 0,
-            literals: 0,
-            price: price,
-            supplement: supplement,
-            editions: 0,
+            price,
+            supplement,
+            ..Brings::NOTHING
         },
         Form::Edition(_) => Brings {
-            clauses: 0,
-            constraints: 0,
-            queries: 0,
-            depth: 0,
-            literals: 0,
-            price: 0,
-            supplement: 0,
             editions: 1,
+            ..Brings::NOTHING
         },
-        _ => Brings {
-            clauses: 0,
-            constraints: 0,
-            queries: 0,
-            depth: 0,
-            literals: 0,
-            price: 0,
-            supplement: 0,
-            editions: 0,
-        },
+        Form::Skipped | Form::Seen(_) | Form::Atom(_, _) => Brings::NOTHING,
     }
 }

@@ -1,20 +1,20 @@
-// Reading the input, standard input above all, into a lent buffer, for the programs that answer it.
+// Reading the input, standard input above all, into a lent buffer, and answering it with a text, for the programs.
 #![tactic(auto)]
 
-ghost use Rattle.std.specs.Prelude.{◌≡◌, ◌<◌, length, take, IsNone, IsSome, MatchResult, Ok, Err};
-ghost use Rattle.input.specs.declared.Fault.TheVariants.{Output};
-ghost use Rattle.std.specs.Io.KnownBytes.{Consumes, IsAtEnd};
-ghost use Rattle.input.specs.Reading.{Stopped};
+ghost use Rattle.std.specs.Prelude.{◌≡◌, List, ℕ, ◌<◌, ◌++◌, length, take, OnOk};
+ghost use Rattle.input.specs.declared.Fault.TheVariants.{Input};
+ghost use Rattle.system.specs.Writing.{WritesText, TellsFault};
+ghost use Rattle.input.specs.Reading.{InputRead};
+ghost use Rattle.input.specs.Answering.{IsAnswered, stream_of};
 
-use std::io::{self, Read};
+use std::io::{self, Read, Write};
+use system::tell_fault;
 
-// What reading the input gave: how many bytes, how many of them by the last call of read, and why that failed, if it
-// did.
+// Why the input could not be read, and how many bytes of it were read before.
 #[derive(Clone, Copy)]
-pub struct Input {
+pub struct ReadFault {
     pub count: usize,
-    pub last: usize,
-    pub fault: Option<io::Error>,
+    pub error: io::Error,
 }
 
 // Why a program has not answered its input: the input could not be read, or the answer not be written whole.
@@ -24,40 +24,63 @@ pub enum Fault {
     Output(io::Error),
 }
 
-// What a program ends with, by the outcome of writing its answer.
-pub fn end(written: io::Result<()>) -> Result<(), Fault>
-    ensures { MatchResult written (λ u. result ≡ Ok u) (λ e. result ≡ Err (Output e)) }
-{
-    match written {
-        Ok(()) => Ok(()),
-        Err(error) => Err(Fault::Output(error)),
+impl From<ReadFault> for Fault {
+    ghost from_gives = { λ f r. r ≡ Input f.error };
+
+    fn from(fault: ReadFault) -> Fault {
+        Fault::Input(fault.error)
     }
 }
 
+// How a program answers its input.
+pub trait Operation {
+    // t is a text that answers the bytes i
+    ghost is_text: { List ℕ → List ℕ → Type 0 };
+
+    // Writes a text that answers the bytes.
+    fn write<W: Write>(&self, input: &[u8], to: &mut W) -> io::Result<()>
+        ensures { (t : List ℕ) × is_text input.now t × WritesText result (W.contents to.old) (W.contents to.new) t };
+
+    // an input of more than 32,768 bytes is answered as what it begins with is
+    ghost cut: { (i t : List ℕ) (k : ℕ) → 32768 < k → is_text (take k i) t → is_text i t };
+}
+
 // Reads the input until the buffer is full, the input ends or a read fails. An interrupted read counts as a failed one.
-pub fn read_input<R: Read>(from: &mut R, buf: &mut [u8]) -> Input
-    ensures stopped { Stopped buf.new result }
-    ensures faulted { IsSome result.fault → result.count < length buf.new }
-    ensures bytes { Consumes (R.remaining from.old) (R.remaining from.new) (take result.count buf.new) }
-    ensures ended { IsNone result.fault → result.count < length buf.new → IsAtEnd (R.remaining from.new) }
+pub fn read_input<R: Read>(from: &mut R, buf: &mut [u8]) -> Result<usize, ReadFault>
+    ensures { InputRead result buf.new (R.remaining from.old) (R.remaining from.new) }
 {
     let mut done: usize = 0;
-    let mut last: usize = 0;
     while done < buf.len() {
-        let read = from.read(&mut buf[done..]);
-        last = read.unwrap_or(0);
-        if last == 0 {
-            return Input {
-                count: done,
-                last,
-                fault: read.err(),
-            };
+        match from.read(&mut buf[done..]) {
+            Ok(0) => return Ok(done),
+            Ok(n) => done += n,
+            Err(error) => return Err(ReadFault { count: done, error }),
         }
-        done += last;
     }
-    Input {
-        count: done,
-        last,
-        fault: None,
+    Ok(done)
+}
+
+// Reads the input into a buffer, and writes a text that answers it.
+pub fn answer<P: Operation, R: Read, W: Write>(
+    operation: &P,
+    from: &mut R,
+    to: &mut W,
+    buf: &mut [u8],
+) -> Result<(), Fault>
+    requires { 32768 < length buf.old }
+    ensures { IsAnswered P.is_text (R.remaining from.old) result (W.contents to.old) (W.contents to.new) }
+{
+    let n = read_input(from, buf)?;
+    operation.write(&buf[..n], to).map_err(Fault::Output)
+}
+
+// Writes a line, for standard error: the program, which of its streams failed, and the words of the error.
+pub fn tell<W: Write>(to: &mut W, program: &str, fault: Fault) -> io::Result<()>
+    ensures { OnOk result (TellsFault (program.now ++ stream_of fault) (W.contents to.old) (W.contents to.new)) }
+{
+    write!(to, "{program}: ")?;
+    match fault {
+        Fault::Input(error) => tell_fault(to, "standard input", error),
+        Fault::Output(error) => tell_fault(to, "standard output", error),
     }
 }

@@ -15,29 +15,35 @@ use Rattle.names.specs.Row.{name_in}
 use Rattle.store.specs.Lent.{Lent}
 use Rattle.store.specs.Saying.{Said}
 use Rattle.store.specs.Tables.{case_said}
-use Rattle.reader.specs.declared.read.Answer as reader
+use Rattle.std.specs.Prelude.{Result, Ok, Err, IsOk, IfOk}
+use Rattle.refusals.specs.declared.Refusal.{Refusal}
+use Rattle.refusals.specs.Refusal.{refused_as}
+use Rattle.refusals.proofs.Numbers.{number_some}
+use Rattle.program.specs.declared.case.Case.{Case}
+use Rattle.reader.specs.declared.read.Refused.{Refused}
+use Rattle.reader.specs.Answers.{refusal_in, line_in, case_in}
 use Rattle.reader.specs.Reading.{Outcome, said_in, read_file}
 use Rattle.reader.specs.Operation.{ReadAs}
-use Rattle.output.specs.declared.Answer as output
 use Rattle.wording.specs.Text.{refusal_text}
 use Rattle.report.specs.Report.{clause_table, name_of}
 use Rattle.report.specs.Operation.{ReportShown}
-use Rattle.report.specs.Sizes.{FullTables}
 use Rattle.report.proofs.Accepted.{said-table}
-use Rattle.report.proofs.Reported.{Accepted, accepted_report, refused-shown, refused_silent, accepted-sound}
-use Rattle.layering.specs.declared.operation.Answer.{Answer}
-use Rattle.layering.specs.Operation.{layers_refusal, numbers_answer, ring_answer, Layering}
+use Rattle.report.proofs.Reported.{FullTables, Accepted, accepted_report, refused-shown, refused_silent, accepted-sound}
+use Rattle.layering.specs.declared.answer.Entries.{Entries}
+use Rattle.layering.specs.declared.answer.Layers.{Layers}
+use Rattle.layering.specs.Operation.{layers_refusal, numbers_in, entries_of, Answered, Layering}
 use Rattle.layering.proofs.Answers.{refusal-none}
-use Rattle.layer_report.specs.Entries.{Atoms, entries_text, Told}
+use Rattle.layer_report.specs.Entries.{Atoms, entries_text, layers_shown, ToldEntries, Told}
 use Rattle.layer_report.specs.Report.{layered_said, RingSaid, layers_said, layers_text, LayersOf}
 use Rattle.layer_report.specs.Operation.{LayersReported}
 use Rattle.layer_report.proofs.Bounds.{entries_alike}
 use Rattle.layer_report.proofs.Sayings.{entries_said, layers_told, numbers-count, entries_few, entries_atoms}
 
 -- a file that is refused
-pub refused_reported : {f : List ℕ} {t u : Lent} {r : reader.Answer} {out outAfter : List ℕ} {q : output.Answer}
-    → FullTables t → ReadAs f t u r → (r.refusal ≡ 0 → ⊥)
-    → ReportShown (refusal_text r.refusal r.line) out q outAfter → LayersReported f out q outAfter
+pub refused_reported : {f : List ℕ} {t u : Lent} {r : Result Case Refused} {out outAfter : List ℕ}
+    {q : Result ℕ Refusal}
+    → FullTables t → ReadAs f t u r → (refusal_in r ≡ 0 → ⊥)
+    → ReportShown (refusal_text (refusal_in r) (line_in r)) out q outAfter → LayersReported f out q outAfter
 refused_reported {f} x h k s = record {
   text = layers_text [] f;
   text_of = record {
@@ -48,57 +54,39 @@ refused_reported {f} x h k s = record {
   shown = refused-shown x h k (layers_said []) s;
 }
 
--- the entries in use of the answer q
-abbrev pub entries_of : Answer → List ℕ
-entries_of q = take q.count q.entries
-
 -- what is shown of the answer q for the file f, with a table of names
-pub record Shows (f names : List ℕ) (q : Answer) : Type 0 where
-  pub count_fits : q.count ≤ length q.entries
-  pub told : Told names q.layered (entries_of q)
-  pub text_of : LayersOf f (entries_text (name_in names) q.layered (entries_of q))
+pub record Shows (f names : List ℕ) (q : Layers) : Type 0 where
+  pub told : Told names q
+  pub text_of : LayersOf f (layers_shown (name_in names) q)
 
--- the answer with the entries l
-abbrev answer_of : Bool → List ℕ → Answer
-answer_of b l = record { refusal = 0; layered = b; count = length l; entries = padded 64 l }
+-- n entries, those of l, are told
+module _ {f names : List ℕ} {n : ℕ} (l : List ℕ) (few : length l ≤ 64) (e : n ≡ length l) where
+  numbers_shown : ToldEntries names true l → LayersOf f (entries_text (name_in names) true l)
+      → Shows f names (Layers.Layered (entries_of n l))
+  numbers_shown t o = rw e (record {
+    told = (few, rw (padded-front 64 l few) t);
+    text_of = rw (padded-front 64 l few) o;
+  })
 
-shows_by : {f names : List ℕ} (b : Bool) (l : List ℕ) → length l ≤ 64 → Told names b l
-    → LayersOf f (entries_text (name_in names) b l) → Shows f names (answer_of b l)
-shows_by b l h t o = record {
-  count_fits = omega (arith, padded-length 64 l);
-  told = rw (padded-front 64 l h) t;
-  text_of = rw (padded-front 64 l h) o;
-}
+  ring_shown : ToldEntries names false l → LayersOf f (entries_text (name_in names) false l)
+      → Shows f names (Layers.Ring (entries_of n l))
+  ring_shown t o = rw e (record {
+    told = (few, rw (padded-front 64 l few) t);
+    text_of = rw (padded-front 64 l few) o;
+  })
 
-answer_by : (st : Said) (l : List ℕ) (b : Bool)
-    → pick b (numbers_answer (case_said st) (clause_table st)) (ring_answer l) ≡ answer_of b (entries_said st l b)
-answer_by st l true = rw (numbers-count st)
-answer_by st l false = refl
-
--- an accepted file, and the answer q of *layers*
-module _ {f : List ℕ} {u : Lent} {r : reader.Answer} (a : Accepted f u r) {q : Answer}
-    (h : Layering r.found u.clauses u.constraints u.formula q) where
-  none : layers_refusal r.found u.clauses u.constraints u.formula ≡ 0
-  none =
-      let s = accepted-sound a in
-      refusal-none r.found _ _ _ (sound-full r.found _ _ _ s) s
-
-  ring-is : layered_said a.said ≡ false → RingSaid a.said h.ring
-  ring-is = rw (a.case-is, a.clauses_are) at (h.ring-is none)
-
+-- an accepted file, and a ring of it, where it isn't layered
+module _ {f : List ℕ} {u : Lent} {c : Case} (a : Accepted f u c) (ring : List ℕ)
+    (ring-is : layered_said a.said ≡ false → RingSaid a.said ring) where
   -- the entries told
   abbrev told_entries : List ℕ
-  told_entries = entries_said a.said h.ring (layered_said a.said)
-
-  answer-is : q ≡ answer_of (layered_said a.said) told_entries
-  answer-is =
-      rw (none, a.case-is, a.clauses_are) at h.answer-is ∙ answer_by a.said h.ring (layered_said a.said)
+  told_entries = entries_said a.said ring (layered_said a.said)
 
   few : length told_entries ≤ 64
-  few = entries_few f a.said a.read_is h.ring (layered_said a.said) ring-is
+  few = entries_few f a.said a.read_is ring (layered_said a.said) ring-is
 
   atoms : layered_said a.said ≡ false → Atoms told_entries
-  atoms = entries_atoms f a.said a.read_is h.ring (layered_said a.said) ring-is
+  atoms = entries_atoms f a.said a.read_is ring (layered_said a.said) ring-is
 
   names_alike : entries_text (name_in u.names) (layered_said a.said) told_entries
       ≡ entries_text (name_of a.said) (layered_said a.said) told_entries
@@ -110,7 +98,7 @@ module _ {f : List ℕ} {u : Lent} {r : reader.Answer} (a : Accepted f u r) {q :
   said-one : (st : Said) → read_file f ≡ Outcome.case st → a.said ≡ st
   said-one st e = ap said_in (sym a.read_is ∙ e)
 
-  told : Told u.names (layered_said a.said) told_entries
+  told : ToldEntries u.names (layered_said a.said) told_entries
   told = record {
     names_fit = omega (arith, ap length a.names_are, padded-length 1024 (rows_of a.said.names));
     few = few;
@@ -119,15 +107,36 @@ module _ {f : List ℕ} {u : Lent} {r : reader.Answer} (a : Accepted f u r) {q :
 
   text_of : LayersOf f (entries_text (name_in u.names) (layered_said a.said) told_entries)
   text_of = record {
-    ring = h.ring;
+    ring = ring;
     ring-is = λ st z e. rw (said-one st e) at ring-is;
-    text-is = names_alike ∙ sym (a.text-is (layers_said h.ring) ∙ layers_told a.said h.ring);
+    text-is = names_alike ∙ sym (a.text-is (layers_said ring) ∙ layers_told a.said ring);
   }
 
-  pub accepted_shows : Shows f u.names q
-  accepted_shows = rw answer-is (shows_by (layered_said a.said) told_entries few told text_of)
+-- an accepted file, and what *layers* answers
+module _ {f : List ℕ} {u : Lent} {c : Case} (a : Accepted f u c) where
+  answered_shows : (q : Layers) → Answered c u.clauses q → Shows f u.names q
+  answered_shows (Layers.Layered e) h =
+      let z : layered_said a.said ≡ true = rw (a.case-is, a.clauses_are) at h.0 in
+      let no : layered_said a.said ≡ false → RingSaid a.said [] = λ k. let w : true ≡ false = sym z ∙ k in cc in
+      let t = rw z at (told a [] no) in
+      let o = rw z at (text_of a [] no) in
+      let l = rw z at (few a [] no) in
+      let n = rw (a.case-is, a.clauses_are) at h.1 in
+      rw n (numbers_shown (numbers_in (case_said a.said) (clause_table a.said)) l (sym (numbers-count a.said)) t o)
+  answered_shows (Layers.Ring e) (z, l, r, n) =
+      let z : layered_said a.said ≡ false = rw (a.case-is, a.clauses_are) at z in
+      let ring : layered_said a.said ≡ false → RingSaid a.said l = λ k. rw (a.case-is, a.clauses_are) at r in
+      rw n (ring_shown l (rw z at (few a l ring)) refl (rw z at (told a l ring)) (rw z at (text_of a l ring)))
 
--- a file that is read without a refusal, and the answer q of *layers*
-pub read_shows : {f : List ℕ} {t u : Lent} {r : reader.Answer} → FullTables t → ReadAs f t u r → r.refusal ≡ 0
-    → {q : Answer} → Layering r.found u.clauses u.constraints u.formula q → Shows f u.names q
-read_shows x h k l = accepted_shows (accepted_report x h k) l
+  none : layers_refusal c u.clauses u.constraints u.formula ≡ 0
+  none =
+      let s = accepted-sound a in
+      refusal-none c _ _ _ (sound-full c _ _ _ s, s)
+
+  pub layers_is_ok : (r : Result Layers Refusal) → Layering c u.clauses u.constraints u.formula r → IsOk r
+  layers_is_ok (Ok q) h = refl
+  layers_is_ok (Err e) h = let n = number_some e in absurd (omega (arith, h.refusal_is, none))
+
+  pub accepted_shows : {r : Result Layers Refusal} → Layering c u.clauses u.constraints u.formula r → {q : Layers}
+      → r ≡ Ok q → Shows f u.names q
+  accepted_shows h {q} e = answered_shows q (rw e at h.answered)

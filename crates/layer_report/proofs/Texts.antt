@@ -1,7 +1,6 @@
 -- How the text of layers, and of a ring, is written: the room that its pieces take, and the pieces one behind another.
 -- Assumes nothing.
 use mathlib.Core.Path.{◌≡◌, ap}
-use mathlib.Core.Bool.{Bool, true, false}
 use mathlib.Core.List.{List, [], ◌++◌, map}
 use Prim.Native.Nat.{ℕ, ◌+◌, ◌*◌, ◌≤◌, ◌<◌}
 use native.Mathlib.Omega.{arith}
@@ -18,7 +17,7 @@ use Rattle.output.proofs.Laying.{writes-append, room-front, room-behind}
 use Rattle.wording.proofs.Naming.{spaced_name, spaced-lines}
 use Rattle.wording.proofs.Listings.{AtLine, line-start, line-room, line-more, line-end}
 use Rattle.layer_report.specs.Text.{layer_line, layer_lines, numbers_text, ring_text}
-use Rattle.layer_report.specs.Entries.{Atoms, entries_text, Told}
+use Rattle.layer_report.specs.Entries.{Atoms}
 
 -- ---- the line of an atom
 layer_text : (name : ℕ → List ℕ) (ks : List ℕ) (a : ℕ) → layer_line name ks a
@@ -120,16 +119,3 @@ module _ (name : ℕ → List ℕ) (l : List ℕ) where
       → Writes (spaced (map name l)) out₁ i j out₂ → Writes line_end out₂ j r out₃
       → Writes (ring_text name l) out at r out₃
   ring-written p q s = rw ring-text (writes-append p (writes-append q s))
-
--- ---- the text of entries, which b says are the numbers of a layered case
-module _ (name : ℕ → List ℕ) (b : Bool) (l : List ℕ) where
-  pub layered-written : b ≡ true → {at r : ℕ} {out u : List ℕ} → Writes (numbers_text name l) out at r u
-      → Writes (entries_text name b l) out at r u
-  layered-written e w = rw e w
-
-  pub ringed_atoms : b ≡ false → {names : List ℕ} → Told names b l → Atoms l
-  ringed_atoms e h = h.ring-atoms e
-
-  pub ringed_written : b ≡ false → {at r : ℕ} {out u : List ℕ} → Writes (ring_text name l) out at r u
-      → Writes (entries_text name b l) out at r u
-  ringed_written e w = rw e w

@@ -5,7 +5,7 @@ ghost use Rattle.names.specs.Row.{name_in};
 ghost use Rattle.output.specs.Forms.{spaced};
 ghost use Rattle.output.specs.Writing.{Writes, Room};
 ghost use Rattle.layer_report.specs.Text.{layer_line, layer_lines, numbers_text, ring_text};
-ghost use Rattle.layer_report.specs.Entries.{Atoms, entries_text, Told};
+ghost use Rattle.layer_report.specs.Entries.{Atoms};
 
 use output::{put, put_decimal, put_name, put_text};
 
@@ -31,16 +31,14 @@ fn layer_lines(out: &mut [u8], at: usize, names: &[u8], numbers: &[u64]) -> usiz
         out.new }
 {
     let mut place = at;
-    let mut atom: usize = 0;
-    while atom < numbers.len() {
+    for atom in 0..numbers.len() {
         place = layer_line(out, place, names, numbers, atom);
-        atom += 1;
     }
     place
 }
 
 // Writes the text of a layered case from the output's first byte on. Answers the text's length.
-fn numbers_text(out: &mut [u8], names: &[u8], numbers: &[u64]) -> usize
+pub fn numbers_text(out: &mut [u8], names: &[u8], numbers: &[u64]) -> usize
     requires { (length numbers.now ≤ 64) × (name_size ≤ length names.now)
         × Room (numbers_text (name_in names.now) numbers.now) 0 }
     ensures { Writes (numbers_text (name_in names.now) numbers.now) out.old 0 result
@@ -58,17 +56,15 @@ fn put_names(out: &mut [u8], at: usize, names: &[u8], atoms: &[u64]) -> usize
         out.new }
 {
     let mut place = at;
-    let mut k: usize = 0;
-    while k < atoms.len() {
+    for atom in atoms {
         let name = put(out, place, b' ');
-        place = put_name(out, name, names, atoms[k] as usize);
-        k += 1;
+        place = put_name(out, name, names, *atom as usize);
     }
     place
 }
 
 // Writes the line of a ring from the output's first byte on. Answers the text's length.
-fn ring_text(out: &mut [u8], names: &[u8], atoms: &[u64]) -> usize
+pub fn ring_text(out: &mut [u8], names: &[u8], atoms: &[u64]) -> usize
     requires { Atoms atoms.now × (name_size ≤ length names.now)
         × Room (ring_text (name_in names.now) atoms.now) 0 }
     ensures { Writes (ring_text (name_in names.now) atoms.now) out.old 0 result
@@ -77,17 +73,4 @@ fn ring_text(out: &mut [u8], names: &[u8], atoms: &[u64]) -> usize
     let first = put_text(out, 0, b"(ring");
     let end = put_names(out, first, names, atoms);
     put_text(out, end, b")\n")
-}
-
-// Writes the text of the numbers of a layered case, or of a ring, from the output's first byte on. Answers the text's
-// length.
-pub fn entries_text(out: &mut [u8], layered: bool, names: &[u8], entries: &[u64]) -> usize
-    requires { Told names.now layered entries.now }
-    ensures { Writes (entries_text (name_in names.now) layered entries.now)
-        out.old 0 result out.new }
-{
-    if layered {
-        return numbers_text(out, names, entries);
-    }
-    ring_text(out, names, entries)
 }

@@ -1,21 +1,23 @@
--- Laws of what the operation answers: which refusal is due, and the answer with or without one. Assumes nothing.
+-- Laws of what the operation answers: which refusal is due, and the answer where none is. Assumes nothing.
 use mathlib.Core.Path.{◌≡◌, refl, sym, ap, ap₂, subst, ◌∙◌}
-use mathlib.Core.Bool.{Bool, true, false, and-true, true≢false}
+use mathlib.Core.Bool.{Bool, true, false, and-true}
 use mathlib.Core.List.{List, [], ◌∷◌}
 use mathlib.Core.Logic.{◌⊎◌, ⊎_elim}
-use Prim.Native.Nat.{ℕ, zero, suc, ◌≤◌, ◌<◌}
-use native.Mathlib.Nat.{suc-ne-zero}
+use Prim.Native.Nat.{ℕ, ◌≤◌, ◌<◌}
 use native.Mathlib.Omega.{arith}
 use lib.Dec.{ltb}
 use lib.ListN.{length, get_or, get_or-eq_default}
 use lib.Seq.{ext_get_or}
 use borrow.Author.Tests.{eq-eqb, ne_eqb, lt-ltb, le-ltb}
-use Rattle.words.specs.Choice.{pick, Check, check}
+use Rattle.std.specs.Prelude.{Err}
+use Rattle.refusals.specs.declared.Refusal.{Refusal}
+use Rattle.refusals.specs.Refusal.{number_of}
+use Rattle.words.specs.Choice.{pick, check}
 use Rattle.words.specs.Bits.{has}
 use Rattle.words.specs.Lists.{list_of}
 use Rattle.words.proofs.Tests.{lt-or-le}
 use Rattle.words.proofs.Bits.{has-zero, below_of_has}
-use Rattle.words.proofs.Checks.{first-failed-here, first-failed-behind, none-failed}
+use Rattle.words.proofs.Checks.{first-failed-behind, none-failed}
 use Rattle.words.proofs.Lists.{list_of-length, list_of-at}
 use Rattle.table.specs.Filled.{padded}
 use Rattle.table.proofs.Filled.{padded-length, padded-at}
@@ -24,10 +26,12 @@ use Rattle.program.specs.Case.{tables_full}
 use Rattle.program.specs.Sound.{sound}
 use Rattle.prepared.specs.Dependents.{Dependents}
 use Rattle.prepared.proofs.Filling.{dependents_has}
-use Rattle.layering.specs.declared.operation.Answer.{Answer}
+use Rattle.settle.specs.Check.{checked}
+use Rattle.settle.proofs.Asking.{refused_first}
+use Rattle.layering.specs.declared.answer.Entries.{Entries}
+use Rattle.layering.specs.declared.answer.Layers.{Layers}
 use Rattle.layering.specs.Layers.{chain_heads, least_number, layered}
-use Rattle.layering.specs.Operation.{layers_refusal, dependence, layered_in, numbers_in}
-use Rattle.layering.specs.Operation.{RingIn, refused_with, Layering}
+use Rattle.layering.specs.Operation.{layers_refusal, dependence, layered_in, numbers_in, RingIn, Answered}
 use Rattle.layering.specs.Numbers.{linked_by, Numbered}
 use Rattle.layering.specs.Path.{Stuck, Ringed}
 use Rattle.layering.proofs.Chains.{heads-lt, heads_ext, number_ext, stuck-next}
@@ -54,48 +58,24 @@ unfolding layered
 layered_false n r e = ne_eqb (chain_heads n r n) 0 e
 
 module _ (c : Case) (cl co fo : List ℕ) where
-  abbrev refusal : ℕ
-  refusal = layers_refusal c cl co fo
-
   -- ---- the refusal that is due
-  abbrev case_check : List Check
-  case_check = check 13 (sound c cl co fo) ∷ []
-
-  pub refusal-short : tables_full cl co fo ≡ false → refusal ≡ 1
+  pub refusal_first : (e : Refusal) → checked (tables_full cl co fo) (sound c cl co fo) ≡ Err e
+      → number_of e ≡ layers_refusal c cl co fo
   unfolding layers_refusal
-  refusal-short e = first-failed-here 1 case_check e
+  refusal_first e = refused_first _ _ [] e
 
-  pub refusal_unsound : tables_full cl co fo ≡ true → sound c cl co fo ≡ false → refusal ≡ 13
+  pub refusal-none : (tables_full cl co fo ≡ true) × (sound c cl co fo ≡ true) → layers_refusal c cl co fo ≡ 0
   unfolding layers_refusal
-  refusal_unsound e f = first-failed-behind 1 case_check e ∙ first-failed-here 13 [] f
+  refusal-none e = first-failed-behind 1 (check 13 (sound c cl co fo) ∷ []) e.0 ∙ first-failed-behind 13 [] e.1
 
-  pub refusal-none : tables_full cl co fo ≡ true → sound c cl co fo ≡ true → refusal ≡ 0
+  pub refusal-sound : layers_refusal c cl co fo ≡ 0 → sound c cl co fo ≡ true
   unfolding layers_refusal
-  refusal-none e f = first-failed-behind 1 case_check e ∙ first-failed-behind 13 [] f
+  refusal-sound e =
+      (none-failed (check 1 (tables_full cl co fo) ∷ check 13 (sound c cl co fo) ∷ []) refl e).1.0
 
-  pub refusal-sound : refusal ≡ 0 → sound c cl co fo ≡ true
-  unfolding layers_refusal
-  refusal-sound e = (none-failed (check 1 (tables_full cl co fo) ∷ case_check) refl e).1.0
-
-  -- an answer that refuses nothing is due where nothing is to be refused
-  pub answer-accepted : {r : Answer} → Layering c cl co fo r → r.refusal ≡ 0 → refusal ≡ 0
-  answer-accepted {r} h z = go refusal refl
-    where
-      go : (n : ℕ) → refusal ≡ n → refusal ≡ 0
-      go zero e = e
-      go (suc n) e =
-          let q : r ≡ refused_with (suc n) = rw e at h.answer-is in
-          absurd (suc-ne-zero n (sym (ap (λ (x : Answer). x.refusal) q) ∙ z))
-
-  -- ---- the answer
-  pub answer-refused : (n : ℕ) {r : Answer} → refusal ≡ suc n → r ≡ refused_with (suc n) → Layering c cl co fo r
-  answer-refused n e q = record {
-    ring = [];
-    ring-is = λ z. absurd (suc-ne-zero n (sym e ∙ z));
-    answer-is = q ∙ rw e;
-  }
-
-  module _ (none : refusal ≡ 0) (few : c.atoms ≤ 64) (t : List ℕ) (d : Dependents cl c.clauses t) where
+-- ---- the answer
+module _ (c : Case) (cl : List ℕ) where
+  module _ (few : c.atoms ≤ 64) (t : List ℕ) (d : Dependents cl c.clauses t) where
     agree : (a b : ℕ) → a < c.atoms → b < c.atoms → linked_by t a b ≡ dependence c cl a b
     agree a b l m =
         ap (λ (w : ℕ). has w a) (d b (omega arith)) ∙ dependents_has cl c.clauses b a (omega arith)
@@ -105,15 +85,8 @@ module _ (c : Case) (cl co fo : List ℕ) where
       stuck_are = h.stuck_are ∙ heads_ext c.atoms (linked_by t) (dependence c cl) agree c.atoms
 
       -- no atom is stuck
-      pub answer-numbers : w ≡ 0
-          → Layering c cl co fo (record { refusal = 0; layered = true; count = c.atoms; entries = u })
-      answer-numbers z = record {
-        ring = [];
-        ring-is = λ e f. absurd (true≢false (sym is-layered ∙ f));
-        answer-is =
-            ap (λ (x : List ℕ). record { refusal = 0; layered = true; count = c.atoms; entries = x }) numbers
-            ∙ rw (none, is-layered);
-      }
+      pub answer-numbers : w ≡ 0 → Answered c cl (Layers.Layered (record { count = c.atoms; entries = u }))
+      answer-numbers z = (is-layered, ap (λ (x : List ℕ). record { count = c.atoms; entries = x }) numbers)
         where
           is-layered : layered_in c cl ≡ true
           is-layered = layered_true c.atoms (dependence c cl) (sym stuck_are ∙ z)
@@ -137,16 +110,10 @@ module _ (c : Case) (cl co fo : List ℕ) where
           )
 
       -- some are
-      pub answer-ring : (w ≡ 0 → ⊥) → {n : ℕ} {v : List ℕ} → Ringed t w n v
-          → Layering c cl co fo (record { refusal = 0; layered = false; count = n; entries = v })
-      answer-ring s {n} {v} g = record {
-        ring = g.ring;
-        ring-is = λ e f. ring_in;
-        answer-is =
-            ap₂ (λ (k : ℕ) (x : List ℕ). record { refusal = 0; layered = false; count = k; entries = x })
-            g.count-is g.entries_are
-            ∙ rw (none, isnt_layered);
-      }
+      pub answer-ring : (w ≡ 0 → ⊥) → {r : Entries} → Ringed t w r.count r.entries → Answered c cl (Layers.Ring r)
+      answer-ring s g =
+          let q = ap₂ (λ (k : ℕ) (x : List ℕ). record { count = k; entries = x }) g.count-is g.entries_are in
+          (isnt_layered, g.ring, ring_in, q)
         where
           isnt_layered : layered_in c cl ≡ false
           isnt_layered = layered_false c.atoms (dependence c cl) (λ e. s (stuck_are ∙ e))

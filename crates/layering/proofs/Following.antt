@@ -9,9 +9,10 @@ use native.Mathlib.Omega.{arith}
 use lib.Bits.{bit_or}
 use lib.Count.{ones, ones-le}
 use lib.Dec.{eqb}
-use lib.ListN.{length, get_or, set, take, length-set}
+use lib.ListN.{length, get_or, set, take, drop, length-set}
 use lib.Pow.{pow_pos}
-use lib.Seq.{get_or-set_same, get_or-set_other, slice, length-slice, get_or-take, get_or-drop}
+use lib.Seq.{get_or-set_same, get_or-set_other, length-take-le, get_or-take, get_or-drop}
+use Rattle.std.proofs.lemmas.List.{length-drop, take_rest}
 use borrow.Author.Tests.{eqb-true, eq-eqb}
 use Rattle.words.specs.Bits.{has}
 use Rattle.words.specs.OneBit.{without_bit, BitOf, LowestOf}
@@ -20,8 +21,9 @@ use Rattle.words.proofs.Bits.{has-zero}
 use Rattle.words.proofs.Words.{has-or-one, or-one-lt}
 use Rattle.words.proofs.BitWalks.{without_within, without_other}
 use Rattle.words.proofs.Counts.{ones-more}
-use Rattle.table.specs.Filled.{padded}
+use Rattle.layering.specs.declared.answer.Entries.{Entries}
 use Rattle.layering.specs.Layers.{Ring}
+use Rattle.layering.specs.Operation.{entries_of}
 use Rattle.layering.specs.Numbers.{linked_by}
 use Rattle.layering.specs.Path.{Followed, Ringed}
 
@@ -30,9 +32,6 @@ module _ (t : List ℕ) (among at : ℕ) where
   pub record Seeking (left : ℕ) : Type 0 where
     pub within : (b : ℕ) → BitOf left b → BitOf among b
     pub waits : (b : ℕ) × BitOf left b × (linked_by t at b ≡ true)
-
-  pub seeking_start : ((b : ℕ) × BitOf among b × (linked_by t at b ≡ true)) → Seeking among
-  seeking_start f = record { within = λ b h. h; waits = f }
 
   module _ {left : ℕ} (s : Seeking left) where
     pub seeking_some : left ≡ 0 → ⊥
@@ -53,33 +52,6 @@ module _ (t : List ℕ) (among at : ℕ) where
         b.2,
       );
     }
-
-    pub seeking_found : (i : ℕ) → BitOf left i → linked_by t at i ≡ true → BitOf among i × (linked_by t at i ≡ true)
-    seeking_found i q e = (s.within i q, e)
-
--- ---- the search for the place of an atom in a path: it isn't passed
-pub record Ahead (path : List ℕ) (len at j : ℕ) : Type 0 where
-  pub place : ℕ
-  pub not-passed : j ≤ place
-  pub within : place < len
-  pub place_is : get_or path place 0 ≡ at
-
-pub ahead_start : {path : List ℕ} {len at : ℕ} → ((j : ℕ) × (j < len) × (get_or path j 0 ≡ at)) → Ahead path len at 0
-ahead_start f = record { place = f.0; not-passed = omega arith; within = f.1; place_is = f.2 }
-
-module _ {path : List ℕ} {len at j : ℕ} (h : Ahead path len at j) where
-  pub ahead_small : j < len
-  ahead_small = omega (arith, h.not-passed, h.within)
-
-  pub ahead_next : (get_or path j 0 ≡ at → ⊥) → Ahead path len at (j + 1)
-  ahead_next ne = record {
-    place = h.place;
-    not-passed =
-        ⊎_elim (λ (e : j ≡ h.place). absurd (ne (ap (λ (k : ℕ). get_or path k 0) e ∙ h.place_is)))
-        (λ (l : j < h.place). omega (arith, l)) (eq-or-lt_of_le h.not-passed);
-    within = h.within;
-    place_is = h.place_is;
-  }
 
 -- ---- the path
 module _ (t : List ℕ) (w : ℕ) where
@@ -180,35 +152,51 @@ module _ (t : List ℕ) (w : ℕ) where
         }
 
     -- ---- the ring: the path from the place of the atom that came again
-    module _ (j : ℕ) (l : j < len) (e : get_or path j 0 ≡ at) where
+    abbrev front : List ℕ
+    front = take len path
+
+    length_front : length front ≡ len
+    length_front = length-take-le len path (omega (arith, followed_fits, p.size_is))
+
+    pub followed_place : has seen at ≡ true → (j : ℕ) × (j < length front) × (get_or front j 0 ≡ at)
+    followed_place h =
+        let f = p.found at h in
+        (f.0, omega (arith, length_front, f.1), get_or-take len path f.0 0 f.1 ∙ f.2)
+
+    module _ (j : ℕ) (l : j < length front) (e : get_or front j 0 ≡ at) where
       abbrev ring : List ℕ
-      ring = slice j len path
+      ring = drop j front
 
       size : length ring ≡ len - j
-      size = length-slice j len path (omega (arith, followed_fits, p.size_is))
+      size = length-drop j front ∙ ap (λ (k : ℕ). k - j) length_front
 
       entry : (i : ℕ) → i < length ring → get_or ring i 0 ≡ get_or path (j + i) 0
       entry i m =
           let h : j + i < len = omega (arith, size) in
-          get_or-drop j (take len path) i 0 ∙ get_or-take len path (j + i) 0 h
+          get_or-drop j front i 0 ∙ get_or-take len path (j + i) 0 h
+
+      again : get_or path j 0 ≡ at
+      again = sym (get_or-take len path j 0 (omega (arith, length_front))) ∙ e
 
       ring-is : Ring 64 (linked_by t) ring
       ring-is = record {
-        some = omega (arith, size);
+        some = omega (arith, size, length_front);
         atoms = λ i m. rw (entry i m) (p.path_in (j + i) (omega (arith, size))).1.small;
         distinct = λ i k m n q. p.distinct (j + i) (j + k) (omega arith) (omega (arith, size))
             (sym (entry i (omega arith)) ∙ q ∙ entry k n);
         linked = λ i m. let f : j + (i + 1) ≡ j + i + 1 = omega arith in
             rw (entry i (omega arith), entry (i + 1) m, f) (p.linked (j + i) (omega (arith, size)));
         closed = λ i m. let z : j + 0 ≡ j = omega arith in
-            rw (entry i (omega arith), entry 0 (omega (arith, size)), z, e) (p.last (j + i) (omega (arith, size)));
+            rw (entry i (omega arith), entry 0 (omega (arith, size)), z, again) (p.last (j + i) (omega (arith, size)));
       }
 
-      pub followed_ring : {u : List ℕ} → u ≡ padded 64 (slice j len path) → Ringed t w (len - j) u
-      followed_ring q = record {
+      pub followed_ring : {r : Entries}
+          → (let l = take (length front - j) (drop j front) in r ≡ entries_of (length l) l)
+          → Ringed t w r.count r.entries
+      followed_ring q = let s = rw (take_rest front j) at q in record {
         ring = ring;
         ring-is = ring-is;
         among = λ i m. rw (entry i m) (p.path_in (j + i) (omega (arith, size))).1.there;
-        count-is = sym size;
-        entries_are = q;
+        count-is = ap (λ (r : Entries). r.count) s;
+        entries_are = ap (λ (r : Entries). r.entries) s;
       }

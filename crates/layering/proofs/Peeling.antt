@@ -3,15 +3,14 @@
 use mathlib.Core.Path.{◌≡◌, refl, sym, ap, ap₂, ◌∙◌}
 use mathlib.Core.Bool.{Bool, true, false, not, ◌&&◌, and-false, and-true, true≢false}
 use mathlib.Core.List.{List}
-use mathlib.Core.Logic.{◌⊎◌, inl, inr, ⊎_elim}
+use mathlib.Core.Logic.{◌⊎◌, inl, inr}
 use Prim.Native.Nat.{ℕ, suc, ◌+◌, ◌-◌, ◌^◌, ◌≤◌, ◌<◌}
 use native.Mathlib.Nat.{lt_of_le_of_lt, lt_of_lt_of_le}
 use native.Mathlib.Numerals.{add-one}
 use native.Mathlib.Omega.{arith}
 use lib.Bits.{bit_and, and_le_l}
-use lib.Count.{ones, ones-le}
 use lib.Dec.{eqb, ltb}
-use lib.ListN.{length, get_or, set, length-set}
+use lib.ListN.{length, get_or, set, replicate, length-set, get_or-replicate}
 use lib.Pow.{pow_mono}
 use lib.Seq.{get_or-set_same, get_or-set_other}
 use borrow.Author.Tests.{eqb-true, eqb-false, lt-ltb, le-ltb}
@@ -24,8 +23,7 @@ use Rattle.words.proofs.Below.{any_ext, any_below}
 use Rattle.words.proofs.Bits.{has-zero, has-and, has-not, has_ext, has_above}
 use Rattle.words.proofs.Words.{has_lowest}
 use Rattle.words.proofs.BitWalks.{without_here, without_other}
-use Rattle.words.proofs.Counts.{ones-grow}
-use Rattle.prepared.specs.Dependents.{Zeros, touched_by}
+use Rattle.prepared.specs.Dependents.{touched_by}
 use Rattle.prepared.proofs.Touching.{has_touched_by}
 use Rattle.layering.specs.Layers.{chain_heads, least_number}
 use Rattle.layering.specs.Numbers.{linked_by, Given, Numbered}
@@ -37,9 +35,6 @@ module _ (t : List ℕ) (w k : ℕ) where
   pub record Giving (u : List ℕ) (left : ℕ) : Type 0 where
     pub size_is : length u ≡ 64
     pub entry-is : (a : ℕ) → a < 64 → pick (has left a) k (get_or u a 0) ≡ pick (has w a) k (get_or t a 0)
-
-  pub giving_start : length t ≡ 64 → Giving t w
-  giving_start l = record { size_is = l; entry-is = λ a m. refl }
 
   pub giving_next : (u : List ℕ) (left j : ℕ) → Giving u left → BitOf left j → Giving (set u j k) (without_bit left j)
   giving_next u left j p q = record {
@@ -74,15 +69,14 @@ module _ (n : ℕ) (t : List ℕ) where
   pub record Peeled (k left : ℕ) (u : List ℕ) : Type 0 where
     pub size_is : length u ≡ 64
     pub left_is : left ≡ chain_heads n r k
-    pub few : k + ones left ≤ n
     pub entry-is : (a : ℕ) → a < 64 → get_or u a 0 ≡ pick (ltb a n && not (has left a)) (least_number n r a) 0
 
-  pub peeled_start : (u : List ℕ) (all : ℕ) → n ≤ 64 → all + 1 ≡ 2 ^ n → length u ≡ 64 → Zeros u → Peeled 0 all u
-  peeled_start u all m e s z = record {
-    size_is = s;
+  pub peeled_start : (all : ℕ) → all + 1 ≡ 2 ^ n → Peeled 0 all (replicate 64 0)
+  peeled_start all e = record {
+    size_is = refl;
     left_is = first;
-    few = omega (arith, ap ones first, ones-le n (chain_heads n r 0) (heads-lt n r 0));
-    entry-is = λ a l. z a l ∙ sym (ap (λ (b : Bool). pick b (least_number n r a) 0) (none (ltb a n) (has all a)
+    entry-is = λ a l. get_or-replicate 64 a 0 0 l
+        ∙ sym (ap (λ (b : Bool). pick b (least_number n r a) 0) (none (ltb a n) (has all a)
         (has_lowest n all a e)));
   }
     where
@@ -125,15 +119,11 @@ module _ (n : ℕ) (t : List ℕ) where
     -- one round more: the atoms that fall out get the number k
     pub peeled_next : (k left next : ℕ) (u v : List ℕ) → Peeled k left u
         → next ≡ bit_and left (word 64 (touched_by t left))
-        → (next ≡ left → ⊥)
         → Given u (bit_and left (2 ^ 64 - 1 - next)) k v
         → Peeled (k + 1) next v
-    peeled_next k left next u v p e ne g = record {
+    peeled_next k left next u v p e g = record {
       size_is = g.size_is;
       left_is = is ∙ ap (chain_heads n r) (sym (add-one k));
-      few =
-          ⊎_elim (λ (q : next ≡ left). absurd (ne q)) (λ (q : ones next < ones left). omega (arith, q, p.few))
-          (ones-grow n next left next-lt left_lt (λ a l h. at_left a ∙ chain_shorter n r k a l (sym (at_next a) ∙ h)));
       entry-is = λ a l. g.entry-is a l
           ∙ ap₂ (λ (s : Bool) (x : ℕ). pick s k x) (fallen a l) (p.entry-is a l)
           ∙ entry a (has left a) (has next a) refl refl (lt-or-le a n);
@@ -176,11 +166,12 @@ module _ (n : ℕ) (t : List ℕ) where
         entry a false false ex ey (inl h) = refl
 
     -- a round that changes nothing
-    pub peeled_end : (k left : ℕ) (u : List ℕ) → Peeled k left u → bit_and left (word 64 (touched_by t left)) ≡ left
+    pub peeled_end : (k left : ℕ) (u : List ℕ) → k ≤ n → Peeled k left u
+        → bit_and left (word 64 (touched_by t left)) ≡ left
         → Numbered n t left u
-    peeled_end k left u p e =
+    peeled_end k left u few p e =
         let f : chain_heads n r (suc k) ≡ chain_heads n r k = sym (lowered k left p.left_is) ∙ e ∙ p.left_is in
-        let q : n - k + k ≡ n = omega (arith, p.few) in
+        let q : n - k + k ≡ n = omega (arith, few) in
         record {
           stuck_are = p.left_is ∙ sym (heads_stay n r k (n - k) f) ∙ ap (chain_heads n r) q;
           size_is = p.size_is;

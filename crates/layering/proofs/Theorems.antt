@@ -1,12 +1,11 @@
 -- What is claimed of layers is so. Assumes nothing.
 use mathlib.Core.Path.{◌≡◌, refl, sym, ap, subst, ◌∙◌}
-use mathlib.Core.Bool.{true, false, true≢false}
+use mathlib.Core.Bool.{true, true≢false}
 use mathlib.Core.List.{List}
 use Prim.Native.Nat.{ℕ, ◌≤◌}
 use lib.ListN.{length, take}
 use native.Mathlib.Omega.{arith}
 use Rattle.words.proofs.Lists.{list_of-length}
-use Rattle.words.proofs.Tests.{by_test}
 use Rattle.table.specs.Filled.{padded}
 use Rattle.table.proofs.Filled.{padded-front}
 use Rattle.program.specs.declared.case.Case.{Case}
@@ -15,13 +14,12 @@ use Rattle.program.specs.Sound.{sound}
 use Rattle.program.proofs.Soundness.{sound-atoms, sound-head}
 use Rattle.program.proofs.Dependence.{depends-on, depends_by, headless_none, sound-named}
 use Rattle.layering.specs.Layers.{Numbering}
-use Rattle.layering.specs.declared.operation.Answer.{Answer}
-use Rattle.layering.specs.Operation.{layers_refusal, dependence, layered_in, numbers_in, numbers_answer, ring_answer}
-use Rattle.layering.specs.Operation.{RingIn, Layering}
+use Rattle.layering.specs.declared.answer.Layers.{Layers}
+use Rattle.layering.specs.Operation.{layers_refusal, dependence, layered_in, numbers_in, RingIn, Answered}
 use Rattle.layering.specs.Claims.{NumbersOf, number_of, NumbersLeast, LayeredExact, RingExact}
 use Rattle.layering.specs.Claims.{AnsweredOf, AnswerExact}
 use Rattle.layering.proofs.Chains.{least_numbering, least-least, numbering_layered, number-zero}
-use Rattle.layering.proofs.Answers.{refusal-sound, answer-accepted}
+use Rattle.layering.proofs.Answers.{refusal-sound}
 use Rattle.layering.proofs.Rings.{ring_no_numbering, ring-few}
 
 -- a numbering by the clauses is one of the atoms by their dependence
@@ -64,12 +62,9 @@ ring-exact = record {
 }
 
 -- ---- what the operation answers of a case that it doesn't refuse
-module _ (c : Case) (cl co fo : List ℕ) (r : Answer) (h : Layering c cl co fo r) (z : r.refusal ≡ 0) where
-  none : layers_refusal c cl co fo ≡ 0
-  none = answer-accepted c cl co fo h z
-
+module _ (c : Case) (cl co fo : List ℕ) (z : layers_refusal c cl co fo ≡ 0) where
   is-sound : sound c cl co fo ≡ true
-  is-sound = refusal-sound c cl co fo none
+  is-sound = refusal-sound c cl co fo z
 
   few : c.atoms ≤ 64
   few = (sound-atoms c cl co fo is-sound).1
@@ -80,31 +75,24 @@ module _ (c : Case) (cl co fo : List ℕ) (r : Answer) (h : Layering c cl co fo 
       subst (λ (k : ℕ). take k (padded 64 (numbers_in c cl)) ≡ numbers_in c cl) n
       (padded-front 64 (numbers_in c cl) (omega (arith, n, few)))
 
-  answered-numbers : layered_in c cl ≡ true → AnsweredOf c cl r
-  answered-numbers e =
-      let q : r ≡ numbers_answer c cl = rw (none, e) at h.answer-is in
-      rw q (record {
-        ring_where_none = λ n. absurd (n (number_of c cl) (least_by_clauses c cl co fo is-sound e));
+  ring-front : (l : List ℕ) → RingIn c cl l → take (length l) (padded 64 l) ≡ l
+  ring-front l g = padded-front 64 l (omega (arith, ring-few c.atoms (dependence c cl) l g, few))
+
+  answered : (a : Layers) → Answered c cl a → AnsweredOf c cl a
+  answered (Layers.Layered e) h =
+      rw h.1 (record {
+        ring_where_none = λ n. absurd (n (number_of c cl) (least_by_clauses c cl co fo is-sound h.0));
         none_where_ring = λ f. absurd (true≢false f);
         ring-is = λ f. absurd (true≢false f);
         numbers_are = λ f. numbers-front;
       })
-
-  ring-front : RingIn c cl h.ring → take (length h.ring) (padded 64 h.ring) ≡ h.ring
-  ring-front g =
-      padded-front 64 h.ring (omega (arith, ring-few c.atoms (dependence c cl) h.ring g, few))
-
-  answered-ring : layered_in c cl ≡ false → AnsweredOf c cl r
-  answered-ring e =
-      let q : r ≡ ring_answer h.ring = rw (none, e) at h.answer-is in
-      let g = h.ring-is none e in
-      rw q (record {
+  answered (Layers.Ring e) h =
+      rw h.3 (record {
         ring_where_none = λ n. refl;
-        none_where_ring = λ f v n. true≢false (sym (layered-exact.layered_by c cl v n) ∙ e);
-        ring-is = λ f. rw (ring-front g) g;
+        none_where_ring = λ f v n. true≢false (sym (layered-exact.layered_by c cl v n) ∙ h.0);
+        ring-is = λ f. rw (ring-front h.1 h.2) h.2;
         numbers_are = λ f. absurd (true≢false (sym f));
       })
 
 pub answer-exact : AnswerExact
-answer-exact c cl co fo r h z =
-    by_test (layered_in c cl) (answered-numbers c cl co fo r h z) (answered-ring c cl co fo r h z)
+answer-exact c cl co fo a h = answered c cl co fo (sym h.refusal_is) a h.answered

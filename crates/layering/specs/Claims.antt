@@ -7,13 +7,14 @@
 --   NumbersLeast       what the numbers of a layered case are
 --   LayeredExact       when a case is layered
 --   RingExact          what a ring bars, and how long it can be
+--   is_layered a       the answer a gives numbers; listed a are its entries
 --   AnswerExact        when the operation answers a ring, and when numbers
-use Rattle.std.specs.Prelude.{◌≡◌, true, false, List, ℕ, ◌≤◌, ◌<◌, length, take}
+use Rattle.std.specs.Prelude.{◌≡◌, Bool, true, false, List, ℕ, ◌≤◌, ◌<◌, length, take, Ok}
 use Rattle.program.specs.declared.case.Case.{Case}
 use Rattle.program.specs.Case.{head_at}
 use Rattle.program.specs.Program.{headed, names}
 use Rattle.program.specs.Sound.{sound}
-use Rattle.layering.specs.declared.operation.Answer.{Answer}
+use Rattle.layering.specs.declared.answer.Layers.{Layers}
 use Rattle.layering.specs.Layers.{least_number}
 use Rattle.layering.specs.Operation.{dependence, layered_in, numbers_in, RingIn, Layering}
 
@@ -45,13 +46,21 @@ pub record RingExact : Type 0 where
   pub no_numbering : (c : Case) (cl l : List ℕ) → RingIn c cl l → (v : ℕ → ℕ) → NumbersOf c cl v → ⊥
   pub at_most : (c : Case) (cl l : List ℕ) → RingIn c cl l → length l ≤ c.atoms
 
--- the answer r gives a ring exactly when no numbering exists, and otherwise the least numbers
-pub record AnsweredOf (c : Case) (cl : List ℕ) (r : Answer) : Type 0 where
-  pub ring_where_none : ((v : ℕ → ℕ) → NumbersOf c cl v → ⊥) → r.layered ≡ false
-  pub none_where_ring : r.layered ≡ false → (v : ℕ → ℕ) → NumbersOf c cl v → ⊥
-  pub ring-is : r.layered ≡ false → RingIn c cl (take r.count r.entries)
-  pub numbers_are : r.layered ≡ true → take r.count r.entries ≡ numbers_in c cl
+abbrev pub is_layered : Layers → Bool
+is_layered (Layers.Layered e) = true
+is_layered (Layers.Ring e) = false
+
+abbrev pub listed : Layers → List ℕ
+listed (Layers.Layered e) = take e.count e.entries
+listed (Layers.Ring e) = take e.count e.entries
+
+-- the answer gives a ring exactly when no numbering exists, and otherwise the least numbers
+pub record AnsweredOf (c : Case) (cl : List ℕ) (a : Layers) : Type 0 where
+  pub ring_where_none : ((v : ℕ → ℕ) → NumbersOf c cl v → ⊥) → is_layered a ≡ false
+  pub none_where_ring : is_layered a ≡ false → (v : ℕ → ℕ) → NumbersOf c cl v → ⊥
+  pub ring-is : is_layered a ≡ false → RingIn c cl (listed a)
+  pub numbers_are : is_layered a ≡ true → listed a ≡ numbers_in c cl
 
 -- whatever the operation answers of a case that it doesn't refuse
 abbrev pub AnswerExact : Type 0
-AnswerExact = (c : Case) (cl co fo : List ℕ) (r : Answer) → Layering c cl co fo r → r.refusal ≡ 0 → AnsweredOf c cl r
+AnswerExact = (c : Case) (cl co fo : List ℕ) (a : Layers) → Layering c cl co fo (Ok a) → AnsweredOf c cl a

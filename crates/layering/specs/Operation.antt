@@ -7,17 +7,20 @@
 --   layered_in c cl   the case is layered
 --   numbers_in c cl   the least number of each atom, in atom order
 --   RingIn c cl l     l is a ring of the case
---   numbers_answer    the answer of a layered case; ring_answer l that with the ring l; refused_with n a refusal's
---   Layering          the answer; which ring is answered stays free
-use Rattle.std.specs.Prelude.{◌≡◌, Bool, true, false, List, [], ◌∷◌, ℕ, length, replicate}
-use Rattle.words.specs.Choice.{pick, unless_refused, check, first_failed}
+--   Answered c cl a   a has the numbers of a layered case, or a ring of another
+--   Layering          the refusal, or what is answered
+use Rattle.std.specs.Prelude.{◌≡◌, Bool, true, false, List, [], ◌∷◌, ℕ, length, Result, IfOk}
+use Rattle.refusals.specs.declared.Refusal.{Refusal}
+use Rattle.refusals.specs.Refusal.{refused_as}
+use Rattle.words.specs.Choice.{check, first_failed}
 use Rattle.words.specs.Lists.{list_of}
 use Rattle.table.specs.Filled.{padded}
 use Rattle.program.specs.declared.case.Case.{Case}
 use Rattle.program.specs.Case.{tables_full}
 use Rattle.program.specs.Program.{depends_on}
 use Rattle.program.specs.Sound.{sound}
-use Rattle.layering.specs.declared.operation.Answer.{Answer}
+use Rattle.layering.specs.declared.answer.Entries.{Entries}
+use Rattle.layering.specs.declared.answer.Layers.{Layers}
 use Rattle.layering.specs.Layers.{least_number, layered, Ring}
 
 unfoldable pub layers_refusal : Case → List ℕ → List ℕ → List ℕ → ℕ
@@ -35,18 +38,16 @@ numbers_in c cl = list_of c.atoms (least_number c.atoms (dependence c cl))
 abbrev pub RingIn : Case → List ℕ → List ℕ → Type 0
 RingIn c cl l = Ring c.atoms (dependence c cl) l
 
-abbrev pub numbers_answer : Case → List ℕ → Answer
-numbers_answer c cl = record { refusal = 0; layered = true; count = c.atoms; entries = padded 64 (numbers_in c cl) }
+-- n entries, those of l, and zeros behind them
+abbrev pub entries_of : ℕ → List ℕ → Entries
+entries_of n l = record { count = n; entries = padded 64 l }
 
-abbrev pub ring_answer : List ℕ → Answer
-ring_answer l = record { refusal = 0; layered = false; count = length l; entries = padded 64 l }
+-- which ring is answered stays free
+abbrev pub Answered : Case → List ℕ → Layers → Type 0
+Answered c cl (Layers.Layered e) = (layered_in c cl ≡ true) × (e ≡ entries_of c.atoms (numbers_in c cl))
+Answered c cl (Layers.Ring e) =
+    (layered_in c cl ≡ false) × (l : List ℕ) × RingIn c cl l × (e ≡ entries_of (length l) l)
 
-abbrev pub refused_with : ℕ → Answer
-refused_with n = record { refusal = n; layered = false; count = 0; entries = replicate 64 0 }
-
--- the ring counts where the case isn't refused and isn't layered
-pub record Layering (c : Case) (cl co fo : List ℕ) (r : Answer) : Type 0 where
-  pub ring : List ℕ
-  pub ring-is : layers_refusal c cl co fo ≡ 0 → layered_in c cl ≡ false → RingIn c cl ring
-  pub answer-is : let n = layers_refusal c cl co fo in
-      r ≡ unless_refused n (pick (layered_in c cl) (numbers_answer c cl) (ring_answer ring)) (refused_with n)
+pub record Layering (c : Case) (cl co fo : List ℕ) (r : Result Layers Refusal) : Type 0 where
+  pub refusal_is : refused_as r ≡ layers_refusal c cl co fo
+  pub answered : IfOk r (Answered c cl)

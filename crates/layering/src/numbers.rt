@@ -1,38 +1,43 @@
 // The least numbers, round after round: those atoms fall out that depend on none of the atoms left.
-ghost use Rattle.std.specs.Prelude.{◌≡◌, ◌≤◌, length};
-ghost use Rattle.prepared.specs.Dependents.{Words, Zeros};
+ghost use Rattle.std.specs.Prelude.{◌≡◌, ◌≤◌};
 ghost use Rattle.layering.specs.Numbers.{Given, Numbered};
 
 use prepared::dependent::touched;
+use words::walk::bits_of;
 
 // Gives the number k to the atoms of w.
 fn give(numbers: &mut [u64; 64], w: u64, k: u64)
-    requires { length numbers.old ≡ 64 }
     ensures { Given numbers.old w k numbers.new }
 {
-    let mut left = w;
-    while left != 0 {
-        let a = words::lowest_bit(left);
+    for a in bits_of(w) {
         numbers[a as usize] = k;
-        left = words::without_lowest(left);
     }
 }
 
-// Gives the n atoms their least numbers, and answers those that have none: each of these depends on one of them. The
-// entries of numbers are 0 at first.
-pub fn number(dependents: &[u64; 64], n: usize, numbers: &mut [u64; 64]) -> u64
-    requires { (1 ≤ n) × (n ≤ 64) × Words dependents.now × (length numbers.old ≡ 64) × Zeros numbers.old }
-    ensures { Numbered n dependents.now result numbers.new }
+// The least number of each atom that has one, 0 elsewhere, and the atoms that have none, bit i for atom i.
+#[derive(Clone, Copy)]
+pub struct Numbers {
+    pub entries: [u64; 64],
+    pub stuck: u64,
+}
+
+// The least numbers of n atoms; each atom that has none depends on one of these.
+pub fn number(dependents: &[u64; 64], n: usize) -> Numbers
+    requires { (1 ≤ n) × (n ≤ 64) }
+    ensures { Numbered n dependents.now result.stuck result.entries }
 {
+    let mut entries = [0; 64];
     let mut left = words::lowest(n as u32);
-    let mut k: u64 = 0;
-    loop {
+    for k in 0..n as u64 {
         let next = left & touched(dependents, left);
         if next == left {
-            break left;
+            break;
         }
-        give(numbers, left & !next, k);
+        give(&mut entries, left & !next, k);
         left = next;
-        k += 1;
+    }
+    Numbers {
+        entries,
+        stuck: left,
     }
 }

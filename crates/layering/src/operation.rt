@@ -1,63 +1,32 @@
 // The operation *layers*.
-ghost use Rattle.std.specs.Prelude.{◌≡◌};
-ghost use Rattle.layering.specs.Operation.{refused_with, Layering};
+ghost use Rattle.layering.specs.Operation.{Layering};
 
+use crate::answer::{Entries, Layers};
+use crate::numbers::{Numbers, number};
+use crate::ring::ring;
 use program::case::Case;
+use program::clauses::Clauses;
+use program::tables::Tables;
+use refusals::Refusal;
+use settle::check::check_case;
 
-// What the operation answers: whether the case is layered, how many entries there are, and the number of each atom or
-// the atoms of a ring, zero past the last one; or a refusal's number and zeros.
-#[derive(Clone, Copy)]
-pub struct Answer {
-    pub refusal: u32,
-    pub layered: bool,
-    pub count: usize,
-    pub entries: [u64; 64],
-}
-
-impl Answer {
-    // A refusal with its number.
-    fn refused(number: u32) -> Answer
-        ensures { result ≡ refused_with number }
-    {
-        Answer {
-            refusal: number,
-            layered: false,
-            count: 0,
-            entries: [0u64; 64],
-        }
-    }
-}
-
-// Answers the least numbers of a case's atoms, or a ring where the case isn't layered. Refuses with 1 a lent table
-// shorter than its size, with 13 a case that isn't sound.
-pub fn layers(c: Case, clauses: &[u64], constraints: &[u64], formula: &[u8]) -> Answer
-    ensures { Layering c clauses.now constraints.now formula.now result }
+// Answers the least numbers of a case's atoms, or a ring where the case isn't layered. Refuses a lent table shorter
+// than its size, and a case that isn't sound.
+pub fn layers(c: Case, t: Tables) -> Result<Layers, Refusal>
+    ensures { Layering c t.entry.clauses.now t.entry.constraints.now t.entry.formula.now result }
 {
-    let full = program::case::tables_full(clauses, constraints, formula);
-    if !full {
-        return Answer::refused(1);
+    check_case(c, t)?;
+    let clauses = Clauses {
+        words: t.clauses,
+        count: c.clauses,
+    };
+    let dependents = prepared::dependent::fill(clauses);
+    let Numbers { entries, stuck } = number(&dependents, c.atoms);
+    if stuck != 0 {
+        return Ok(Layers::Ring(ring(&dependents, stuck)));
     }
-    let sound = program::sound::is_sound(c, clauses, constraints, formula);
-    if !sound {
-        return Answer::refused(13);
-    }
-    let mut dependents = [0u64; 64];
-    prepared::dependent::fill(clauses, c.clauses, &mut dependents);
-    let mut entries = [0u64; 64];
-    let stuck = crate::numbers::number(&dependents, c.atoms, &mut entries);
-    if stuck == 0 {
-        return Answer {
-            refusal: 0,
-            layered: true,
-            count: c.atoms,
-            entries,
-        };
-    }
-    let count = crate::ring::ring(&dependents, stuck, &mut entries);
-    Answer {
-        refusal: 0,
-        layered: false,
-        count,
+    Ok(Layers::Layered(Entries {
+        count: c.atoms,
         entries,
-    }
+    }))
 }

@@ -5,18 +5,19 @@
 --   LoadReads      so of every load and any tables that fit; 12 is no refusal of a line, and so its line is 0
 --   Holds n c d    the record d has n atoms, c clauses and one formula, and nothing else, in edition 1
 --   LoadHolds      so of the record of every load that is accepted
-use Rattle.std.specs.Prelude.{◌≡◌, true, ◌⊎◌, ℕ}
+use Rattle.std.specs.Prelude.{◌≡◌, true, ◌⊎◌, ℕ, Result}
 use Rattle.program.specs.declared.case.Case.{Case}
 use Rattle.store.specs.Lent.{Lent}
-use Rattle.reader.specs.declared.read.Answer.{Answer}
+use Rattle.reader.specs.declared.read.Refused.{Refused}
+use Rattle.reader.specs.Answers.{refusal_in, line_in, case_in}
 use Rattle.reader.specs.Operation.{tables_fit, ReadAs}
 use Rattle.loading.specs.Load.{load_text}
 use Rattle.loading.specs.Operation.{is_load}
 
 -- reading the load with the seed s, n atoms and c clauses into the tables v, which leaves u and answers r
 abbrev pub LoadReads : Type 0
-LoadReads = (s n c : ℕ) (v u : Lent) (r : Answer) → is_load n c ≡ true → tables_fit v ≡ true
-    → ReadAs (load_text s n c) v u r → (r.refusal ≡ 0) ⊎ ((r.refusal ≡ 12) × (r.line ≡ 0))
+LoadReads = (s n c : ℕ) (v u : Lent) (r : Result Case Refused) → is_load n c ≡ true → tables_fit v ≡ true
+    → ReadAs (load_text s n c) v u r → (refusal_in r ≡ 0) ⊎ ((refusal_in r ≡ 12) × (line_in r ≡ 0))
 
 -- no atom is observed
 pub record Holds (n c : ℕ) (d : Case) : Type 0 where
@@ -29,5 +30,5 @@ pub record Holds (n c : ℕ) (d : Case) : Type 0 where
   pub edition-is : d.edition ≡ 1
 
 abbrev pub LoadHolds : Type 0
-LoadHolds = (s n c : ℕ) (v u : Lent) (r : Answer) → is_load n c ≡ true → tables_fit v ≡ true
-    → ReadAs (load_text s n c) v u r → r.refusal ≡ 0 → Holds n c r.found
+LoadHolds = (s n c : ℕ) (v u : Lent) (r : Result Case Refused) → is_load n c ≡ true → tables_fit v ≡ true
+    → ReadAs (load_text s n c) v u r → refusal_in r ≡ 0 → Holds n c (case_in r)

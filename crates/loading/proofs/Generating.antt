@@ -2,16 +2,19 @@
 use mathlib.Core.Path.{◌≡◌, refl, sym, ◌∙◌}
 use mathlib.Core.Bool.{Bool, true, false}
 use mathlib.Core.List.{List, [], ◌∷◌, map}
-use Prim.Native.Nat.{ℕ, suc, ◌≤◌, ◌<◌}
+use Prim.Native.Nat.{ℕ, ◌≤◌, ◌<◌}
 use native.Mathlib.Nat.{zero-add}
 use native.Mathlib.Omega.{arith}
 use lib.Dec.{leb}
 use lib.ListN.{length}
 use borrow.Author.Tests.{leb-true, le-leb, lt-leb}
+use Rattle.std.specs.Prelude.{Ok, Err}
+use Rattle.refusals.specs.declared.Refusal.{Refusal}
+use Rattle.refusals.specs.Refusal.{number_of}
 use Rattle.words.specs.Choice.{check}
 use Rattle.words.proofs.Checks.{none-failed}
 use Rattle.output.specs.Writing.{Room}
-use Rattle.output.proofs.Showing.{refused_with, of_length, shown-refused, shown-written}
+use Rattle.output.proofs.Showing.{shown-refused, shown-written}
 use Rattle.spelling.specs.declared.Page.{Page}
 use Rattle.spelling.specs.Page.{Sets}
 use Rattle.spelling.proofs.Pages.{sets-writes}
@@ -24,18 +27,6 @@ use Rattle.loading.proofs.Theorems.{load_fits}
 
 -- ---- whether there is a load
 module _ (n c : ℕ) where
-  pub no_atom : n < 1 → false ≡ is_load n c
-  unfolding is_load
-  no_atom h = rw (lt-leb 1 n h)
-
-  pub atoms-many : 1 ≤ n → 64 < n → false ≡ is_load n c
-  unfolding is_load
-  atoms-many h k = rw (le-leb 1 n h, lt-leb n 64 k)
-
-  pub by_clauses : 1 ≤ n → n ≤ 64 → leb c 256 ≡ is_load n c
-  unfolding is_load
-  by_clauses h k = rw (le-leb 1 n h, le-leb n 64 k)
-
   -- behind that test there are an atom and room for the text
   pub load_ready : (s : ℕ) {b : Bool} → b ≡ is_load n c → b ≡ true → (0 < n) × Room (load_text s n c) 0
   load_ready s {b} e h =
@@ -44,13 +35,13 @@ module _ (n c : ℕ) where
 
 -- ---- the refusals
 module _ (s n c : ℕ) (out : List ℕ) where
-  refused-with : (k : ℕ) → load_refusal s n c (length out) ≡ suc k → Generated s n c out (refused_with (suc k)) out
-  refused-with k e = rw e (shown-refused k (load_text s n c) out)
+  refused-with : (r : Refusal) → load_refusal s n c (length out) ≡ number_of r → Generated s n c out (Err r) out
+  refused-with r e = rw e (shown-refused r (load_text s n c) out)
 
   module _ {b : Bool} (e : b ≡ is_load n c) where
-    pub out_of_range : b ≡ false → Generated s n c out (refused_with 22) out
+    pub out_of_range : b ≡ false → Generated s n c out (Err Refusal.NoLoad) out
     unfolding load_refusal
-    out_of_range h = refused-with 21 first
+    out_of_range h = refused-with Refusal.NoLoad first
       where
         first : load_refusal s n c (length out) ≡ 22
         first = rw (← e, h)
@@ -61,15 +52,15 @@ module _ (s n c : ℕ) (out : List ℕ) where
       size : g.at ≡ length (load_text s n c)
       size = w.place_is ∙ zero-add _
 
-      pub output_short : length out < g.at → Generated s n c out (refused_with 23) out
+      pub output_short : length out < g.at → Generated s n c out (Err Refusal.ShortLoadOutput) out
       unfolding load_refusal
-      output_short k = refused-with 22 second
+      output_short k = refused-with Refusal.ShortLoadOutput second
         where
           second : load_refusal s n c (length out) ≡ 23
           second = rw (← e, h, ← size, lt-leb g.at (length out) k)
 
       pub load_written : g.at ≤ length out → {r : Page} {u : List ℕ}
-          → Sets (map line_text (load_lines s n c)) out first_page r u → Generated s n c out (of_length g.at) u
+          → Sets (map line_text (load_lines s n c)) out first_page r u → Generated s n c out (Ok g.at) u
       unfolding load_refusal
       load_written k v = rw none (shown-written size k (sets-writes v))
         where

@@ -1,10 +1,10 @@
 -- How the lines of a load are written.
 --
---   ClausesLeft ..     of the clauses drawn those left are still to be drawn and written
+--   ClausesLeft ..     of the clauses drawn those behind the ones done are still to be drawn and written
 -- Assumes nothing.
 use mathlib.Core.Path.{◌≡◌, ap, ◌∙◌}
 use mathlib.Core.List.{List, [], ◌∷◌, ◌++◌, map, map-append}
-use Prim.Native.Nat.{ℕ, zero, suc, ◌-◌, ◌^◌, ◌≤◌, ◌<◌}
+use Prim.Native.Nat.{ℕ, zero, suc, ◌+◌, ◌-◌, ◌≤◌, ◌<◌}
 use native.Mathlib.Nat.{not-suc-le-zero}
 use native.Mathlib.Omega.{arith}
 use Rattle.words.proofs.Lists.{list_of-none, list_of-more}
@@ -25,7 +25,6 @@ use Rattle.writing.proofs.Ways.{LinesLeft, lines_start, lines-room, lines_more, 
 use Rattle.loading.specs.Draws.{state_after}
 use Rattle.loading.specs.Load.{load_name, clause_drawn, draw_count, clauses_drawn, atom_lines}
 use Rattle.loading.specs.Load.{query_of_first, load_lines}
-use Rattle.loading.proofs.States.{state_below}
 use Rattle.loading.proofs.Drawing.{clauses-none, clauses-first}
 
 -- ---- the lines of atoms
@@ -55,37 +54,38 @@ drawn_first n s (suc c) h =
     let e : suc c - 1 ≡ c = omega arith in
     rw e (ap (map line_text) (clauses-first n s c))
 
--- of c clauses on n atoms, drawn from the state start on and written to out from the page g on, those left are drawn
--- from the state s on and written to out₁ from the page q on
-pub record ClausesLeft (n start c : ℕ) (out : List ℕ) (g : Page) (s left : ℕ) (q : Page) (out₁ : List ℕ) : Type 0 where
-  pub below : s < 2 ^ 32
-  pub lines : LinesLeft (drawn_texts n start c) out g (drawn_texts n s left) q out₁
+-- of c clauses on n atoms, drawn from the state start on and written to out from the page g on, those behind the ones
+-- done are drawn from the state s on and written to out₁ from the page q on
+pub record ClausesLeft (n start c : ℕ) (out : List ℕ) (g : Page) (s done : ℕ) (q : Page) (out₁ : List ℕ) : Type 0 where
+  pub lines : LinesLeft (drawn_texts n start c) out g (drawn_texts n s (c - done)) q out₁
 
 module _ (n start c : ℕ) (out : List ℕ) (g : Page) where
-  pub clauses-start : start < 2 ^ 32 → ClausesLeft n start c out g start c g out
-  clauses-start h = record { below = h; lines = lines_start (drawn_texts n start c) out g }
+  pub clauses-start : ClausesLeft n start c out g start 0 g out
+  clauses-start =
+      let e : c - 0 ≡ c = omega arith in
+      record { lines = rw e (lines_start (drawn_texts n start c) out g) }
 
-module _ {n start c : ℕ} {out : List ℕ} {g : Page} {s left : ℕ} {q : Page} {out₁ : List ℕ}
-    (h : ClausesLeft n start c out g s left q out₁) where
-  module _ (l : 0 < left) where
+module _ {n start c : ℕ} {out : List ℕ} {g : Page} {s done : ℕ} {q : Page} {out₁ : List ℕ}
+    (h : ClausesLeft n start c out g s done q out₁) where
+  module _ (l : done < c) where
     abbrev piece : List (List ℕ)
     piece = line_text (clause_drawn n s) ∷ []
 
+    first-is : drawn_texts n s (c - done) ≡ piece ++ drawn_texts n (state_after (draw_count s) s) (c - (done + 1))
+    first-is =
+        let less : c - done - 1 ≡ c - (done + 1) = omega arith in
+        rw (← less) (drawn_first n s (c - done) (omega arith))
+
     pub clause-room : Room (text_of (drawn_texts n start c)) g.at → Room (text_of piece) q.at
-    clause-room r = lines-room h.lines piece _ (drawn_first n s left l) r
+    clause-room r = lines-room h.lines piece _ first-is r
 
-    pub clause-more : {m t : ℕ} {r : Page} {out₂ : List ℕ} → Sets piece out₁ q r out₂ → m ≡ draw_count s
-        → t ≡ state_after m s → ClausesLeft n start c out g t (left - 1) r out₂
-    clause-more w em et =
-        rw (et, em)
-        (record {
-          below = state_below (draw_count s) s h.below;
-          lines = lines_more h.lines piece _ (drawn_first n s left l) w;
-        })
+    pub clause-more : {t : ℕ} {r : Page} {out₂ : List ℕ} → Sets piece out₁ q r out₂
+        → t ≡ state_after (draw_count s) s → ClausesLeft n start c out g t (done + 1) r out₂
+    clause-more w et = rw et (record { lines = lines_more h.lines piece _ first-is w })
 
-  pub clauses-end : left ≤ 0 → Sets (drawn_texts n start c) out g q out₁
+  pub clauses-end : c ≤ done → Sets (drawn_texts n start c) out g q out₁
   clauses-end l =
-      let e : left ≡ 0 = omega arith in
+      let e : c - done ≡ 0 = omega arith in
       lines_end h.lines (ap (drawn_texts n s) e ∙ drawn_none n s)
 
 -- ---- all lines

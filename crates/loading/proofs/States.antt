@@ -1,38 +1,31 @@
--- Laws of the states that draws go through.
---
---   AtDraw k start done s     of k draws from the state start on, those done led to the state s
--- Assumes nothing.
-use mathlib.Core.Path.{◌≡◌, refl, ap, ◌∙◌}
-use Prim.Native.Nat.{ℕ, zero, suc, ◌+◌, ◌^◌, ◌≤◌, ◌<◌}
-use native.Mathlib.Numerals.{add-one}
+-- Laws of the states that draws go through. Assumes nothing.
+use mathlib.Core.Path.{◌≡◌, refl, sym, ap, ◌∙◌}
+use Prim.Native.Nat.{ℕ, zero, suc, ◌+◌, ◌*◌}
+use native.Mathlib.Nat.{zero-add, suc-add}
 use native.Mathlib.Omega.{arith}
-use Rattle.loading.specs.Draws.{next_state, state_after}
+use Rattle.loading.specs.Draws.{next_state, state_after, draw}
 
-pub state_below : (k s : ℕ) → s < 2 ^ 32 → state_after k s < 2 ^ 32
+-- j draws behind k draws
+pub state-add : (j k s : ℕ) → state_after j (state_after k s) ≡ state_after (j + k) s
 unfolding state_after
-state_below zero s h = h
-state_below (suc k) s h = omega arith
+state-add zero k s = ap (λ i. state_after i s) (sym (zero-add k))
+state-add (suc j) k s = ap next_state (state-add j k s) ∙ ap (λ i. state_after i s) (sym (suc-add j k))
 
-pub state_after-below : (k : ℕ) {s t : ℕ} → t ≡ state_after k s → s < 2 ^ 32 → t < 2 ^ 32
-state_after-below k e h = rw e (state_below k _ h)
-
-pub record AtDraw (k start done s : ℕ) : Type 0 where
-  pub within : done ≤ k
-  pub state_is : s ≡ state_after done start
-  pub below : s < 2 ^ 32
-
-pub draw-start : (k start : ℕ) → start < 2 ^ 32 → AtDraw k start 0 start
+-- none, and two more behind those of some pairs
+pub state-none : (s : ℕ) → state_after 0 s ≡ s
 unfolding state_after
-draw-start k start h = record { within = omega arith; state_is = refl; below = h }
+state-none s = refl
 
-module _ {k start done s : ℕ} (h : AtDraw k start done s) where
-  pub draw-more : done < k → AtDraw k start (done + 1) (next_state s)
-  unfolding state_after
-  draw-more l = record {
-    within = omega arith;
-    state_is = rw add-one (ap next_state h.state_is);
-    below = omega arith;
-  }
+pub state-pairs : (done s : ℕ) → state_after 2 (state_after (2 * done) s) ≡ state_after (2 * (done + 1)) s
+state-pairs done s =
+    let e : 2 + 2 * done ≡ 2 * (done + 1) = omega arith in
+    state-add 2 (2 * done) s ∙ ap (λ i. state_after i s) e
 
-  pub draw-end : k ≤ done → s ≡ state_after k start
-  draw-end l = let e : done ≡ k = omega (arith, h.within) in h.state_is ∙ ap (λ i. state_after i start) e
+-- a draw behind another
+pub second-draw : (s : ℕ) {t : ℕ} → t ≡ state_after 1 s → draw 1 t ≡ draw 2 s
+unfolding state_after
+second-draw s e = ap (λ x. draw 1 x) e
+
+pub second-state : (s : ℕ) {t : ℕ} → t ≡ state_after 1 s → state_after 1 t ≡ state_after 2 s
+unfolding state_after
+second-state s e = ap (λ x. state_after 1 x) e

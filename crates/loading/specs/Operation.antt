@@ -6,9 +6,9 @@
 --   is_load n c            there is a load with n atoms and c clauses
 --   load_refusal s n c m   0, or 22 there is no such load, 23 the output, m bytes long, shorter than its text
 --   Generated ..           the answer and the output at exit
-use Rattle.std.specs.Prelude.{Bool, ◌&&◌, List, [], ◌∷◌, ℕ, leb, length}
+use Rattle.std.specs.Prelude.{Bool, ◌&&◌, List, [], ◌∷◌, ℕ, Result, leb, length}
+use Rattle.refusals.specs.declared.Refusal.{Refusal}
 use Rattle.words.specs.Choice.{check, first_failed}
-use Rattle.output.specs.declared.Answer.{Answer}
 use Rattle.output.specs.Showing.{Shown}
 use Rattle.loading.specs.Load.{load_text}
 
@@ -19,5 +19,5 @@ unfoldable pub load_refusal : ℕ → ℕ → ℕ → ℕ → ℕ
 load_refusal s n c m = first_failed (check 22 (is_load n c) ∷ check 23 (leb (length (load_text s n c)) m) ∷ [])
 
 -- the seed s, n atoms, c clauses, and the output at entry and at exit
-abbrev pub Generated : ℕ → ℕ → ℕ → List ℕ → Answer → List ℕ → Type 0
+abbrev pub Generated : ℕ → ℕ → ℕ → List ℕ → Result ℕ Refusal → List ℕ → Type 0
 Generated s n c out r outAfter = Shown (load_refusal s n c (length out)) (load_text s n c) out r outAfter

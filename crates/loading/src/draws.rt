@@ -1,25 +1,21 @@
 // Draws: numbers that follow from a state of 32 bits.
-ghost use Rattle.std.specs.Prelude.{◌≡◌, ◌^◌, ◌<◌};
-ghost use Rattle.loading.specs.Draws as draws;
+ghost use Rattle.std.specs.Prelude.{◌≡◌};
+ghost use Rattle.loading.specs.Draws.{state_after, draw};
 
-// The state after k draws.
-pub fn state_after(k: u64, state: u64) -> u64
-    requires { state < 2 ^ 32 }
-    ensures { result ≡ draws.state_after k state }
-{
-    let mut s = state;
-    let mut done: u64 = 0;
-    while done < k {
-        s = (s * 1664525 + 1013904223) % 4294967296;
-        done += 1;
-    }
-    s
+// The state that the next draw follows from.
+#[derive(Drop)]
+pub struct Source {
+    pub state: u32,
 }
 
-// What the k-th draw yields, counted from 1.
-pub fn draw(k: u64, state: u64) -> u64
-    requires { state < 2 ^ 32 }
-    ensures { result ≡ draws.draw k state }
-{
-    state_after(k, state) / 65536
+impl Source {
+    // Draws a number.
+    #[tactic(auto, unfolding(crate::specs::Draws::state_after))]
+    pub fn draw(&mut self) -> u64
+        ensures drawn { result ≡ draw 1 self.old.state }
+        ensures stepped { self.new.state ≡ state_after 1 self.old.state }
+    {
+        self.state = self.state.wrapping_mul(1664525).wrapping_add(1013904223);
+        (self.state / 65536) as u64
+    }
 }

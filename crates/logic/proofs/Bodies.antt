@@ -6,20 +6,23 @@ use Prim.Native.Nat.{ℕ, zero, suc, ◌-◌, ◌^◌, ◌<◌}
 use native.Mathlib.Omega.{arith}
 use lib.Dec.{eqb}
 use lib.Bits.{bit_and, bit_or, and_lt, or_lt}
+use borrow.Author.Tests.{eq-eqb, ne_eqb}
 use Rattle.words.specs.Below.{any}
 use Rattle.words.specs.Bits.{has}
 use Rattle.words.proofs.Below.{any_ext}
 use Rattle.words.proofs.Bits.{has-and, has-or, has-not}
 use Rattle.words.proofs.Words.{zero-any}
 use Rattle.logic.specs.declared.value.Value.{Value}
+use Rattle.logic.specs.declared.value.Value.TheVariants.{False, Unknown, True}
 use Rattle.logic.specs.declared.interpretation.Interpretation.{Interpretation}
 use Rattle.logic.specs.Value.{is_true, is_false}
 use Rattle.logic.specs.Formula.{Formula, value_of, literal, and_if, literals_below, body}
-use Rattle.logic.specs.Interpretation.{value_at, Disjoint}
+use Rattle.logic.specs.Interpretation.{value_at}
 use Rattle.logic.specs.Order.{Leq, Contained}
+use Rattle.logic.proofs.Values.{is_true_lem, is_false_lem, is-unknown}
 use Rattle.logic.proofs.Values.{value_ext, true_lesser, false_lesser, true_negated, false_negated}
 use Rattle.logic.proofs.Order.{leq_refl, negated_mono, lesser_mono}
-use Rattle.logic.proofs.Interpretations.{true_at, false_at}
+use Rattle.logic.proofs.Interpretations.{Good, true_at, false_at}
 
 -- ---- by tests of each atom's literals
 -- some literal on atom a is not true
@@ -73,36 +76,53 @@ module _ (v : ℕ → Value) (p n : ℕ) where
       ∙ or_assoc (any a (opposed v p n)) (has p a && is_false (v a)) (has n a && is_true (v a))
 
 -- ---- by masks
-module _ (i : Interpretation) (p n : ℕ) (ht : i.trues < 2 ^ 64) (hf : i.falses < 2 ^ 64)
-    (hp : p < 2 ^ 64) (hn : n < 2 ^ 64) (d : Disjoint i) where
+module _ (i : Interpretation) (p n : ℕ) (g : Good i) (hp : p < 2 ^ 64) (hn : n < 2 ^ 64) where
+  -- the literals that are false, and those that are not true
+  abbrev against_in : ℕ
+  against_in = bit_or (bit_and p i.falses) (bit_and n i.trues)
+
+  abbrev missing_in : ℕ
+  missing_in = bit_or (bit_and p (2 ^ 64 - 1 - i.trues)) (bit_and n (2 ^ 64 - 1 - i.falses))
+
   -- no literal is false
-  pub against : eqb (bit_or (bit_and p i.falses) (bit_and n i.trues)) 0
+  against : eqb against_in 0
       ≡ not (is_false (value_of (value_at i) (body p n)))
   against =
-      zero-any 64 _ (or_lt 64 _ _ (and_lt 64 _ _ hp hf) (and_lt 64 _ _ hn ht))
+      zero-any 64 _ (or_lt 64 _ _ (and_lt 64 _ _ hp g.falses_fit) (and_lt 64 _ _ hn g.trues_fit))
       ∙ ap not
-      (any_ext 64 (has (bit_or (bit_and p i.falses) (bit_and n i.trues))) (opposed (value_at i) p n)
+      (any_ext 64 (has against_in) (opposed (value_at i) p n)
       (λ a l. has-or (bit_and p i.falses) (bit_and n i.trues) a
       ∙ ap₂ ◌||◌
-      (has-and p i.falses a ∙ ap (λ (b : Bool). has p a && b) (sym (false_at i d a)))
+      (has-and p i.falses a ∙ ap (λ (b : Bool). has p a && b) (sym (false_at i g.disjoint a)))
       (has-and n i.trues a ∙ ap (λ (b : Bool). has n a && b) (sym (true_at i a))))
       ∙ sym (false_literals (value_at i) p n 64))
 
   -- every literal is true
-  pub missing : eqb (bit_or (bit_and p (2 ^ 64 - 1 - i.trues)) (bit_and n (2 ^ 64 - 1 - i.falses))) 0
+  missing : eqb missing_in 0
       ≡ is_true (value_of (value_at i) (body p n))
   missing =
       zero-any 64 _ (or_lt 64 _ _ (and_lt 64 _ _ hp (omega arith)) (and_lt 64 _ _ hn (omega arith)))
       ∙ ap not
-      (any_ext 64 (has (bit_or (bit_and p (2 ^ 64 - 1 - i.trues)) (bit_and n (2 ^ 64 - 1 - i.falses))))
+      (any_ext 64 (has missing_in)
       (missed (value_at i) p n)
       (λ a l. has-or (bit_and p (2 ^ 64 - 1 - i.trues)) (bit_and n (2 ^ 64 - 1 - i.falses)) a
       ∙ ap₂ ◌||◌
       (has-and p (2 ^ 64 - 1 - i.trues) a
-      ∙ ap (λ (b : Bool). has p a && b) (has-not 64 i.trues a ht l ∙ ap not (sym (true_at i a))))
+      ∙ ap (λ (b : Bool). has p a && b) (has-not 64 i.trues a g.trues_fit l ∙ ap not (sym (true_at i a))))
       (has-and n (2 ^ 64 - 1 - i.falses) a
-      ∙ ap (λ (b : Bool). has n a && b) (has-not 64 i.falses a hf l ∙ ap not (sym (false_at i d a))))))
+      ∙ ap (λ (b : Bool). has n a && b) (has-not 64 i.falses a g.falses_fit l
+      ∙ ap not (sym (false_at i g.disjoint a))))))
       ∙ sym (true_literals (value_at i) p n 64)
+
+  pub body_false : (against_in ≡ 0 → ⊥) → False ≡ value_of (value_at i) (body p n)
+  body_false h = sym (is_false_lem _ (sym (not-not _) ∙ ap not (sym against ∙ ne_eqb _ 0 h)))
+
+  pub body_true : missing_in ≡ 0 → True ≡ value_of (value_at i) (body p n)
+  body_true h = sym (is_true_lem _ (sym missing ∙ eq-eqb _ 0 h))
+
+  pub body_unknown : against_in ≡ 0 → (missing_in ≡ 0 → ⊥) → Unknown ≡ value_of (value_at i) (body p n)
+  body_unknown h k =
+      sym (is-unknown _ (sym missing ∙ ne_eqb _ 0 k) (sym (not-not _) ∙ ap not (sym against ∙ eq-eqb _ 0 h)))
 
 -- ---- under two valuations
 and_if_mono : (v w : ℕ → Value) (t : Bool) (f g : Formula) → Leq (value_of v f) (value_of w f)

@@ -1,20 +1,22 @@
 -- Laws of interpretations: the values in one, the one of given values, and where two differ. Assumes nothing.
 use mathlib.Core.Path.{◌≡◌, refl, sym, ap, ap₂, ◌∙◌}
-use mathlib.Core.Bool.{Bool, true, false, not, ◌&&◌, ◌||◌, or-true, or-false, and-true, and-false}
+use mathlib.Core.Bool.{Bool, true, false, not, ◌&&◌, ◌||◌, or-false, and-true, and-false}
 use mathlib.Core.Bool.{true≢false, not-not}
 use mathlib.Core.Logic.{⊎_elim}
-use Prim.Native.Nat.{ℕ, ◌-◌, ◌^◌, ◌≤◌, ◌<◌}
+use Prim.Native.Nat.{ℕ, ◌^◌, ◌≤◌, ◌<◌}
 use lib.Dec.{eqb, lit<}
-use lib.Bits.{bit_and, bit_or, bit_xor, and_lt, or_lt, xor_lt}
+use lib.Bits.{bit_or, bit_xor, and_lt, or_lt, xor_lt}
 use borrow.Author.Tests.{eqb-true, eq-eqb}
 use Rattle.words.specs.Choice.{pick}
 use Rattle.words.specs.Below.{any}
 use Rattle.words.specs.Bits.{has, word}
+use Rattle.words.specs.OneBit.{with_bit, without_bit}
 use Rattle.words.proofs.Tests.{lt-or-le, and_true_l, and_true_r, or_false_l, or_false_r}
 use Rattle.words.proofs.Below.{any_ext}
 use Rattle.words.proofs.Bits.{has-zero, has_above, has-and, has-or, has_xor, differs, has_ext}
 use Rattle.words.proofs.Words.{word_lt, has_word, is_word, word_ext, zero-any}
-use Rattle.words.proofs.Words.{has-or-one, or-one-lt, has_without_one, without_one_lt}
+use Rattle.words.proofs.Words.{has_without_one, without_one_lt}
+use Rattle.words.proofs.BitWalks.{has_with, with_lt}
 use Rattle.logic.specs.declared.value.Value.{Value}
 use Rattle.logic.specs.declared.value.Value.TheVariants.{Unknown}
 use Rattle.logic.specs.declared.interpretation.Interpretation.{Interpretation}
@@ -106,55 +108,29 @@ pub nothing_good : Good nothing
 nothing_good = record { trues_fit = lit< tt; falses_fit = lit< tt; disjoint = refl }
 
 -- ---- one atom assigned
--- an atom that is assigned the value it has
-pub assigned-kept : (v : ℕ → Value) (a : ℕ) (x : Value) → x ≡ v a → (b : ℕ) → assigned v a x b ≡ v b
-assigned-kept v a x e b = go (eqb b a) refl
-  where
-    go : (t : Bool) → eqb b a ≡ t → pick t x (v b) ≡ v b
-    go true p = e ∙ ap v (sym (eqb-true b a p))
-    go false p = refl
-
 -- a word of the atoms whose value in v passes the test q, and the word of those that pass with x at atom a
 module _ (q : Value → Bool) (v : ℕ → Value) (w : ℕ) (a : ℕ) (x : Value)
     (fits : w < 2 ^ 64) (l : a < 64) (bits : (b : ℕ) → has w b ≡ q (v b)) where
-  or-pick : q x ≡ true → (t : Bool) (y : Value) → (q y || t) ≡ q (pick t x y)
-  or-pick e true y = or-true (q y) ∙ sym e
-  or-pick e false y = or-false (q y)
+  picked : (t : Bool) (y : Value) → ((q y && not t) || (q x && t)) ≡ q (pick t x y)
+  picked true y = ap₂ ◌||◌ (and-false (q y)) (and-true (q x))
+  picked false y = ap₂ ◌||◌ (and-true (q y)) (and-false (q x)) ∙ or-false (q y)
 
-  without_pick : q x ≡ false → (t : Bool) (y : Value) → (q y && not t) ≡ q (pick t x y)
-  without_pick e true y = and-false (q y) ∙ sym e
-  without_pick e false y = and-true (q y)
+  assigned_word : with_bit (q x) (without_bit w a) a ≡ word 64 (λ b. q (assigned v a x b))
+  assigned_word =
+      is_word 64 _ (λ b. q (assigned v a x b)) (with_lt (q x) 64 _ a (without_one_lt 64 w a fits) l)
+      (λ b m. has_with (q x) (without_bit w a) a b
+      ∙ ap (λ (t : Bool). t || q x && eqb b a)
+      (has_without_one 64 w a b l m ∙ ap (λ (t : Bool). t && not (eqb b a)) (bits b))
+      ∙ picked (eqb b a) (v b))
 
-  -- where x passes, it has one atom more
-  assigned-more : q x ≡ true → bit_or w (2 ^ a) ≡ word 64 (λ b. q (assigned v a x b))
-  assigned-more e =
-      is_word 64 _ (λ b. q (assigned v a x b)) (or-one-lt 64 w a fits l)
-      (λ b m. has-or-one w a b ∙ ap (λ (t : Bool). t || eqb b a) (bits b) ∙ or-pick e (eqb b a) (v b))
-
-  -- where x fails, one less
-  assigned-less : q x ≡ false → bit_and w (2 ^ 64 - 1 - 2 ^ a) ≡ word 64 (λ b. q (assigned v a x b))
-  assigned-less e =
-      is_word 64 _ (λ b. q (assigned v a x b)) (without_one_lt 64 w a fits)
-      (λ b m. has_without_one 64 w a b l m ∙ ap (λ (t : Bool). t && not (eqb b a)) (bits b)
-      ∙ without_pick e (eqb b a) (v b))
-
--- the words of i with the atom a assigned the value x
-module _ (i : Interpretation) (a : ℕ) (g : Good i) (l : a < 64) (x : Value) where
-  pub trues_more : is_true x ≡ true → bit_or i.trues (2 ^ a) ≡ word 64 (λ b. is_true (assigned (value_at i) a x b))
-  trues_more = assigned-more is_true (value_at i) i.trues a x g.trues_fit l (λ b. sym (true_at i b))
-
-  pub trues_less : is_true x ≡ false
-      → bit_and i.trues (2 ^ 64 - 1 - 2 ^ a) ≡ word 64 (λ b. is_true (assigned (value_at i) a x b))
-  trues_less = assigned-less is_true (value_at i) i.trues a x g.trues_fit l (λ b. sym (true_at i b))
-
-  pub falses_more : is_false x ≡ true → bit_or i.falses (2 ^ a) ≡ word 64 (λ b. is_false (assigned (value_at i) a x b))
-  falses_more =
-      assigned-more is_false (value_at i) i.falses a x g.falses_fit l (λ b. sym (false_at i g.disjoint b))
-
-  pub falses_less : is_false x ≡ false
-      → bit_and i.falses (2 ^ 64 - 1 - 2 ^ a) ≡ word 64 (λ b. is_false (assigned (value_at i) a x b))
-  falses_less =
-      assigned-less is_false (value_at i) i.falses a x g.falses_fit l (λ b. sym (false_at i g.disjoint b))
+-- i with the atom a assigned the value x, word by word
+pub assigned_words : (i : Interpretation) (a : ℕ) (x : Value) {t f : ℕ} → Good i → a < 64
+    → t ≡ with_bit (is_true x) (without_bit i.trues a) a → f ≡ with_bit (is_false x) (without_bit i.falses a) a
+    → record { trues = t; falses = f } ≡ of_values (assigned (value_at i) a x)
+assigned_words i a x g l p q =
+    interpretation_eq
+    (p ∙ assigned_word is_true (value_at i) i.trues a x g.trues_fit l (λ b. sym (true_at i b)))
+    (q ∙ assigned_word is_false (value_at i) i.falses a x g.falses_fit l (λ b. sym (false_at i g.disjoint b)))
 
 -- ---- the decided atoms
 pub decided-at : (i : Interpretation) (a : ℕ) → has (bit_or i.trues i.falses) a ≡ is_decided (value_at i a)

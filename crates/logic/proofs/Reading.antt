@@ -3,6 +3,7 @@
 use mathlib.Core.Path.{◌≡◌, refl, sym, ◌∙◌}
 use mathlib.Core.List.{List, [], ◌∷◌}
 use mathlib.Core.Bool.{Bool, true, false}
+use mathlib.Core.Logic.{⊎_elim}
 use Prim.Native.Nat.{ℕ, ◌+◌, ◌-◌, ◌≤◌, ◌<◌, max}
 use native.Mathlib.Numerals.{add-one}
 use native.Mathlib.Omega.{arith}
@@ -10,13 +11,14 @@ use lib.Dec.{eqb}
 use lib.ListN.{length, drop, get_or, drop_of_length-le, length-drop}
 use lib.Seq.{drop-cons}
 use borrow.Author.Tests.{lt-ltb, le-leb, eqb-true, eqb-false}
+use Rattle.words.proofs.Tests.{lt-or-le}
 use Rattle.logic.specs.declared.value.Value.{Value}
 use Rattle.logic.specs.Value.{negated}
 use Rattle.logic.specs.Formula.{Formula, value_of, depth, over}
 use Rattle.logic.specs.Nodes.{Spelling, spelled, with_node, joined, single, one_formula}
-use Rattle.logic.specs.Evaluation.{Evaluated, shallow, with_first, ReadsFormula, Measured}
+use Rattle.logic.specs.Evaluation.{Evaluated, Unread, shallow, with_first, ReadsFormula, Measured, Unmeasured}
 use Rattle.logic.proofs.Spelling.{with-name, with-not, with-form, Front, front, joined-over, joined-depth}
-use Rattle.logic.proofs.Spelling.{name-value, high_value, not-value, form-value}
+use Rattle.logic.proofs.Spelling.{name-value, not-value, form-value, high_none, operand_none, second_none}
 use Rattle.logic.proofs.Spelling.{shallow_deep, shallow-high, shallow-outside, shallow-operand, shallow-second}
 
 module _ (ks : List ℕ) (at : ℕ) where
@@ -31,30 +33,35 @@ module _ (ks : List ℕ) (at : ℕ) where
 
 -- The ways out of `eval`
 
-module _ (v : ℕ → Value) (ks : List ℕ) (at : ℕ) where
-  pub end_evaluated : (x : Value) → at ≤ length ks → length ks ≤ at → Evaluated v ks at x at
-  end_evaluated x h l = record {
-    onward = omega arith;
-    within = h;
-    reads = record { value-is = λ f fs e. absurd (empty f fs e); rest-is = λ f fs e. absurd (empty f fs e) };
-  }
-    where
-      empty : (f : Formula) (fs : List Formula) → spelled (drop at ks) ≡ Spelling.formulas (f ∷ fs) → ⊥
-      empty f fs e = let q = spelled-end ks at l in let z : ◌≡◌ {A = ℕ} 0 1 = cc in omega arith
+no_front : (k : ℕ) (s : Spelling) → Front k s [] → ⊥
+no_front k s (Front.of_name gs h es ef) = let z : ◌≡◌ {A = ℕ} 0 1 = cc in omega arith
+no_front k s (Front.of_not g gs h es ef) = let z : ◌≡◌ {A = ℕ} 0 1 = cc in omega arith
+no_front k s (Front.of_form g g' gs lo hi es ef) = let z : ◌≡◌ {A = ℕ} 0 1 = cc in omega arith
 
+module _ (ks : List ℕ) (at : ℕ) where
+  end_unread : length ks ≤ at → Unread ks at
+  end_unread l f fs e = let q = spelled-end ks at l in let z : ◌≡◌ {A = ℕ} 0 1 = cc in omega arith
+
+  module _ (h : at < length ks) where
+    high_unread : 68 < get_or ks at 0 → Unread ks at
+    high_unread l f fs e = high_none (get_or ks at 0) _ l (sym (spelled_at ks at h) ∙ e)
+
+    pub operand_unread : 64 ≤ get_or ks at 0 → Unread ks (at + 1) → Unread ks at
+    operand_unread l r f fs e = operand_none (get_or ks at 0) _ l r (sym (spelled_at ks at h) ∙ e)
+
+-- no node stands there
+pub node_unread : (ks : List ℕ) (at : ℕ) → (at < length ks → 68 < get_or ks at 0) → Unread ks at
+node_unread ks at h =
+    ⊎_elim (λ (l : at < length ks). high_unread ks at l (h l)) (λ (l : length ks ≤ at). end_unread ks at l)
+    (lt-or-le at (length ks))
+
+module _ (v : ℕ → Value) (ks : List ℕ) (at : ℕ) where
   pub name_evaluated : (x : Value) → at < length ks → get_or ks at 0 < 64 → x ≡ v (get_or ks at 0)
       → Evaluated v ks at x (at + 1)
   name_evaluated x h l e = record {
     onward = omega arith;
     within = omega arith;
     reads = rw (spelled_at ks at h) (name-value v (get_or ks at 0) _ x l e);
-  }
-
-  pub high_evaluated : (x : Value) → at < length ks → 68 < get_or ks at 0 → Evaluated v ks at x (at + 1)
-  high_evaluated x h l = record {
-    onward = omega arith;
-    within = omega arith;
-    reads = rw (spelled_at ks at h) (high_value v (get_or ks at 0) _ x _ l);
   }
 
   module _ (x : Value) (m : ℕ) (h : at < length ks) (r : Evaluated v ks (at + 1) x m) where
@@ -65,80 +72,121 @@ module _ (v : ℕ → Value) (ks : List ℕ) (at : ℕ) where
       reads = rw (spelled_at ks at h) (not-value v (get_or ks at 0) _ x y _ l r.reads e);
     }
 
-    pub form_evaluated : (y z : Value) (next : ℕ) → 65 ≤ get_or ks at 0 → Evaluated v ks m y next
-        → ((f g : Formula) → x ≡ value_of v f → y ≡ value_of v g → z ≡ value_of v (joined (get_or ks at 0 - 65) f g))
+    pub second_unread : 65 ≤ get_or ks at 0 → Unread ks m → Unread ks at
+    second_unread l r' f fs e =
+        second_none v (get_or ks at 0) _ x _ l r.reads r' (sym (spelled_at ks at h) ∙ e)
+
+    pub form_evaluated : (y z : Value) (next p : ℕ) → get_or ks at 0 ≡ 65 + p → Evaluated v ks m y next
+        → ((f g : Formula) → x ≡ value_of v f → y ≡ value_of v g → z ≡ value_of v (joined p f g))
         → Evaluated v ks at z next
-    form_evaluated y z next l r' e = record {
+    form_evaluated y z next p l r' e = record {
       onward = omega arith;
       within = omega arith;
-      reads = rw (spelled_at ks at h) (form-value v (get_or ks at 0) _ x y z _ _ l r.reads r'.reads e);
+      reads =
+          let q : get_or ks at 0 - 65 ≡ p = omega arith in
+          rw (spelled_at ks at h) (form-value v (get_or ks at 0) _ x y z _ _ (omega arith) r.reads r'.reads (rw q e));
     }
 
 -- The ways out of `measure`
 
 module _ (n : ℕ) (ks : List ℕ) (at : ℕ) where
-  measured_as : (d next : ℕ) (f : Formula) → at ≤ next → next ≤ length ks
-      → spelled (drop at ks) ≡ with_first f (spelled (drop next ks)) → d ≡ depth f → over n f ≡ true
-      → Measured n ks at d next
-  measured_as d next f h l es ed eo = record {
-    onward = h;
-    within = l;
-    reads = λ q. record { formula = f; spelling_is = es; depth_is = ed; over-is = eo };
-    fails = λ q. rw es (shallow_deep n f (spelled (drop next ks)) (omega arith));
-  }
-
-  measured_none : at ≤ length ks → shallow n (spelled (drop at ks)) ≡ false → Measured n ks at 17 at
-  measured_none h e = record { onward = omega arith; within = h; reads = λ q. absurd (omega arith); fails = λ q. e }
-
-  pub end_measured : at ≤ length ks → length ks ≤ at → Measured n ks at 17 at
-  end_measured h l = measured_none h (rw (spelled-end ks at l))
+  end_unmeasured : length ks ≤ at → Unmeasured n ks at
+  end_unmeasured l = rw (spelled-end ks at l)
 
   module _ (h : at < length ks) where
-    pub high_measured : 68 < get_or ks at 0 → Measured n ks at 17 at
-    high_measured l = measured_none (omega arith) (rw (spelled_at ks at h) (shallow-high n (get_or ks at 0) _ l))
+    high_unmeasured : 68 < get_or ks at 0 → Unmeasured n ks at
+    high_unmeasured l = rw (spelled_at ks at h) (shallow-high n (get_or ks at 0) _ l)
 
     pub name_measured : get_or ks at 0 < 64 → get_or ks at 0 < n → Measured n ks at 1 (at + 1)
     unfolding depth over
-    name_measured l q = measured_as 1 (at + 1) (Formula.atom (get_or ks at 0)) (omega arith) (omega arith)
-        (spelled_at ks at h ∙ with-name (get_or ks at 0) _ l) refl (lt-ltb (get_or ks at 0) n q)
+    name_measured l q = record {
+      onward = omega arith;
+      within = omega arith;
+      few = omega arith;
+      reads = record {
+        formula = Formula.atom (get_or ks at 0);
+        spelling_is = spelled_at ks at h ∙ with-name (get_or ks at 0) _ l;
+        depth_is = refl;
+        over-is = lt-ltb (get_or ks at 0) n q;
+      };
+    }
 
-    pub outside_measured : get_or ks at 0 < 64 → n ≤ get_or ks at 0 → Measured n ks at 17 at
-    outside_measured l q =
-        measured_none (omega arith) (rw (spelled_at ks at h) (shallow-outside n (get_or ks at 0) _ l q))
+    pub outside_unmeasured : get_or ks at 0 < 64 → n ≤ get_or ks at 0 → Unmeasured n ks at
+    outside_unmeasured l q = rw (spelled_at ks at h) (shallow-outside n (get_or ks at 0) _ l q)
+
+    pub operand_unmeasured : 64 ≤ get_or ks at 0 → Unmeasured n ks (at + 1) → Unmeasured n ks at
+    operand_unmeasured l r = rw (spelled_at ks at h) (shallow-operand n (get_or ks at 0) _ l r)
+
+  -- no node stands there
+  pub node_unmeasured : (at < length ks → 68 < get_or ks at 0) → Unmeasured n ks at
+  node_unmeasured h =
+      ⊎_elim (λ (l : at < length ks). high_unmeasured l (h l)) end_unmeasured (lt-or-le at (length ks))
 
   module _ (d m : ℕ) (h : at < length ks) (r : Measured n ks (at + 1) d m) where
-    pub operand_measured : 64 ≤ get_or ks at 0 → 16 < d → Measured n ks at 17 at
-    operand_measured l q =
-        measured_none (omega arith) (rw (spelled_at ks at h) (shallow-operand n (get_or ks at 0) _ l (r.fails q)))
+    -- the negation of the formula read
+    module _ (l : get_or ks at 0 ≡ 64) where
+      not_read : spelled (drop at ks) ≡ with_first (Formula.negation r.reads.formula) (spelled (drop m ks))
+      not_read =
+          spelled_at ks at h ∙ rw (l, r.reads.spelling_is) (with-not r.reads.formula (spelled (drop m ks)))
 
-    pub not_measured : get_or ks at 0 ≡ 64 → d ≤ 16 → Measured n ks at (d + 1) m
-    unfolding depth over
-    not_measured l q =
-        let i = r.reads q in
-        measured_as (d + 1) m (Formula.negation i.formula) (omega arith) (omega arith)
-        (spelled_at ks at h ∙ rw (l, i.spelling_is) (with-not i.formula (spelled (drop m ks))))
-        (omega (arith, i.depth_is)) i.over-is
+      pub not_measured : d < 16 → Measured n ks at (d + 1) m
+      unfolding depth over
+      not_measured q = record {
+        onward = omega arith;
+        within = omega arith;
+        few = omega arith;
+        reads = record {
+          formula = Formula.negation r.reads.formula;
+          spelling_is = not_read;
+          depth_is = omega (arith, r.reads.depth_is);
+          over-is = r.reads.over-is;
+        };
+      }
 
-    pub second_measured : (e next : ℕ) → 65 ≤ get_or ks at 0 → d ≤ 16 → Measured n ks m e next → 16 < e
-        → Measured n ks at 17 at
-    second_measured e next l q r' q' =
-        let i = r.reads q in
-        let t : Spelling = spelled (drop m ks) in
-        measured_none (omega arith)
-        (rw (spelled_at ks at h)
-        (shallow-second n (get_or ks at 0) _ i.formula t l i.spelling_is (r'.fails q')))
+      pub not_unmeasured : 16 ≤ d → Unmeasured n ks at
+      unfolding depth
+      not_unmeasured q =
+          rw not_read (shallow_deep n (Formula.negation r.reads.formula) _ (omega (arith, r.reads.depth_is)))
 
-    pub form_measured : (e z next : ℕ) → 65 ≤ get_or ks at 0 → get_or ks at 0 ≤ 68 → d ≤ 16 → Measured n ks m e next
-        → e ≤ 16 → z ≡ max d e → Measured n ks at (z + 1) next
-    form_measured e z next l l' q r' q' ez =
-        let i = r.reads q in
-        let j = r'.reads q' in
-        let f : Formula = joined (get_or ks at 0 - 65) i.formula j.formula in
-        measured_as (z + 1) next f (omega arith) (omega arith)
-        (spelled_at ks at h ∙ rw (i.spelling_is, j.spelling_is)
-        (with-form (get_or ks at 0) i.formula j.formula (spelled (drop next ks)) l l'))
-        (omega (arith, joined-depth (get_or ks at 0 - 65) i.formula j.formula, i.depth_is, j.depth_is))
-        (joined-over n (get_or ks at 0 - 65) i.formula j.formula ∙ rw (i.over-is, j.over-is))
+    pub second_unmeasured : 65 ≤ get_or ks at 0 → Unmeasured n ks m → Unmeasured n ks at
+    second_unmeasured l r' =
+        rw (spelled_at ks at h)
+        (shallow-second n (get_or ks at 0) _ r.reads.formula (spelled (drop m ks)) l r.reads.spelling_is r')
+
+    -- the form of the two formulas read
+    module _ (e next p : ℕ) (l : get_or ks at 0 ≡ 65 + p) (l' : p ≤ 3) (r' : Measured n ks m e next) where
+      abbrev form_read : Formula
+      form_read = joined p r.reads.formula r'.reads.formula
+
+      form_depth : depth form_read ≡ 1 + max d e
+      form_depth =
+          joined-depth p r.reads.formula r'.reads.formula
+          ∙ rw (r.reads.depth_is, r'.reads.depth_is)
+
+      form_spelled : spelled (drop at ks) ≡ with_first form_read (spelled (drop next ks))
+      form_spelled =
+          let q : get_or ks at 0 - 65 ≡ p = omega arith in
+          spelled_at ks at h
+          ∙ rw (r.reads.spelling_is, r'.reads.spelling_is)
+          (with-form (get_or ks at 0) r.reads.formula r'.reads.formula (spelled (drop next ks)) (omega arith)
+          (omega arith)
+          ∙ rw q)
+
+      pub form_measured : {z : ℕ} → z ≡ max d e → z < 16 → Measured n ks at (z + 1) next
+      form_measured ez q = record {
+        onward = omega arith;
+        within = omega arith;
+        few = omega arith;
+        reads = record {
+          formula = form_read;
+          spelling_is = form_spelled;
+          depth_is = omega (arith, form_depth, ez);
+          over-is = joined-over n p r.reads.formula r'.reads.formula ∙ rw (r.reads.over-is, r'.reads.over-is);
+        };
+      }
+
+      pub form_unmeasured : {z : ℕ} → z ≡ max d e → 16 ≤ z → Unmeasured n ks at
+      form_unmeasured ez q = rw form_spelled (shallow_deep n form_read _ (omega (arith, form_depth, ez)))
 
 -- The ways out of `one_formula`
 
@@ -153,30 +201,25 @@ single_more n f Spelling.none h = refl
 single_more n f (Spelling.formulas []) h = absurd (h refl)
 single_more n f (Spelling.formulas (g ∷ gs)) h = refl
 
-no_front : (k : ℕ) (s : Spelling) → Front k s [] → ⊥
-no_front k s (Front.of_name gs h es ef) = let z : ◌≡◌ {A = ℕ} 0 1 = cc in omega arith
-no_front k s (Front.of_not g gs h es ef) = let z : ◌≡◌ {A = ℕ} 0 1 = cc in omega arith
-no_front k s (Front.of_form g g' gs lo hi es ef) = let z : ◌≡◌ {A = ℕ} 0 1 = cc in omega arith
-
 -- some nodes are at least one formula, or spell none
 some-spelled : (ks : List ℕ) → 0 < length ks → spelled ks ≡ Spelling.formulas [] → ⊥
 unfolding spelled
 some-spelled [] h e = omega arith
 some-spelled (k ∷ ks) h e = no_front k (spelled ks) (front k (spelled ks) [] e)
 
-module _ (n : ℕ) (ks : List ℕ) (d next : ℕ) (r : Measured n ks 0 d next) where
-  pub deep_none : 16 < d → false ≡ one_formula n ks
-  unfolding one_formula
-  deep_none q = sym (single_deep n (spelled ks) (r.fails q))
+pub unmeasured_none : (n : ℕ) (ks : List ℕ) → Unmeasured n ks 0 → false ≡ one_formula n ks
+unfolding one_formula
+unmeasured_none n ks e = sym (single_deep n (spelled ks) e)
 
-  pub whole_one : d ≤ 16 → eqb next (length ks) ≡ one_formula n ks
-  unfolding one_formula
-  whole_one q = go (eqb next (length ks)) refl (r.reads q)
-    where
-      go : (a : Bool) → eqb next (length ks) ≡ a → ReadsFormula n (spelled ks) d (spelled (drop next ks))
-          → a ≡ single n (spelled ks)
-      go true ea i =
-          let s = spelled-end ks next (omega (arith, eqb-true next (length ks) ea)) in
-          sym (rw (i.spelling_is, s, i.over-is) (le-leb (depth i.formula) 16 (omega (arith, i.depth_is))))
-      go false ea i = sym (rw i.spelling_is (single_more n i.formula (spelled (drop next ks))
-          (some-spelled (drop next ks) (rw length-drop (omega (arith, eqb-false next (length ks) ea))))))
+pub whole_one : (n : ℕ) (ks : List ℕ) (d next : ℕ) → Measured n ks 0 d next → eqb next (length ks) ≡ one_formula n ks
+unfolding one_formula
+whole_one n ks d next r = go (eqb next (length ks)) refl r.reads
+  where
+    go : (a : Bool) → eqb next (length ks) ≡ a → ReadsFormula n (spelled ks) d (spelled (drop next ks))
+        → a ≡ single n (spelled ks)
+    go true ea i =
+        let s = spelled-end ks next (omega (arith, eqb-true next (length ks) ea)) in
+        let q = r.few in
+        sym (rw (i.spelling_is, s, i.over-is) (le-leb (depth i.formula) 16 (omega (arith, i.depth_is))))
+    go false ea i = sym (rw i.spelling_is (single_more n i.formula (spelled (drop next ks))
+        (some-spelled (drop next ks) (rw length-drop (omega (arith, eqb-false next (length ks) ea))))))

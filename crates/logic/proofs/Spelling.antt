@@ -95,6 +95,31 @@ high_inv h (Front.of_name gs q es ef) = omega arith
 high_inv h (Front.of_not g gs q es ef) = omega arith
 high_inv h (Front.of_form g g' gs lo hi es ef) = omega arith
 
+-- No first formula
+
+pub high_none : (k : ℕ) (s : Spelling) {fs : List Formula} → 68 < k → with_node k s ≡ Spelling.formulas fs → ⊥
+high_none k s {fs} h e = high_inv h (front k s fs e)
+
+pub operand_none : (k : ℕ) (s : Spelling) {fs : List Formula} → 64 ≤ k
+    → ((f : Formula) (fs : List Formula) → s ≡ Spelling.formulas (f ∷ fs) → ⊥)
+    → with_node k s ≡ Spelling.formulas fs → ⊥
+operand_none k s {fs} h r e = go (front k s fs e)
+  where
+    go : Front k s fs → ⊥
+    go (Front.of_name gs q es ef) = omega arith
+    go (Front.of_not g gs q es ef) = r g gs es
+    go (Front.of_form g g' gs lo hi es ef) = r g (g' ∷ gs) es
+
+pub second_none : (v : ℕ → Value) (k : ℕ) (s : Spelling) (x : Value) (t : Spelling) {fs : List Formula} → 65 ≤ k
+    → ReadsValue v s x t → ((f : Formula) (fs : List Formula) → t ≡ Spelling.formulas (f ∷ fs) → ⊥)
+    → with_node k s ≡ Spelling.formulas fs → ⊥
+second_none v k s x t {fs} h r o e = go (front k s fs e)
+  where
+    go : Front k s fs → ⊥
+    go (Front.of_name gs q es ef) = omega arith
+    go (Front.of_not g gs q es ef) = omega arith
+    go (Front.of_form g g' gs lo hi es ef) = o g' gs (r.rest-is g (g' ∷ gs) es)
+
 -- The value of the first formula
 
 module _ (v : ℕ → Value) (k : ℕ) (s : Spelling) where
@@ -103,12 +128,6 @@ module _ (v : ℕ → Value) (k : ℕ) (s : Spelling) where
   name-value x h ex = record {
     value-is = λ f fs e. ex ∙ ap (value_of v) (sym (name_inv h (front k s (f ∷ fs) e)).0);
     rest-is = λ f fs e. (name_inv h (front k s (f ∷ fs) e)).1;
-  }
-
-  pub high_value : (x : Value) (t : Spelling) → 68 < k → ReadsValue v (with_node k s) x t
-  high_value x t h = record {
-    value-is = λ f fs e. absurd (high_inv h (front k s (f ∷ fs) e));
-    rest-is = λ f fs e. absurd (high_inv h (front k s (f ∷ fs) e));
   }
 
   pub not-value : (x y : Value) (t : Spelling) → k ≡ 64 → ReadsValue v s x t → y ≡ negated x

@@ -2,10 +2,12 @@
 --
 --   ReadsValue v s x t          the first formula of the spelling s, if there is one, is worth x, and t is the rest
 --   Evaluated v ks at x next    so of the formulas from place at of the nodes, and of those from place next
+--   Unread ks at                no formula stands at place at of the nodes
 --   shallow n s                 s has a first formula, over the atoms below n and of depth at most 16
 --   ReadsFormula n s d t        s is a formula of depth d over the atoms below n in front of the rest t
---   Measured n ks at d next     so from the places at and next of the nodes, or d is above 16 and no such formula there
-use Rattle.std.specs.Prelude.{◌≡◌, Bool, true, false, ◌&&◌, List, [], ◌∷◌, ℕ, ◌≤◌, ◌<◌, leb, length, drop}
+--   Measured n ks at d next     so from the places at and next of the nodes, and d is at most 16
+--   Unmeasured n ks at          no such formula stands at place at of the nodes
+use Rattle.std.specs.Prelude.{◌≡◌, Bool, true, false, ◌&&◌, List, [], ◌∷◌, ℕ, ◌≤◌, leb, length, drop}
 use Rattle.logic.specs.declared.value.Value.{Value}
 use Rattle.logic.specs.Formula.{Formula, value_of, depth, over}
 use Rattle.logic.specs.Nodes.{Spelling, spelled}
@@ -18,6 +20,9 @@ pub record Evaluated (v : ℕ → Value) (ks : List ℕ) (at : ℕ) (x : Value) 
   pub onward : at ≤ next
   pub within : next ≤ length ks
   pub reads : ReadsValue v (spelled (drop at ks)) x (spelled (drop next ks))
+
+abbrev pub Unread : List ℕ → ℕ → Type 0
+Unread ks at = (f : Formula) (fs : List Formula) → spelled (drop at ks) ≡ Spelling.formulas (f ∷ fs) → ⊥
 
 abbrev pub shallow : ℕ → Spelling → Bool
 shallow n Spelling.none = false
@@ -38,5 +43,8 @@ pub record ReadsFormula (n : ℕ) (s : Spelling) (d : ℕ) (t : Spelling) : Type
 pub record Measured (n : ℕ) (ks : List ℕ) (at d next : ℕ) : Type 0 where
   pub onward : at ≤ next
   pub within : next ≤ length ks
-  pub reads : d ≤ 16 → ReadsFormula n (spelled (drop at ks)) d (spelled (drop next ks))
-  pub fails : 16 < d → shallow n (spelled (drop at ks)) ≡ false
+  pub few : d ≤ 16
+  pub reads : ReadsFormula n (spelled (drop at ks)) d (spelled (drop next ks))
+
+abbrev pub Unmeasured : ℕ → List ℕ → ℕ → Type 0
+Unmeasured n ks at = shallow n (spelled (drop at ks)) ≡ false

@@ -9,6 +9,7 @@ ghost use Rattle.logic.specs.Assigned.{assigned};
 use crate::value::Value;
 
 // Bit i of trues: atom i is true; bit i of falses: it is false. Never both.
+// No ghost field says so: any two words make an interpretation, and its methods ask for it where they need it.
 #[derive(Clone, Copy)]
 pub struct Interpretation {
     pub trues: u64,
@@ -32,12 +33,12 @@ impl Interpretation {
         ensures { result ≡ value_at self atom }
     {
         if words::test(self.trues, atom) {
-            return Value::True;
+            Value::True
+        } else if words::test(self.falses, atom) {
+            Value::False
+        } else {
+            Value::Unknown
         }
-        if words::test(self.falses, atom) {
-            return Value::False;
-        }
-        Value::Unknown
     }
 
     // Whether a literal, an atom or its negation, is true.
@@ -46,9 +47,10 @@ impl Interpretation {
         ensures { result ≡ is_true (value_of (value_at self) (literal negated atom)) }
     {
         if negated {
-            return words::test(self.falses, atom);
+            words::test(self.falses, atom)
+        } else {
+            words::test(self.trues, atom)
         }
-        words::test(self.trues, atom)
     }
 
     // The value of a body by the masks of its plain and its negated atoms.
@@ -57,14 +59,14 @@ impl Interpretation {
         ensures { result ≡ value_of (value_at self) (body plain negated) }
     {
         let against = (plain & self.falses) | (negated & self.trues);
-        if against != 0 {
-            return Value::False;
-        }
         let missing = (plain & !self.trues) | (negated & !self.falses);
-        if missing == 0 {
-            return Value::True;
+        if against != 0 {
+            Value::False
+        } else if missing == 0 {
+            Value::True
+        } else {
+            Value::Unknown
         }
-        Value::Unknown
     }
 
     // The interpretation in which an atom has the value v, and every other the value it had.
@@ -72,20 +74,9 @@ impl Interpretation {
         requires { (atom < 64) × Disjoint self }
         ensures { result ≡ of_values (assigned (value_at self) atom v) }
     {
-        let bit = words::single(atom);
-        match v {
-            Value::True => Interpretation {
-                trues: self.trues | bit,
-                falses: self.falses & !bit,
-            },
-            Value::False => Interpretation {
-                trues: self.trues & !bit,
-                falses: self.falses | bit,
-            },
-            Value::Unknown => Interpretation {
-                trues: self.trues & !bit,
-                falses: self.falses & !bit,
-            },
+        Interpretation {
+            trues: words::with_bit(words::without(self.trues, atom), v.is_true(), atom),
+            falses: words::with_bit(words::without(self.falses, atom), v.is_false(), atom),
         }
     }
 
@@ -94,16 +85,7 @@ impl Interpretation {
         requires { (atom < 64) × Disjoint self }
         ensures { result ≡ of_values (assigned (value_at self) atom (greater (value_at self atom) v)) }
     {
-        match v {
-            Value::True => self.decide(atom, Value::True),
-            Value::Unknown => {
-                if self.holds(atom, false) {
-                    return self;
-                }
-                self.decide(atom, Value::Unknown)
-            }
-            Value::False => self,
-        }
+        self.decide(atom, self.value(atom).or(v))
     }
 
     // The number of decided atoms.

@@ -1,9 +1,9 @@
 // Truth values and the connectives on them.
 ghost use Rattle.std.specs.Prelude.{◌≡◌};
-ghost use Rattle.logic.specs.Value.{rank, is_true, negated, lesser, greater, implies, equivalent};
+ghost use Rattle.logic.specs.Value.{rank, is_true, is_false, negated, lesser, greater, implies, equivalent};
 
 // A truth value, in rising order.
-#[derive(Clone, Copy)]
+#[derive(Clone, Copy, PartialEq, Eq, PartialOrd, Ord)]
 pub enum Value {
     False,
     Unknown,
@@ -22,21 +22,19 @@ impl Value {
     pub fn rank(self) -> usize
         ensures { result ≡ rank self }
     {
-        match self {
-            Value::False => 0,
-            Value::Unknown => 1,
-            Value::True => 2,
-        }
+        self as usize
     }
 
     pub fn is_true(self) -> bool
         ensures { result ≡ is_true self }
     {
-        match self {
-            Value::False => false,
-            Value::Unknown => false,
-            Value::True => true,
-        }
+        self == Value::True
+    }
+
+    pub fn is_false(self) -> bool
+        ensures { result ≡ is_false self }
+    {
+        self == Value::False
     }
 
     pub fn not(self) -> Value
@@ -52,37 +50,19 @@ impl Value {
     pub fn and(self, other: Value) -> Value
         ensures { result ≡ lesser self other }
     {
-        match self {
-            Value::False => Value::False,
-            Value::Unknown => match other {
-                Value::False => Value::False,
-                Value::Unknown => Value::Unknown,
-                Value::True => Value::Unknown,
-            },
-            Value::True => other,
-        }
+        self.min(other)
     }
 
     pub fn or(self, other: Value) -> Value
         ensures { result ≡ greater self other }
     {
-        match self {
-            Value::False => other,
-            Value::Unknown => match other {
-                Value::False => Value::Unknown,
-                Value::Unknown => Value::Unknown,
-                Value::True => Value::True,
-            },
-            Value::True => Value::True,
-        }
+        self.max(other)
     }
 
     pub fn then(self, other: Value) -> Value
         ensures { result ≡ implies self other }
     {
-        let row = self.rank();
-        let column = other.rank();
-        THEN[row][column]
+        THEN[self.rank()][other.rank()]
     }
 
     pub fn same(self, other: Value) -> Value

@@ -18,7 +18,7 @@ use Rattle.cost.specs.Cost.{cost_of}
 use Rattle.cost.specs.Cheapest.{cheaper, cheapest_of, lowest_cost}
 use Rattle.explanation.specs.Explanation.{observed_true, all_met, explains_under, set_explains}
 use Rattle.explanation.specs.Subset.{subset_of, proper_of, some_proper, minimal}
-use Rattle.verdict.specs.Walk.{minimals_below, true_in_all, false_in_all, verdict_of, verdicts_of}
+use Rattle.verdict.specs.Walk.{minimals_below, passes_in_all, verdict_of, verdicts_of}
 use Rattle.text.specs.Bytes.{is_word_byte, is_allowed, all_of, same_bytes}
 use Rattle.text.specs.Lines.{lines_from, is_comment}
 use Rattle.text.specs.Tokens.{tokens_from}
@@ -49,7 +49,7 @@ unfolding ones ones_in has word value_of literals_below nodes with_node spelled 
     added_below heads_of causes_among assumed_only causes_in causes_of atoms_from choices_for product digits
     digit_of settings_of additions_of few_settings bodies_of some_true all_false next_value step rounds round_count
     settled observed_true all_met explains_under set_explains subset_of proper_of some_proper minimal minimals_below
-    sum true_in_all false_in_all verdict_of verdicts_of list_of nodes_of is_word_byte is_allowed all_of same_bytes
+    sum passes_in_all verdict_of verdicts_of list_of nodes_of is_word_byte is_allowed all_of same_bytes
     lines_from is_comment tokens_from padded names_from some_long place_of with_name with_names rows_of node_of
     begins_with_letter depth_of with_form items_of literals_of line_of some_on atoms_by encoded_by said_by
     look_refusal form_refusal line_refusal said_after clause_words ending read_lines read_file constraint_words
@@ -65,7 +65,7 @@ unfolding ones ones_in has word value_of literals_below nodes with_node spelled 
     added_below heads_of causes_among assumed_only causes_in causes_of atoms_from choices_for product digits
     digit_of settings_of additions_of few_settings bodies_of some_true all_false next_value step rounds round_count
     settled observed_true all_met explains_under set_explains subset_of proper_of some_proper minimal minimals_below
-    sum true_in_all false_in_all verdict_of verdicts_of list_of nodes_of is_word_byte is_allowed all_of same_bytes
+    sum passes_in_all verdict_of verdicts_of list_of nodes_of is_word_byte is_allowed all_of same_bytes
     lines_from is_comment tokens_from padded names_from some_long place_of with_name with_names rows_of node_of
     begins_with_letter depth_of with_form items_of literals_of line_of some_on atoms_by encoded_by said_by
     look_refusal form_refusal line_refusal said_after clause_words ending read_lines read_file constraint_words
@@ -81,7 +81,7 @@ unfolding ones ones_in has word value_of literals_below nodes with_node spelled 
     added_below heads_of causes_among assumed_only causes_in causes_of atoms_from choices_for product digits
     digit_of settings_of additions_of few_settings bodies_of some_true all_false next_value step rounds round_count
     settled observed_true all_met explains_under set_explains subset_of proper_of some_proper minimal minimals_below
-    sum true_in_all false_in_all verdict_of verdicts_of list_of nodes_of is_word_byte is_allowed all_of same_bytes
+    sum passes_in_all verdict_of verdicts_of list_of nodes_of is_word_byte is_allowed all_of same_bytes
     lines_from is_comment tokens_from padded names_from some_long place_of with_name with_names rows_of node_of
     begins_with_letter depth_of with_form items_of literals_of line_of some_on atoms_by encoded_by said_by
     look_refusal form_refusal line_refusal said_after clause_words ending read_lines read_file constraint_words

@@ -1,65 +1,44 @@
 -- Laws of a word compared with an entry: by its tests, and the outcome `Same` for what a row can hold of a word.
 --
 --   is_same c   the outcome c is `Same`
---   NotSame c   it is one of the two others
 -- Assumes nothing.
 use mathlib.Core.Path.{◌≡◌, refl, sym, ap, ap₂, ◌∙◌}
 use mathlib.Core.Bool.{Bool, true, false, not, ◌&&◌, and_self}
 use mathlib.Core.List.{List, [], ◌∷◌}
-use mathlib.Core.Logic.{⊎_elim}
-use Prim.Native.Nat.{ℕ, zero, suc, ◌+◌, ◌*◌, ◌-◌, ◌≤◌, ◌<◌, min}
-use native.Mathlib.Nat.{add-zero}
+use Prim.Native.Nat.{ℕ, zero, suc, ◌+◌, ◌*◌, ◌-◌, ◌≤◌, ◌<◌}
 use native.Mathlib.Omega.{arith}
 use lib.Dec.{eqb}
-use lib.ListN.{length, get_or, take, drop, length-take}
-use lib.Seq.{slice, slice_empty, length-slice, take-take, take_all}
-use denote.Enum.Declared.{tag_of}
-use types.Run.{OneOf, miss}
+use lib.ListN.{length, get_or, get_or-eq_default, take, drop, length-take}
 use borrow.Author.Tests.{eq-eqb, ne_eqb}
 use Rattle.words.specs.Choice.{pick}
-use Rattle.words.proofs.Tests.{lt-or-le, by_test, failed, passed}
+use Rattle.words.proofs.Tests.{by_test, failed, passed}
 use Rattle.text.specs.Bytes.{same_bytes}
 use Rattle.text.proofs.Same.{same-eq}
-use Rattle.text.proofs.Slices.{slice_take}
+use Rattle.text.proofs.Slices.{part_slice}
 use Rattle.table.specs.Filled.{padded}
 use Rattle.table.proofs.Filled.{padded-at}
-use Rattle.table.proofs.Stores.{slice_at}
 use Rattle.names.specs.declared.compare.Compared.{Compared}
 use Rattle.names.specs.declared.compare.Compared.TheVariants.{EndsDiffer, Another, Same}
 use Rattle.names.specs.Row.{row_at}
 use Rattle.names.specs.Compared.{last_place, agree_at, ends_agree, compared_as}
-use Rattle.names.specs.contracts.compare.Compared.{the_type}
 
-slice_first : (l : List ℕ) (a e : ℕ) → a < e → get_or l a 0 ≡ get_or (slice a e l) 0 0
-slice_first l a e h = ap (λ (j : ℕ). get_or l j 0) (sym (add-zero a)) ∙ slice_at l a e 0 (omega arith)
+pub row_part : (t : List ℕ) (i : ℕ) → take ((i * 16 + 16) - i * 16) (drop (i * 16) t) ≡ row_at t i
+row_part t i = part_slice t (i * 16) (i * 16 + 16) (omega arith)
 
--- ends_agree of row i of t and the part of l from a to e, by bytes of the two
-module _ (t : List ℕ) (i : ℕ) (l : List ℕ) (a e : ℕ) where
-  row_first : get_or t (i * 16) 0 ≡ get_or (row_at t i) 0 0
-  row_first = slice_first t (i * 16) (i * 16 + 16) (omega arith)
-
-  pub ends-none : a ≤ e → e ≤ a → eqb (get_or t (i * 16) 0) 0 ≡ ends_agree (row_at t i) (slice a e l)
+-- ends_agree of a row and the word w, by bytes of the two
+module _ (row w : List ℕ) where
+  pub ends-none : length w ≡ 0 → eqb (get_or row 0 0) 0 ≡ ends_agree row w
   unfolding ends_agree
-  ends-none h k =
-      let q : a ≡ e = omega arith in
-      rw (q, slice_empty, ← row_first) (sym (and_self (eqb (get_or t (i * 16) 0) 0)))
+  ends-none h = let z : get_or w 0 0 ≡ 0 = get_or-eq_default w 0 (omega arith) in rw (h, z) (sym (and_self _))
 
-  module _ (h : a < e) where
-    first-is : eqb (get_or t (i * 16) 0) (get_or l a 0) ≡ agree_at (row_at t i) (slice a e l) 0
-    first-is = ap₂ eqb row_first (slice_first l a e h)
+  pub ends-first : (get_or row 0 0 ≡ get_or w 0 0 → ⊥) → eqb (get_or row 0 0) (get_or w 0 0) ≡ ends_agree row w
+  unfolding ends_agree
+  ends-first f = rw (ne_eqb _ _ f)
 
-    pub ends-first : (get_or t (i * 16) 0 ≡ get_or l a 0 → ⊥)
-        → eqb (get_or t (i * 16) 0) (get_or l a 0) ≡ ends_agree (row_at t i) (slice a e l)
-    unfolding ends_agree
-    ends-first f = rw (← first-is, ne_eqb _ _ f)
-
-    pub ends_last : {x : ℕ} → e ≤ length l → get_or t (i * 16) 0 ≡ get_or l a 0
-        → x ≡ get_or (row_at t i) ((e - a) - 1) 0
-        → eqb x (get_or l (a + ((e - a) - 1)) 0) ≡ ends_agree (row_at t i) (slice a e l)
-    unfolding ends_agree
-    ends_last k f q =
-        rw (← first-is, eq-eqb _ _ f, length-slice a e l k)
-        (ap₂ eqb q (slice_at l a e ((e - a) - 1) (omega arith)))
+  pub ends_last : {x : ℕ} → get_or row 0 0 ≡ get_or w 0 0 → x ≡ get_or row (length w - 1) 0
+      → eqb x (get_or w (length w - 1) 0) ≡ ends_agree row w
+  unfolding ends_agree
+  ends_last f q = rw (eq-eqb _ _ f, q)
 
 -- compared_as, from the tests r of the ends and s of all bytes
 module _ {r : Bool} (row w : List ℕ) (e : r ≡ ends_agree row w) where
@@ -84,20 +63,6 @@ padded-take zero w = refl
 padded-take (suc n) [] = refl
 padded-take (suc n) (b ∷ w) = ap (λ (l : List ℕ). b ∷ l) (padded-take n w)
 
-pub slice_front : (a e n : ℕ) (l : List ℕ) → slice a (min (a + n) e) l ≡ take n (slice a e l)
-slice_front a e n l = ap (drop a) cut ∙ slice_take a n (take e l)
-  where
-    within : a + n < e → take (min (a + n) e) l ≡ take (a + n) (take e l)
-    within h = let q : min (a + n) e ≡ a + n = omega arith in rw q (sym (take-take (a + n) e l (omega arith)))
-
-    past : e ≤ a + n → take (min (a + n) e) l ≡ take (a + n) (take e l)
-    past h =
-        let q : min (a + n) e ≡ e = omega arith in
-        rw q (sym (take_all (a + n) (take e l) (omega (arith, length-take e l))))
-
-    cut : take (min (a + n) e) l ≡ take (a + n) (take e l)
-    cut = ⊎_elim within past (lt-or-le (a + n) e)
-
 -- is_same
 
 pub is_same : Compared → Bool
@@ -105,14 +70,11 @@ is_same EndsDiffer = false
 is_same Another = false
 is_same Same = true
 
-abbrev pub NotSame : Compared → Type 0
-NotSame c = OneOf (0 ∷ (1 ∷ [])) (tag_of the_type c)
-
-pub not_same : (c : Compared) → NotSame c → is_same c ≡ false
+pub not_same : (c : Compared) → (c ≡ Same → ⊥) → is_same c ≡ false
 unfolding is_same
 not_same EndsDiffer h = refl
 not_same Another h = refl
-not_same Same h = absurd (miss (0 ∷ (1 ∷ [])) 2 tt h)
+not_same Same h = absurd (h refl)
 
 pub is_same_lem : (c : Compared) → c ≡ Same → is_same c ≡ true
 unfolding is_same

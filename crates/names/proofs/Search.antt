@@ -1,14 +1,17 @@
 -- The search for the row of a name: a row's bytes one after the other, and the rows, each compared with what a row can
 -- hold of it.
 -- Assumes nothing.
-use mathlib.Core.Path.{◌≡◌, sym, ◌∙◌}
+use mathlib.Core.Path.{◌≡◌, refl, sym, ◌∙◌}
 use mathlib.Core.Bool.{Bool, true, false}
 use mathlib.Core.List.{List}
+use mathlib.Core.Logic.{⊎_elim}
 use Prim.Native.Nat.{ℕ, ◌+◌, ◌*◌, ◌-◌, ◌≤◌, ◌<◌, min}
 use native.Mathlib.Nat.{sub-zero}
 use native.Mathlib.Omega.{arith}
-use lib.ListN.{length, get_or}
-use lib.Seq.{slice}
+use lib.ListN.{length, get_or, take}
+use Rattle.std.specs.Prelude.{Option, None, Some, unwrap_or, IfSome, is_some}
+use lib.Seq.{take_all}
+use Rattle.words.proofs.Tests.{lt-or-le}
 use Rattle.words.specs.Below.{first_from}
 use Rattle.words.proofs.Below.{first-le, first_stops, first_more, first_ends}
 use Rattle.program.specs.Case.{name_size}
@@ -20,7 +23,7 @@ use Rattle.names.specs.declared.compare.Compared.{Compared}
 use Rattle.names.specs.declared.compare.Compared.TheVariants.{Same}
 use Rattle.names.specs.Row.{row_at, row_of}
 use Rattle.names.specs.Compared.{compared_as}
-use Rattle.names.proofs.Compared.{is_same, NotSame, is_same_lem, not_same, slice_front, front_compared}
+use Rattle.names.proofs.Compared.{is_same, is_same_lem, not_same, front_compared}
 
 -- row i of t is w if what is left of it from its byte j on is
 pub record RowFrom (t : List ℕ) (i : ℕ) (w : List ℕ) (j : ℕ) : Type 0 where
@@ -76,14 +79,34 @@ module _ {t : List ℕ} {n : ℕ} {w : List ℕ} {i : ℕ} (h : Searched t n w i
       let k = h.within in
       omega arith
 
--- row i is compared with the part of l from a to end, what a row can hold of that from a to e, and c is the outcome
-module _ {t : List ℕ} {n : ℕ} (l : List ℕ) (a e : ℕ) {end i : ℕ} {c : Compared} (h : Searched t n (slice a e l) i)
-    (k : i < n) (q : end ≡ min (a + 16) e) (m : c ≡ compared_as (row_at t i) (slice a end l)) where
-  outcome-is : is_same c ≡ same_bytes (row_at t i) (padded 16 (slice a e l))
-  outcome-is = rw (m, q, slice_front a e 16 l) (front_compared (row_at t i) (slice a e l))
+-- row i is compared with what a row can hold of w, and c is the outcome
+module _ {t w front : List ℕ} {n i : ℕ} {c : Compared} (h : Searched t n w i) (k : i < n)
+    (q : front ≡ take 16 w) (m : c ≡ compared_as (row_at t i) front) where
+  outcome-is : is_same c ≡ same_bytes (row_at t i) (padded 16 w)
+  outcome-is = rw (m, q) (front_compared (row_at t i) w)
 
-  pub compared_here : c ≡ Same → i ≡ row_of t n (slice a e l)
+  pub compared_here : c ≡ Same → i ≡ row_of t n w
   compared_here s = searched_here h k outcome-is (is_same_lem c s)
 
-  pub compared_more : NotSame c → Searched t n (slice a e l) (i + 1)
+  pub compared_more : (c ≡ Same → ⊥) → Searched t n w (i + 1)
   compared_more s = searched_more h k outcome-is (not_same c s)
+
+-- what a row can hold of w, by how long it is
+pub front_is : (w : List ℕ) {n : ℕ} → n ≡ min (length w) 16 → take n w ≡ take 16 w
+front_is w {n} e = ⊎_elim short long (lt-or-le (length w) 16)
+  where
+    short : length w < 16 → take n w ≡ take 16 w
+    short h = rw (take_all n w (omega arith), take_all 16 w (omega arith)) refl
+
+    long : 16 ≤ length w → take n w ≡ take 16 w
+    long h = let q : n ≡ 16 = omega arith in rw q refl
+
+-- r is the row k of the n rows that was found, or none
+
+pub found_some : (r : Option ℕ) {n k : ℕ} → unwrap_or r n ≡ k → IfSome r (λ i. i < n) → is_some r ≡ true → k < n
+found_some None e h t = cc
+found_some (Some i) e h t = omega arith
+
+pub found_none : (r : Option ℕ) {n k : ℕ} → unwrap_or r n ≡ k → is_some r ≡ false → n ≤ k
+found_none None e t = omega arith
+found_none (Some i) e t = cc

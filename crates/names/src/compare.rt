@@ -1,6 +1,5 @@
 // A word compared with an entry of the names table.
 ghost use Rattle.std.specs.Prelude.{◌≡◌, ◌≤◌, ◌<◌, length};
-ghost use Rattle.std.proofs.Math.Seq.{slice};
 ghost use Rattle.program.specs.Case.{name_size};
 ghost use Rattle.names.specs.Row.{row_at};
 ghost use Rattle.names.specs.Compared.{ends_agree, compared_as};
@@ -9,36 +8,35 @@ use crate::row_is;
 
 // How a word compares with an entry: its first or last byte differs from the entry's at that place, these agree but the
 // entry is another name, or the entry is the word.
-#[derive(Clone, Copy)]
+#[derive(Clone, Copy, PartialEq, Eq)]
 pub enum Compared {
     EndsDiffer,
     Another,
     Same,
 }
 
-// Whether row i has the first and the last byte of the part of l from a to e at their places; of an empty part both
-// are 0.
-fn ends_agree(names: &[u8], i: usize, l: &[u8], a: usize, e: usize) -> bool
-    requires { (i < 64) × (name_size ≤ length names.now) × (a ≤ e) × (e ≤ length l.now) }
-    ensures { result ≡ ends_agree (row_at names.now i) (slice a e l.now) }
+// Whether row i has the first and the last byte of the word w at their places; of an empty word both are 0.
+fn ends_agree(names: &[u8], i: usize, w: &[u8]) -> bool
+    requires { (i < 64) × (name_size ≤ length names.now) }
+    ensures { result ≡ ends_agree (row_at names.now i) w.now }
 {
-    let row = i * 16;
-    if a < e {
-        let last = e - a - 1;
-        return names[row] == l[a] && table::byte_or_zero(names, row, row + 16, last) == l[a + last];
+    let row = &names[i * 16..i * 16 + 16];
+    match w {
+        [] => row[0] == 0,
+        [first, ..] => row[0] == *first && table::byte_or_zero(row, w.len() - 1) == w[w.len() - 1],
     }
-    names[row] == 0
 }
 
-// How the part of l from a to e compares with row i: its first and last byte are looked at before any other.
-pub fn compare(names: &[u8], i: usize, l: &[u8], a: usize, e: usize) -> Compared
-    requires { (i < 64) × (name_size ≤ length names.now) × (a ≤ e) × (e ≤ length l.now) }
-    ensures { result ≡ compared_as (row_at names.now i) (slice a e l.now) }
+// How the word w compares with row i: its first and last byte are looked at before any other.
+#[tactic(auto, unfolding(crate::specs::Compared::compared_as))]
+pub fn compare(names: &[u8], i: usize, w: &[u8]) -> Compared
+    requires { (i < 64) × (name_size ≤ length names.now) }
+    ensures { result ≡ compared_as (row_at names.now i) w.now }
 {
-    if !ends_agree(names, i, l, a, e) {
+    if !ends_agree(names, i, w) {
         return Compared::EndsDiffer;
     }
-    if row_is(names, i, l, a, e) {
+    if row_is(names, i, w) {
         return Compared::Same;
     }
     Compared::Another

@@ -1,13 +1,67 @@
-// The value and the depth of a formula, read from its nodes.
-ghost use Rattle.std.specs.Prelude.{◌≡◌, true, length};
-ghost use Prim.Native.Nat.{ℕ, ◌-◌, ◌≤◌};
+// Nodes, and the value and the depth of a formula, read from them.
+ghost use Rattle.std.specs.Prelude.{◌≡◌, ℕ, true, ◌≤◌, ◌<◌, MatchOption};
 ghost use Rattle.logic.specs.Formula.{Formula, value_of};
 ghost use Rattle.logic.specs.Nodes.{joined, one_formula, formula_of};
 ghost use Rattle.logic.specs.Interpretation.{value_at};
-ghost use Rattle.logic.specs.Evaluation.{Evaluated, Measured};
+ghost use Rattle.logic.specs.Evaluation.{Evaluated, Unread, Measured, Unmeasured};
+ghost use Rattle.nodes.specs.Node.{place, IsNode, NoNode, NodeAt, IsDeeper};
 
 use logic::interpretation::Interpretation;
 use logic::value::Value;
+
+// A form of two operands.
+#[derive(Clone, Copy)]
+pub enum Form {
+    And,
+    Or,
+    Then,
+    Same,
+}
+
+// A node: an atom, "not" in front of its operand, or a form of two operands in front of them.
+#[derive(Clone, Copy)]
+pub enum Node {
+    Atom(u32),
+    Not,
+    Two(Form),
+}
+
+impl Node {
+    // The node with a number, if there is one; that there is none is no error, so this is no TryFrom.
+    pub fn of(number: u8) -> Option<Node>
+        ensures { MatchOption result (68 < number) (IsNode number) }
+    {
+        match number {
+            0..=63 => Some(Node::Atom(number as u32)),
+            64 => Some(Node::Not),
+            65 => Some(Node::Two(Form::And)),
+            66 => Some(Node::Two(Form::Or)),
+            67 => Some(Node::Two(Form::Then)),
+            68 => Some(Node::Two(Form::Same)),
+            _ => None,
+        }
+    }
+}
+
+// The node at a place, if there is one.
+fn node_at(nodes: &[u8], at: usize) -> Option<Node>
+    ensures { MatchOption result (NoNode nodes.now at) (NodeAt nodes.now at) }
+{
+    Node::of(*nodes.get(at)?)
+}
+
+// What a form gives over its operands' values.
+pub fn form_value(form: Form, left: Value, right: Value) -> Value
+    ensures { (v : ℕ → Value) (f g : Formula) → left ≡ value_of v f → right ≡ value_of v g
+        → result ≡ value_of v (joined (place form) f g) }
+{
+    match form {
+        Form::And => left.and(right),
+        Form::Or => left.or(right),
+        Form::Then => left.then(right),
+        Form::Same => left.same(right),
+    }
+}
 
 // The value of a formula, and the place of the nodes behind it.
 #[derive(Clone, Copy)]
@@ -16,145 +70,92 @@ pub struct Worth {
     pub next: usize,
 }
 
-// What the form with a node 65 to 68 gives over its operands' values.
-pub fn form_value(node: u8, left: Value, right: Value) -> Value
-    requires { (65 ≤ node) × (node ≤ 68) }
-    ensures { (v : ℕ → Value) (f g : Formula) → left ≡ value_of v f → right ≡ value_of v g
-        → result ≡ value_of v (joined (node - 65) f g) }
+// The value of the formula at a place of the nodes, if one stands there.
+fn eval(nodes: &[u8], at: usize, i: Interpretation) -> Option<Worth>
+    ensures { MatchOption result (Unread nodes.now at) (λ w. Evaluated (value_at i) nodes.now at w.value w.next) }
 {
-    if node == 65 {
-        return left.and(right);
-    }
-    if node == 66 {
-        return left.or(right);
-    }
-    if node == 67 {
-        return left.then(right);
-    }
-    left.same(right)
-}
-
-// The value of the formula at a place of the nodes.
-fn eval(nodes: &[u8], at: usize, i: Interpretation) -> Worth
-    requires { at ≤ length nodes.now }
-    ensures { Evaluated (value_at i) nodes.now at result.value result.next }
-{
-    if nodes.len() <= at {
-        return Worth {
-            value: Value::Unknown,
-            next: at,
-        };
-    }
-    let node = nodes[at];
-    if node < 64 {
-        return Worth {
-            value: i.value(node as u32),
+    let node = node_at(nodes, at)?;
+    match node {
+        Node::Atom(atom) => Some(Worth {
+            value: i.value(atom),
             next: at + 1,
-        };
-    }
-    if 68 < node {
-        return Worth {
-            value: Value::Unknown,
-            next: at + 1,
-        };
-    }
-    let a = eval(nodes, at + 1, i);
-    let left = a.value;
-    if node == 64 {
-        return Worth {
-            value: left.not(),
-            next: a.next,
-        };
-    }
-    let b = eval(nodes, a.next, i);
-    let right = b.value;
-    Worth {
-        value: form_value(node, left, right),
-        next: b.next,
+        }),
+        Node::Not => {
+            let a = eval(nodes, at + 1, i)?;
+            Some(Worth {
+                value: a.value.not(),
+                next: a.next,
+            })
+        }
+        Node::Two(form) => {
+            let a = eval(nodes, at + 1, i)?;
+            let b = eval(nodes, a.next, i)?;
+            Some(Worth {
+                value: form_value(form, a.value, b.value),
+                next: b.next,
+            })
+        }
     }
 }
 
-// The value of a formula by its nodes; of a name alone without a call.
+// The value of a formula by its nodes; of a name alone without a call of eval.
 pub fn formula_value(nodes: &[u8], i: Interpretation) -> Value
     ensures { (n : ℕ) → one_formula n nodes.now ≡ true
         → result ≡ value_of (value_at i) (formula_of nodes.now) }
 {
-    if 0 < nodes.len() {
-        let node = nodes[0];
-        if node < 64 {
-            return i.value(node as u32);
-        }
+    if let Some(Node::Atom(atom)) = node_at(nodes, 0) {
+        return i.value(atom);
     }
-    let w = eval(nodes, 0, i);
-    w.value
+    match eval(nodes, 0, i) {
+        Some(w) => w.value,
+        None => Value::Unknown,
+    }
 }
 
-// The depth of a formula, 17 where there is none of depth at most 16, and the place of the nodes behind it.
+// The depth of a formula, and the place of the nodes behind it.
 #[derive(Clone, Copy)]
 pub struct Extent {
     pub depth: u8,
     pub next: usize,
 }
 
-fn greater_of(a: u8, b: u8) -> u8
-    ensures { result ≡ Prim.Native.Nat.max a b }
+// One deeper than the operands, if that is at most 16.
+fn deeper(depth: u8, next: usize) -> Option<Extent>
+    ensures { MatchOption result (16 ≤ depth) (IsDeeper depth next) }
 {
-    if a <= b { b } else { a }
+    if depth < 16 {
+        return Some(Extent {
+            depth: depth + 1,
+            next,
+        });
+    }
+    None
 }
 
-// The depth of the formula at a place of the nodes, over atoms below a number.
-fn measure(nodes: &[u8], at: usize, atoms: usize) -> Extent
-    requires { at ≤ length nodes.now }
-    ensures { Measured atoms nodes.now at result.depth result.next }
+// The depth of the formula at a place of the nodes, if one of depth at most 16 over atoms below a number stands there.
+fn measure(nodes: &[u8], at: usize, atoms: usize) -> Option<Extent>
+    ensures { MatchOption result (Unmeasured atoms nodes.now at) (λ e. Measured atoms nodes.now at e.depth e.next) }
 {
-    if nodes.len() <= at {
-        return Extent {
-            depth: 17,
-            next: at,
-        };
-    }
-    let node = nodes[at];
-    if 68 < node {
-        return Extent {
-            depth: 17,
-            next: at,
-        };
-    }
-    if node < 64 {
-        if (node as usize) < atoms {
-            return Extent {
+    let node = node_at(nodes, at)?;
+    match node {
+        Node::Atom(atom) => {
+            if atoms <= atom as usize {
+                return None;
+            }
+            Some(Extent {
                 depth: 1,
                 next: at + 1,
-            };
+            })
         }
-        return Extent {
-            depth: 17,
-            next: at,
-        };
-    }
-    let a = measure(nodes, at + 1, atoms);
-    if 16 < a.depth {
-        return Extent {
-            depth: 17,
-            next: at,
-        };
-    }
-    if node == 64 {
-        return Extent {
-            depth: a.depth + 1,
-            next: a.next,
-        };
-    }
-    let b = measure(nodes, a.next, atoms);
-    if 16 < b.depth {
-        return Extent {
-            depth: 17,
-            next: at,
-        };
-    }
-    Extent {
-        depth: greater_of(a.depth, b.depth) + 1,
-        next: b.next,
+        Node::Not => {
+            let a = measure(nodes, at + 1, atoms)?;
+            deeper(a.depth, a.next)
+        }
+        Node::Two(_) => {
+            let a = measure(nodes, at + 1, atoms)?;
+            let b = measure(nodes, a.next, atoms)?;
+            deeper(a.depth.max(b.depth), b.next)
+        }
     }
 }
 
@@ -162,9 +163,8 @@ fn measure(nodes: &[u8], at: usize, atoms: usize) -> Extent
 pub fn one_formula(nodes: &[u8], atoms: usize) -> bool
     ensures { result ≡ one_formula atoms nodes.now }
 {
-    let e = measure(nodes, 0, atoms);
-    if 16 < e.depth {
-        return false;
+    match measure(nodes, 0, atoms) {
+        Some(e) => e.next == nodes.len(),
+        None => false,
     }
-    e.next == nodes.len()
 }

@@ -4,7 +4,7 @@
 -- FormTexts: forms and lines.
 -- Decimals: numbers in decimal.
 -- Digits: a number that is written in decimal.
--- Names: a name in a row of a names table.
+-- Names: the name in a row of a names table.
 -- Theorems: a proof of each claim.
 pub mod Laying
 pub mod Showing

@@ -2,17 +2,10 @@
 // are counted and not written.
 #![tactic(auto)]
 
-ghost use Rattle.std.specs.Prelude.{[], ◌∷◌, ◌+◌, ◌*◌, ◌≤◌, ◌<◌, length};
+ghost use Rattle.std.specs.Prelude.{◌≡◌, [], ◌∷◌, ◌+◌, ◌*◌, ◌≤◌, ◌<◌, length};
 ghost use Rattle.names.specs.Row.{name_in};
 ghost use Rattle.output.specs.Decimal.{decimal};
 ghost use Rattle.output.specs.Writing.{Writes, Room};
-
-// What an operation that writes a text answers: 0 and the length of the text, or a refusal's number and 0.
-#[derive(Clone, Copy)]
-pub struct Answer {
-    pub refusal: u32,
-    pub length: usize,
-}
 
 // Writes one byte at a place, and answers the place behind it.
 pub fn put(out: &mut [u8], at: usize, b: u8) -> usize
@@ -30,11 +23,9 @@ pub fn put_text(out: &mut [u8], at: usize, text: &[u8]) -> usize
     requires { Room text.now at }
     ensures { Writes text.now out.old at result out.new }
 {
-    let mut i: usize = 0;
     let mut place = at;
-    while i < text.len() {
-        place = put(out, place, text[i]);
-        i += 1;
+    for b in text {
+        place = put(out, place, *b);
     }
     place
 }
@@ -44,7 +35,7 @@ pub fn put_decimal(out: &mut [u8], at: usize, n: u64) -> usize
     requires { Room (decimal n) at }
     ensures { Writes (decimal n) out.old at result out.new }
 {
-    let digit = 48 + (n % 10) as u8;
+    let digit = b'0' + (n % 10) as u8;
     if n < 10 {
         return put(out, at, digit);
     }
@@ -52,21 +43,24 @@ pub fn put_decimal(out: &mut [u8], at: usize, n: u64) -> usize
     put(out, next, digit)
 }
 
+// The name of an atom.
+pub fn name_of(names: &[u8], atom: usize) -> &[u8]
+    requires { 16 * atom + 16 ≤ length names.now }
+    ensures { result.now ≡ name_in names.now atom }
+{
+    let row = &names[16 * atom..16 * atom + 16];
+    for (i, b) in row.iter().enumerate() {
+        if *b == 0 {
+            return &row[..i];
+        }
+    }
+    row
+}
+
 // Writes the name of an atom.
 pub fn put_name(out: &mut [u8], at: usize, names: &[u8], atom: usize) -> usize
     requires { (16 * atom + 16 ≤ length names.now) × Room (name_in names.now atom) at }
     ensures { Writes (name_in names.now atom) out.old at result out.new }
 {
-    let row = 16 * atom;
-    let mut i: usize = 0;
-    let mut place = at;
-    while i < 16 {
-        let b = names[row + i];
-        if b == 0 {
-            return place;
-        }
-        place = put(out, place, b);
-        i += 1;
-    }
-    place
+    put_text(out, at, name_of(names, atom))
 }

@@ -1,22 +1,30 @@
 // The interpretation in a lane.
 ghost use Rattle.std.specs.Prelude.{◌≡◌, ◌<◌};
-ghost use Rattle.planes.specs.Planes.{column};
+ghost use Rattle.words.specs.Bits.{word};
+ghost use Rattle.planes.specs.Planes.{at, column};
 
+use crate::plane::TruthPlanes;
 use logic::interpretation::Interpretation;
 
-// The interpretation in lane j of the planes t and f.
-pub fn lane(t: &[u64; 64], f: &[u64; 64], j: u32) -> Interpretation
+// The atoms that a plane has in lane j.
+fn atoms_in(plane: &[u64; 64], j: u32) -> u64
     requires { j < 64 }
-    ensures { result ≡ column t.now f.now j }
+    ensures { result ≡ word 64 (at plane.now j) }
 {
-    let mut trues: u64 = 0;
-    let mut falses: u64 = 0;
-    let mut i: u32 = 0;
-    while i < 64 {
-        let at = i as usize;
-        trues = words::with_bit(trues, words::test(t[at], j), i);
-        falses = words::with_bit(falses, words::test(f[at], j), i);
-        i += 1;
+    let mut atoms: u64 = 0;
+    for i in 0..64 {
+        atoms = words::with_bit(atoms, words::test(plane[i as usize], j), i);
     }
-    Interpretation { trues, falses }
+    atoms
+}
+
+// The interpretation in lane j of the planes.
+pub fn lane(p: &TruthPlanes, j: u32) -> Interpretation
+    requires { j < 64 }
+    ensures { result ≡ column p.now.trues p.now.falses j }
+{
+    Interpretation {
+        trues: atoms_in(&p.trues, j),
+        falses: atoms_in(&p.falses, j),
+    }
 }

@@ -4,5 +4,6 @@
 
 pub mod fill;
 pub mod lane;
+pub mod opening;
 pub mod plane;
 pub mod word;

@@ -20,7 +20,7 @@ use Rattle.words.proofs.BitWalks.{has_with, with_lt, without_here, without_other
 use Rattle.program.specs.Case.{head_at, kind_at, plain_at, negated_at}
 use Rattle.program.specs.Program.{names, depends_on}
 use Rattle.program.proofs.Heads.{head-lt}
-use Rattle.prepared.specs.Dependents.{dependents_of, Words, Dependents, Spread}
+use Rattle.prepared.specs.Dependents.{dependents_of, Dependents, Spread}
 use Rattle.prepared.specs.Chains.{last_of, Lasts, Linked}
 
 -- an entry written at i: f i there, what it was elsewhere
@@ -38,9 +38,6 @@ module _ (t : List ℕ) (w h : ℕ) where
   pub record Spreading (u : List ℕ) (left : ℕ) : Type 0 where
     pub size_is : length u ≡ 64
     pub entry-is : (i : ℕ) → i < 64 → with_bit (has left i) (get_or u i 0) h ≡ with_bit (has w i) (get_or t i 0) h
-
-  pub spreading_start : length t ≡ 64 → Spreading t w
-  spreading_start l = record { size_is = l; entry-is = λ i m. refl }
 
   pub spreading_next : (u : List ℕ) (left j b : ℕ) → Spreading u left → BitOf left j → b ≡ 2 ^ h
       → Spreading (set u j (bit_or (get_or u j 0) b)) (without_bit left j)
@@ -82,9 +79,6 @@ pub dependents_has : (cl : List ℕ) (n i a : ℕ) → a < 64
     → has (dependents_of cl n i) a ≡ depends_on cl n a i
 unfolding dependents_of
 dependents_has cl n i a l = has_word 64 (λ b. depends_on cl n b i) a l
-
-pub dependents_words : (cl : List ℕ) (n : ℕ) (t : List ℕ) → Dependents cl n t → Words t
-dependents_words cl n t d i l = rw (d i l) (dependents_lt cl n i)
 
 -- no clause names nothing
 pub dependents_none : (cl : List ℕ) (i : ℕ) → 0 ≡ dependents_of cl 0 i

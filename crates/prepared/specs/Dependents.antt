@@ -3,10 +3,10 @@
 --   dependents_of cl n i   the heads that depend on i by the first n clauses, bit a for atom a
 --   touched_from cl n w    the dependents of the atoms of w
 --   Dependents cl n t      the table t has the dependents of each atom
---   Words t, Zeros t       the first 64 entries of t are words of 64 bits, are 0
+--   Zeros t                the first 64 entries of t are 0
 --   Spread t w h u         u is t with the head h added to the dependents of the atoms of w
 --   touched_by t w a       the head a is among the dependents of some atom of w
-use Rattle.std.specs.Prelude.{◌≡◌, Bool, ◌&&◌, List, ℕ, ◌^◌, ◌<◌, length, get_or}
+use Rattle.std.specs.Prelude.{◌≡◌, Bool, ◌&&◌, List, ℕ, ◌<◌, length, get_or}
 use Rattle.words.specs.Below.{any}
 use Rattle.words.specs.Bits.{has, word}
 use Rattle.words.specs.OneBit.{with_bit}
@@ -20,9 +20,6 @@ touched_from cl n w = word 64 (λ a. any 64 (λ i. has w i && has (dependents_of
 
 abbrev pub Dependents : List ℕ → ℕ → List ℕ → Type 0
 Dependents cl n t = (i : ℕ) → i < 64 → get_or t i 0 ≡ dependents_of cl n i
-
-abbrev pub Words : List ℕ → Type 0
-Words t = (i : ℕ) → i < 64 → get_or t i 0 < 2 ^ 64
 
 abbrev pub Zeros : List ℕ → Type 0
 Zeros t = (i : ℕ) → i < 64 → get_or t i 0 ≡ 0

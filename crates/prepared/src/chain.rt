@@ -1,34 +1,38 @@
 // The rules of each head as a chain from the last to the first.
-ghost use Rattle.std.specs.Prelude.{◌≡◌, ◌*◌, ◌/◌, ◌≤◌, ◌<◌, leb, length};
+ghost use Rattle.std.specs.Prelude.{◌≡◌, leb};
 ghost use Rattle.words.specs.Choice.{pick};
 ghost use Rattle.prepared.specs.Chains.{Lasts, Linked};
-ghost use Rattle.prepared.specs.Dependents.{Zeros};
 
-// The number k where a clause's first word is a rule's, otherwise the number before.
-fn newest(first: u64, k: usize, before: usize) -> usize
-    ensures { result ≡ pick (leb 2 (first / 64)) k before }
-{
-    if first / 64 < 2 {
-        return before;
-    }
-    k
+use program::clauses::Clauses;
+
+// For each head one more than the number of its last rule, or 0, and for each clause the same for the last rule before
+// it with its head. No option in place of the 0: `Lasts` and `Linked` speak of these numbers.
+#[derive(Clone, Copy)]
+pub struct Chains {
+    pub last: [usize; 64],
+    pub prev: [usize; 256],
 }
 
-// Fills the chains of the first n clauses: for each head one more than the number of its last rule, or 0, and for each
-// clause the same for the last rule before it with its head. The entries of last are 0 at first.
-pub fn fill(clauses: &[u64], n: usize, last: &mut [usize; 64], prev: &mut [usize; 256])
-    requires { (n ≤ 256) × (3 * n ≤ length clauses.now) × (length last.old ≡ 64) × Zeros last.old
-        × (length prev.old ≡ 256) }
-    ensures { Lasts clauses.now n last.new
-        × Linked clauses.now n prev.new }
+// The number k where a clause's kind is a rule's, otherwise the number before.
+fn newest(kind: u64, k: usize, before: usize) -> usize
+    ensures { result ≡ pick (leb 2 kind) k before }
 {
-    let mut k = 0;
-    while k < n {
-        let first = clauses[3 * k];
-        let head = (first % 64) as usize;
+    if kind < 2 { before } else { k }
+}
+
+// The chains of some clauses.
+pub fn fill(clauses: Clauses) -> Chains
+    ensures { Lasts clauses.entry.words.now clauses.entry.count result.last
+        × Linked clauses.entry.words.now clauses.entry.count result.prev }
+{
+    let mut last = [0; 64];
+    let mut prev = [0; 256];
+    for k in 0..clauses.count {
+        let clause = clauses.at(k);
+        let head = clause.head as usize;
         let before = last[head];
         prev[k] = before;
-        last[head] = newest(first, k + 1, before);
-        k += 1;
+        last[head] = newest(clause.kind, k + 1, before);
     }
+    Chains { last, prev }
 }

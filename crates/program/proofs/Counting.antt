@@ -6,12 +6,10 @@
 use mathlib.Core.Path.{◌≡◌, refl, sym, ap, ◌∙◌}
 use mathlib.Core.Bool.{Bool, true, false}
 use Prim.Native.Nat.{ℕ, ◌*◌, ◌≤◌, ◌<◌, min}
-use native.Mathlib.Nat.{mul-one, one-mul, mul_assoc, le-mul_of_pos_right}
+use native.Mathlib.Nat.{mul-one, mul_assoc, le-mul_of_pos_right}
 use native.Mathlib.Omega.{arith}
 use lib.Dec.{leb}
 use borrow.Author.Tests.{leb-true, leb-false, le-leb, lt-leb}
-use Rattle.words.specs.Choice.{pick}
-use Rattle.words.specs.Bits.{has}
 use Rattle.words.specs.OneBit.{without_bit, LowestOf}
 use Rattle.program.specs.Cause.{causes_by}
 use Rattle.program.specs.Setting.{choice_of, settings_of}
@@ -20,17 +18,6 @@ use Rattle.program.proofs.Settings.{settings-none, settings_lowest, settings-som
 pub record Multiplied (tw w p left : ℕ) : Type 0 where
   pub few : p ≤ 59049
   pub product_is : p * settings_of (causes_by tw left) ≡ settings_of (causes_by tw w)
-
-pub multiplied_start : (tw w : ℕ) → Multiplied tw w 1 w
-multiplied_start tw w = record { few = omega arith; product_is = one-mul (settings_of (causes_by tw w)) }
-
--- one cause more fits a word
-pub multiplied_room : (tw a p r : ℕ) → p ≤ 59049 → r ≡ choice_of tw a → p * r ≤ 177147
-multiplied_room tw a p r h e = rw e (go (has tw a))
-  where
-    go : (t : Bool) → p * pick t 2 3 ≤ 177147
-    go true = omega (arith, h)
-    go false = omega (arith, h)
 
 module _ (tw w p left a r : ℕ) (m : Multiplied tw w p left) (l : LowestOf left a) (e : r ≡ choice_of tw a) where
   with_lowest : p * r * settings_of (causes_by tw (without_bit left a)) ≡ settings_of (causes_by tw w)

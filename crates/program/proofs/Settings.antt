@@ -130,13 +130,6 @@ with_assumptions x a (suc (suc zero)) = refl
 with_assumptions x a (suc (suc (suc e))) =
     ap (λ (t : Bool). with_bit t x.assumptions a) (sym (ne_eqb (suc (suc (suc e))) 2 (λ q. omega arith)))
 
--- a digit other than 1 and 2 adds nothing
-pub with_other : (x : Additions) (a e : ℕ) → (e ≡ 1 → ⊥) → (e ≡ 2 → ⊥) → x ≡ with_digit x a e
-with_other x a zero p q = refl
-with_other x a (suc zero) p q = absurd (p refl)
-with_other x a (suc (suc zero)) p q = absurd (q refl)
-with_other x a (suc (suc (suc e))) p q = refl
-
 -- ---- one word of the walk
 -- atom b has digit d in setting s of the causes w
 abbrev pub has_digit : ℕ → ℕ → ℕ → ℕ → ℕ → Bool

@@ -1,17 +1,19 @@
--- Laws of soundness: the kinds of clauses, and what is known of a sound case, phrase by phrase. Assumes nothing.
-use mathlib.Core.Path.{◌≡◌, refl, sym, ap, ◌∙◌}
+-- Laws of soundness: what is known of a sound case, phrase by phrase. Assumes nothing.
+use mathlib.Core.Path.{◌≡◌, refl, ◌∙◌}
 use mathlib.Core.Bool.{Bool, true, false, not, ◌&&◌, false≢true}
 use mathlib.Core.List.{List}
-use Prim.Native.Nat.{ℕ, zero, suc, ◌+◌, ◌-◌, ◌*◌, ◌/◌, ◌%◌, ◌≤◌, ◌<◌}
+use Prim.Native.Nat.{ℕ, ◌+◌, ◌-◌, ◌*◌, ◌/◌, ◌%◌, ◌≤◌, ◌<◌}
 use native.Mathlib.Omega.{arith}
 use lib.Dec.{ltb, leb}
 use lib.ListN.{length, get_or, take, length-take, length-drop}
-use borrow.Author.Tests.{ltb-true, ltb-false, leb-true, le-leb, lt-leb, le-ltb, lt-ltb}
+use borrow.Author.Tests.{ltb-true, leb-true, le-leb}
 use borrow.Rule.Slice.PartMut.{mid_of}
 use Rattle.words.proofs.Tests.{and_true_l, and_true_r}
 use Rattle.words.proofs.Below.{every-at}
 use Rattle.logic.specs.Nodes.{one_formula}
 use Rattle.program.specs.declared.case.Case.{Case}
+use Rattle.program.specs.declared.clause.Clause.{Clause}
+use Rattle.program.specs.Clauses.{ClauseAt}
 use Rattle.program.specs.Case.{clause_size, constraint_size, formula_size, part_size, tables_full, head_at, plain_at}
 use Rattle.program.specs.Case.{negated_at, forbidden, forbidden_not, constraint_kind, nodes_of}
 use Rattle.program.specs.Cause.{causes_of}
@@ -20,119 +22,15 @@ use Rattle.program.specs.Sound.{is_edition, limits_hold, within, bare, shaped, s
 use Rattle.program.specs.Sound.{sound_constraint, sound_constraints, few_settings, sound_formula}
 use Rattle.program.specs.Sound.{sound_formulas, sound}
 
--- ---- at most the number below m by one is below m
-pub leb_below : (a t m : ℕ) → t + 1 ≡ m → leb a t ≡ ltb a m
-leb_below a t m e = go (ltb a m) refl
-  where
-    go : (b : Bool) → ltb a m ≡ b → leb a t ≡ ltb a m
-    go true p = le-leb a t (omega (arith, ltb-true a m p)) ∙ sym p
-    go false p = lt-leb a t (omega (arith, ltb-false a m p)) ∙ sym p
-
--- ---- kinds
-pub shaped-low : (k : ℕ) (b : Bool) → k < 2 → b ≡ shaped k b
-shaped-low zero b h = refl
-shaped-low (suc zero) b h = refl
-shaped-low (suc (suc k)) b h = absurd (omega arith)
-
-pub shaped-none : (k : ℕ) (b : Bool) → 2 ≤ k → (k ≡ 2 → ⊥) → false ≡ shaped k b
-shaped-none zero b h e = absurd (omega arith)
-shaped-none (suc zero) b h e = absurd (omega arith)
-shaped-none (suc (suc zero)) b h e = absurd (e refl)
-shaped-none (suc (suc (suc k))) b h e = refl
-
--- ---- limits: the first that fails, or the last
-module _ (c : Case) where
-  pub limits_atomless : c.atoms < 1 → false ≡ limits_hold c
-  unfolding limits_hold
-  limits_atomless l = rw (lt-leb 1 c.atoms l)
-
-  module _ (some : 1 ≤ c.atoms) where
-    pub limits-past-atoms : 64 < c.atoms → false ≡ limits_hold c
-    unfolding limits_hold
-    limits-past-atoms l = rw (le-leb 1 c.atoms some, lt-leb c.atoms 64 l)
-
-    module _ (atoms : c.atoms ≤ 64) where
-      pub limits-past-clauses : 256 < c.clauses → false ≡ limits_hold c
-      unfolding limits_hold
-      limits-past-clauses l =
-          rw (le-leb 1 c.atoms some, le-leb c.atoms 64 atoms, lt-leb c.clauses 256 l)
-
-      module _ (clauses : c.clauses ≤ 256) where
-        pub limits-past-constraints : 32 < c.constraints → false ≡ limits_hold c
-        unfolding limits_hold
-        limits-past-constraints l =
-            let few = lt-leb c.constraints 32 l in
-            rw (le-leb 1 c.atoms some, le-leb c.atoms 64 atoms, le-leb c.clauses 256 clauses, few)
-
-        module _ (constraints : c.constraints ≤ 32) where
-          few : leb c.constraints 32 ≡ true
-          few = le-leb c.constraints 32 constraints
-
-          pub limits_formulaless : c.formulas < 1 → false ≡ limits_hold c
-          unfolding limits_hold
-          limits_formulaless l =
-              let none = lt-leb 1 c.formulas l in
-              rw (le-leb 1 c.atoms some, le-leb c.atoms 64 atoms, le-leb c.clauses 256 clauses, few, none)
-
-          module _ (formulas : 1 ≤ c.formulas) where
-            pub limits-past-formulas : 16 < c.formulas → false ≡ limits_hold c
-            unfolding limits_hold
-            limits-past-formulas l =
-                let one = le-leb 1 c.formulas formulas in
-                let past = lt-leb c.formulas 16 l in
-                let held = le-leb c.clauses 256 clauses in
-                rw (le-leb 1 c.atoms some, le-leb c.atoms 64 atoms, held, few, one, past)
-
-            module _ (most : c.formulas ≤ 16) where
-              edition_decides : is_edition c.edition ≡ limits_hold c
-              unfolding limits_hold
-              edition_decides =
-                  let one = le-leb 1 c.formulas formulas in
-                  let top = le-leb c.formulas 16 most in
-                  let held = le-leb c.clauses 256 clauses in
-                  rw (le-leb 1 c.atoms some, le-leb c.atoms 64 atoms, held, few, one, top)
-
-              pub limits_editionless : c.edition < 1 → false ≡ limits_hold c
-              limits_editionless l =
-                  ap (λ (b : Bool). b && leb c.edition 2) (sym (lt-leb 1 c.edition l)) ∙ edition_decides
-
-              pub limits-last : 1 ≤ c.edition → leb c.edition 2 ≡ limits_hold c
-              limits-last l =
-                  ap (λ (b : Bool). b && leb c.edition 2) (sym (le-leb 1 c.edition l)) ∙ edition_decides
-
--- ---- a clause: the first test that fails, or the last
-module _ (n first p q : ℕ) where
-  pub clause_headless : n ≤ first % 64 → false ≡ sound_clause n first p q
-  unfolding sound_clause
-  clause_headless l = rw (le-ltb (first % 64) n l)
-
-  pub clause-outside : first % 64 < n → within n p q ≡ false → false ≡ sound_clause n first p q
-  unfolding sound_clause
-  clause-outside l e = rw (lt-ltb (first % 64) n l, e)
-
-  pub clause-shaped : first % 64 < n → within n p q ≡ true → {b r : Bool} → b ≡ bare p q → r ≡ shaped (first / 64) b
-      → r ≡ sound_clause n first p q
-  unfolding sound_clause
-  clause-shaped l e f g = rw (lt-ltb (first % 64) n l, e) (g ∙ ap (shaped (first / 64)) f)
-
--- ---- a constraint: the first test that fails, or the last
-module _ (n p q k : ℕ) where
-  pub constraint-outside : within n p q ≡ false → false ≡ sound_constraint n p q k
-  unfolding sound_constraint
-  constraint-outside w = rw w
-
-  module _ (w : within n p q ≡ true) {b : Bool} (e : b ≡ bare p q) where
-    pub constraint-bare : b ≡ true → false ≡ sound_constraint n p q k
-    unfolding sound_constraint
-    constraint-bare h = rw (w, ← e, h)
-
-    pub constraint_kinded : b ≡ false → ltb k 2 ≡ sound_constraint n p q k
-    unfolding sound_constraint
-    constraint_kinded h = rw (w, ← e, h)
-
 -- ---- the entries of a table
 abbrev pub clause_test : ℕ → List ℕ → ℕ → Bool
 clause_test n cl k = sound_clause n (get_or cl (3 * k) 0) (plain_at cl k) (negated_at cl k)
+
+pub clause_tested : (n : ℕ) (cl : List ℕ) (k : ℕ) (c : Clause) → ClauseAt cl k c
+    → sound_clause n (c.head + 64 * c.kind) c.plain c.negated ≡ clause_test n cl k
+clause_tested n cl k c a =
+    let e : c.head + 64 * c.kind ≡ get_or cl (3 * k) 0 = omega (arith, a.head-is, a.kind-is) in
+    rw (e, a.plain-is, a.negated-is)
 
 abbrev pub constraint_test : ℕ → List ℕ → ℕ → Bool
 constraint_test n co k = sound_constraint n (forbidden co k) (forbidden_not co k) (constraint_kind co k)
@@ -231,10 +129,6 @@ module _ (c : Case) (cl co fo : List ℕ) (f : tables_full cl co fo ≡ true) (h
 
 -- ---- a formula: too many nodes, or the nodes decide
 module _ (n : ℕ) (ns fo : List ℕ) (q : ℕ) where
-  pub formula-long : part_size < get_or ns q 0 → false ≡ sound_formula n ns fo q
-  unfolding sound_formula
-  formula-long l = rw (lt-leb (get_or ns q 0) part_size l)
-
   pub formula-fits : get_or ns q 0 ≤ part_size → one_formula n (nodes_of ns fo q) ≡ sound_formula n ns fo q
   unfolding sound_formula
   formula-fits l = rw (le-leb (get_or ns q 0) part_size l)

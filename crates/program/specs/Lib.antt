@@ -1,5 +1,6 @@
 -- In reading order.
 -- Case: the sizes of the lent tables, and their entries.
+-- Clauses: a clause of a table, as it is handed out.
 -- Program: clauses, the program that a clause table holds, and the clauses that a set adds.
 -- Cause: the atoms that head no clause.
 -- Setting: choice counts, the digits of a setting, and what it adds.
@@ -8,6 +9,7 @@
 -- Digit: what one digit of a setting adds.
 -- Claims: what is claimed beyond the contracts.
 pub mod Case
+pub mod Clauses
 pub mod Program
 pub mod Cause
 pub mod Setting

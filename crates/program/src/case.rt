@@ -1,6 +1,8 @@
-// The case record, and the limits of document 01.
-ghost use Rattle.std.specs.Prelude.{◌≡◌};
+// The case record, the limits of document 01, and the atoms within them.
+ghost use Rattle.std.specs.Prelude.{◌≡◌, ◌+◌, ◌^◌, ◌≤◌};
 ghost use Rattle.program.specs.Case.{tables_full};
+
+use crate::tables::Tables;
 
 // A case: how many entries its lent tables have in use, the observed literals, bit i for atom i, how many nodes each
 // formula has, and the edition of its causes.
@@ -44,15 +46,34 @@ impl Case {
     pub const PRICES: usize = 64;
 }
 
+// The atoms below count, bit i of all for atom i.
+#[derive(Clone, Copy)]
+pub struct Atoms {
+    pub count: usize,
+    pub all: u64,
+    ghost few: { count ≤ 64 },
+    ghost each: { all + 1 ≡ 2 ^ count },
+}
+
+impl Atoms {
+    // The atoms below a number.
+    pub fn below(count: usize) -> Atoms
+        requires { (1 ≤ count) × (count ≤ 64) }
+        ensures { result.count ≡ count }
+    {
+        Atoms {
+            count,
+            all: words::lowest(count as u32),
+        }
+    }
+}
+
 // Whether the lent tables have their full sizes.
-pub fn tables_full(clauses: &[u64], constraints: &[u64], formula: &[u8]) -> bool
-    ensures { result ≡ tables_full clauses.now constraints.now formula.now }
+#[tactic(auto, unfolding(crate::specs::Case::tables_full))]
+pub fn tables_full(t: Tables) -> bool
+    ensures { result ≡ tables_full t.entry.clauses.now t.entry.constraints.now t.entry.formula.now }
 {
-    if clauses.len() < Case::CLAUSE_WORDS {
-        return false;
-    }
-    if constraints.len() < Case::CONSTRAINT_WORDS {
-        return false;
-    }
-    Case::FORMULA_BYTES <= formula.len()
+    Case::CLAUSE_WORDS <= t.clauses.len()
+        && Case::CONSTRAINT_WORDS <= t.constraints.len()
+        && Case::FORMULA_BYTES <= t.formula.len()
 }

@@ -1,46 +1,43 @@
 // The causes of a case, its settings, and what a setting adds.
-ghost use Rattle.std.specs.Prelude.{◌≡◌, ℕ, ◌+◌, ◌*◌, ◌≤◌, ◌<◌, min, length};
+ghost use Rattle.std.specs.Prelude.{◌≡◌, ℕ, ◌+◌, ◌≤◌, ◌<◌, min};
 ghost use Rattle.program.specs.Program.{heads_of};
 ghost use Rattle.program.specs.Cause.{causes_among, firm_heads, causes_in};
 ghost use Rattle.program.specs.Setting.{choice_of, settings_of, additions_of};
 ghost use Rattle.program.specs.Digit.{with_digit};
 
-// The heads of the first n clauses, bit i for atom i.
-pub fn heads(clauses: &[u64], n: usize) -> u64
-    requires { (n ≤ 256) × (3 * n ≤ length clauses.now) }
-    ensures { result ≡ heads_of clauses.now n }
+use crate::case::Atoms;
+use crate::clauses::Clauses;
+use words::walk::bits_of;
+
+// The heads of the clauses, bit i for atom i.
+pub fn heads(clauses: Clauses) -> u64
+    ensures { result ≡ heads_of clauses.entry.words.now clauses.entry.count }
 {
     let mut heads: u64 = 0;
-    let mut k = 0;
-    while k < n {
-        let first = clauses[3 * k];
-        heads = heads | words::single((first % 64) as u32);
-        k += 1;
+    for k in 0..clauses.count {
+        heads |= words::single(clauses.at(k).head);
     }
     heads
 }
 
-// The heads of those of the first n clauses that are no assumption, bit i for atom i.
-fn firm_heads(clauses: &[u64], n: usize) -> u64
-    requires { (n ≤ 256) × (3 * n ≤ length clauses.now) }
-    ensures { result ≡ firm_heads clauses.now n }
+// The heads of those clauses that are no assumption, bit i for atom i.
+// Apart from heads, since one function of both would need a clause on the test that it is passed.
+fn firm_heads(clauses: Clauses) -> u64
+    ensures { result ≡ firm_heads clauses.entry.words.now clauses.entry.count }
 {
     let mut heads: u64 = 0;
-    let mut k = 0;
-    while k < n {
-        let first = clauses[3 * k];
-        heads = words::with_bit(heads, first / 64 != 1, (first % 64) as u32);
-        k += 1;
+    for k in 0..clauses.count {
+        let clause = clauses.at(k);
+        heads = words::with_bit(heads, clause.kind != 1, clause.head);
     }
     heads
 }
 
-// Those of a number of atoms that are no head.
-fn unheaded(atoms: usize, heads: u64) -> u64
-    requires { (1 ≤ atoms) × (atoms ≤ 64) }
-    ensures { result ≡ causes_among atoms heads }
+// Those of the atoms that are no head.
+fn unheaded(atoms: Atoms, heads: u64) -> u64
+    ensures { result ≡ causes_among atoms.count heads }
 {
-    words::lowest(atoms as u32) & !heads
+    atoms.all & !heads
 }
 
 // The causes, and those of them that have two choices, bit i for atom i.
@@ -50,20 +47,19 @@ pub struct Causes {
     pub twofold: u64,
 }
 
-// The causes in an edition among a number of atoms, where heads has the heads of the first n clauses.
-pub fn causes_in(edition: usize, atoms: usize, clauses: &[u64], n: usize, heads: u64) -> Causes
-    requires { (1 ≤ atoms) × (atoms ≤ 64) × (n ≤ 256) × (3 * n ≤ length clauses.now)
-        × (heads ≡ heads_of clauses.now n) }
-    ensures { result ≡ causes_in edition atoms clauses.now n }
+// The causes in an edition among a number of atoms, where heads has the heads of the clauses.
+pub fn causes_in(edition: usize, atoms: usize, clauses: Clauses, heads: u64) -> Causes
+    requires { (1 ≤ atoms) × (atoms ≤ 64) × (heads ≡ heads_of clauses.words.now clauses.count) }
+    ensures { result ≡ causes_in edition atoms clauses.entry.words.now clauses.entry.count }
 {
-    let free = unheaded(atoms, heads);
+    let free = unheaded(Atoms::below(atoms), heads);
     if edition != 2 {
         return Causes {
             all: free,
             twofold: 0,
         };
     }
-    let assumed = heads & !firm_heads(clauses, n);
+    let assumed = heads & !firm_heads(clauses);
     Causes {
         all: free | assumed,
         twofold: assumed,
@@ -75,10 +71,7 @@ pub fn choice(twofold: u64, atom: u32) -> u64
     requires { atom < 64 }
     ensures { result ≡ choice_of twofold atom }
 {
-    if words::test(twofold, atom) {
-        return 2;
-    }
-    3
+    if words::test(twofold, atom) { 2 } else { 3 }
 }
 
 // The number of settings, or 59,050 where there are more than 59,049.
@@ -86,14 +79,11 @@ pub fn settings(causes: Causes) -> u64
     ensures { result ≡ min (settings_of causes) 59050 }
 {
     let mut product: u64 = 1;
-    let mut left = causes.all;
-    while left != 0 {
-        let atom = words::lowest_bit(left);
-        product = product * choice(causes.twofold, atom);
+    for atom in bits_of(causes.all) {
+        product *= choice(causes.twofold, atom);
         if 59049 < product {
             return 59050;
         }
-        left = words::without_lowest(left);
     }
     product
 }
@@ -111,19 +101,17 @@ impl Additions {
         requires { atom < 64 }
         ensures { result ≡ with_digit self atom digit }
     {
-        if digit == 1 {
-            return Additions {
+        match digit {
+            1 => Additions {
                 facts: self.facts | words::single(atom),
-                assumptions: self.assumptions,
-            };
-        }
-        if digit == 2 {
-            return Additions {
-                facts: self.facts,
+                ..self
+            },
+            2 => Additions {
                 assumptions: self.assumptions | words::single(atom),
-            };
+                ..self
+            },
+            _ => self,
         }
-        self
     }
 
     // What the next setting adds: the lowest digit that isn't its cause's highest rises by one, and those below it fall
@@ -132,28 +120,19 @@ impl Additions {
         ensures { (s : ℕ) → self ≡ additions_of causes s → result ≡ additions_of causes (s + 1) }
     {
         let mut x = self;
-        let mut left = causes.all;
-        while left != 0 {
-            let atom = words::lowest_bit(left);
+        for atom in bits_of(causes.all) {
             if words::test(x.facts, atom) {
-                if !words::test(causes.twofold, atom) {
-                    return Additions {
-                        facts: words::without(x.facts, atom),
-                        assumptions: x.assumptions | words::single(atom),
-                    };
-                }
                 x.facts = words::without(x.facts, atom);
-                left = words::without_lowest(left);
-                continue;
+                if !words::test(causes.twofold, atom) {
+                    x.assumptions |= words::single(atom);
+                    return x;
+                }
+            } else if words::test(x.assumptions, atom) {
+                x.assumptions = words::without(x.assumptions, atom);
+            } else {
+                x.facts |= words::single(atom);
+                return x;
             }
-            if !words::test(x.assumptions, atom) {
-                return Additions {
-                    facts: x.facts | words::single(atom),
-                    assumptions: x.assumptions,
-                };
-            }
-            x.assumptions = words::without(x.assumptions, atom);
-            left = words::without_lowest(left);
         }
         x
     }
@@ -168,13 +147,10 @@ pub fn added(causes: Causes, setting: u64) -> Additions
         assumptions: 0,
     };
     let mut rest = setting;
-    let mut left = causes.all;
-    while left != 0 {
-        let atom = words::lowest_bit(left);
+    for atom in bits_of(causes.all) {
         let base = choice(causes.twofold, atom);
         sum = sum.with(atom, rest % base);
-        rest = rest / base;
-        left = words::without_lowest(left);
+        rest /= base;
     }
     sum
 }

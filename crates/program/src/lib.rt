@@ -3,4 +3,7 @@
 
 pub mod case;
 pub mod cause;
+pub mod clause;
+pub mod clauses;
 pub mod sound;
+pub mod tables;

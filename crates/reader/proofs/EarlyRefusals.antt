@@ -1,26 +1,40 @@
 -- Laws of the early refusals 1 and 2, which touch nothing, and of reading where there is none. Assumes nothing.
 use mathlib.Core.Path.{◌≡◌, refl, sym, ap, ◌∙◌}
-use mathlib.Core.Bool.{Bool, true, false, not, ◌&&◌}
+use mathlib.Core.Bool.{Bool, true, ◌&&◌}
 use mathlib.Core.List.{List, [], ◌∷◌}
-use Prim.Native.Nat.{ℕ, zero, suc, ◌≤◌, ◌<◌}
+use Prim.Native.Nat.{ℕ, zero, suc, ◌≤◌}
+use native.Mathlib.Omega.{arith}
 use lib.Dec.{leb}
 use lib.ListN.{length}
-use borrow.Author.Tests.{leb-true, le-leb, lt-leb, not-true, not-false}
+use borrow.Author.Tests.{leb-true}
+use Rattle.std.specs.Prelude.{Result, Ok, Err, IfOk}
+use Rattle.refusals.specs.declared.Refusal.{Refusal}
+use Rattle.refusals.specs.Refusal.{number_of}
+use Rattle.refusals.proofs.Numbers.{number_some}
+use Rattle.program.specs.declared.case.Case.{Case}
 use Rattle.words.specs.Choice.{unless_refused, check}
 use Rattle.words.proofs.Tests.{and_true_l, and_true_r}
 use Rattle.words.proofs.Checks.{none-failed}
-use Rattle.program.specs.Case.{name_size, price_size, tables_full}
+use Rattle.program.specs.Case.{name_size, price_size}
 use Rattle.program.proofs.Soundness.{full-clauses, full-constraints, full-formula}
 use Rattle.store.specs.Lent.{Lent}
 use Rattle.store.specs.Tables.{no_case}
 use Rattle.store.specs.Held.{Long}
-use Rattle.reader.specs.declared.read.Answer.{Answer}
+use Rattle.reader.specs.declared.read.Refused.{Refused}
+use Rattle.reader.specs.Answers.{of_no_line, refusal_in, case_in}
 use Rattle.reader.specs.Operation.{tables_fit, early_refusal, ReadAs}
-use Rattle.reader.specs.Steps.{refused_at, LinesRead}
+use Rattle.reader.specs.Steps.{LinesRead}
 
 unless-refused : {A : Type 0} (n : ℕ) (x y : A) → (n ≡ 0 → ⊥) → y ≡ unless_refused n x y
 unless-refused zero x y h = absurd (h refl)
 unless-refused (suc n) x y h = refl
+
+-- the record of an answer
+case_chosen : (r : Result Case Refused) (c : Case) → IfOk r (λ d. d ≡ c)
+    → case_in r ≡ unless_refused (refusal_in r) c no_case
+case_chosen (Ok d) c h = h
+case_chosen (Err e) c h =
+    unless-refused (number_of e.refusal) c no_case (λ z. let n = number_some e.refusal in omega arith)
 
 both_true : (a b d : Bool) → ((a && b) && d) ≡ true → (a ≡ true) × (b ≡ true) × (d ≡ true)
 both_true a b d h =
@@ -40,36 +54,6 @@ fit_long t h =
       prices-long = leb-true price_size _ p.2;
     }
 
--- the tests of the five tables, one after the other
-module _ (t : Lent) {b : Bool} (full : b ≡ tables_full t.clauses t.constraints t.formula) where
-  pub table-short : not b ≡ true → false ≡ tables_fit t
-  unfolding tables_fit
-  table-short h = rw (← full, not-true b h)
-
-  module _ (h : not b ≡ false) where
-    pub names-short : length t.names < name_size → false ≡ tables_fit t
-    unfolding tables_fit
-    names-short k = rw (← full, not-false b h, lt-leb name_size (length t.names) k)
-
-    pub prices_decide : name_size ≤ length t.names → leb price_size (length t.prices) ≡ tables_fit t
-    unfolding tables_fit
-    prices_decide k = rw (← full, not-false b h, le-leb name_size _ k)
-
--- the tests of the early refusals, one after the other
-module _ (f : List ℕ) (t : Lent) {b : Bool} (fit : b ≡ tables_fit t) where
-  pub early-table-short : not b ≡ true → 1 ≡ early_refusal f t
-  unfolding early_refusal
-  early-table-short h = rw (← fit, not-true b h)
-
-  module _ (h : not b ≡ false) where
-    pub early-file-long : 32768 < length f → 2 ≡ early_refusal f t
-    unfolding early_refusal
-    early-file-long l = rw (← fit, not-false b h, lt-leb (length f) 32768 l)
-
-    pub early-none : length f ≤ 32768 → 0 ≡ early_refusal f t
-    unfolding early_refusal
-    early-none l = rw (← fit, not-false b h, le-leb (length f) 32768 l)
-
 -- the number n is that of the early refusal
 module _ (f : List ℕ) (t : Lent) {n : ℕ} (e : n ≡ early_refusal f t) where
   -- where there is none, the tables have their sizes and the file is not too long
@@ -83,29 +67,33 @@ module _ (f : List ℕ) (t : Lent) {n : ℕ} (e : n ≡ early_refusal f t) where
   chosen : {A : Type 0} (x y : A) → (n ≡ 0 → ⊥) → y ≡ unless_refused (early_refusal f t) x y
   chosen x y h = rw (← e) (unless-refused n x y h)
 
-  pub read-refused : (n ≡ 0 → ⊥) → ReadAs f t t (refused_at n 0)
-  read-refused h = record {
-    refusal_is = rw (← e) (unless-refused n _ n h);
-    line-is = chosen _ 0 h;
-    case-is = unless-refused n _ no_case h;
-    clauses_are = chosen _ t.clauses h;
-    constraints_are = chosen _ t.constraints h;
-    formula-is = chosen _ t.formula h;
-    names_are = chosen _ t.names h;
-    prices_are = chosen _ t.prices h;
-  }
-
   passed : {A : Type 0} (x y z : A) → n ≡ 0 → z ≡ x → z ≡ unless_refused (early_refusal f t) x y
   passed x y z k h = rw (← e, k) h
 
-  pub read_through : {u : Lent} {r : Answer} → n ≡ 0 → LinesRead f t u r → ReadAs f t u r
-  read_through k h = record {
-    refusal_is = passed _ _ _ k (rw h.answer-is);
-    line-is = passed _ _ _ k (rw h.answer-is);
-    case-is = rw h.answer-is;
+  pub read_through : {u : Lent} {r : Result Case Refused} → n ≡ 0 → LinesRead f t u r → ReadAs f t u r
+  read_through {r = r} k h = record {
+    refusal_is = passed _ _ _ k h.answer-is.refusal_is;
+    line-is = passed _ _ _ k h.answer-is.line-is;
+    case-is = case_chosen r _ h.answer-is.case-is;
     clauses_are = passed _ _ _ k (ap (λ (x : Lent). x.clauses) h.tables_are);
     constraints_are = passed _ _ _ k (ap (λ (x : Lent). x.constraints) h.tables_are);
     formula-is = passed _ _ _ k (ap (λ (x : Lent). x.formula) h.tables_are);
     names_are = passed _ _ _ k (ap (λ (x : Lent). x.names) h.tables_are);
     prices_are = passed _ _ _ k (ap (λ (x : Lent). x.prices) h.tables_are);
   }
+
+-- the early refusal r
+pub read-refused : (f : List ℕ) (t : Lent) {r : Refusal} → number_of r ≡ early_refusal f t
+    → ReadAs f t t (Err (of_no_line r))
+read-refused f t {r} e =
+    let some : number_of r ≡ 0 → ⊥ = λ z. let n = number_some r in omega arith in
+    record {
+      refusal_is = rw (← e) (unless-refused (number_of r) _ (number_of r) some);
+      line-is = chosen f t e _ 0 some;
+      case-is = unless-refused (number_of r) _ no_case some;
+      clauses_are = chosen f t e _ t.clauses some;
+      constraints_are = chosen f t e _ t.constraints some;
+      formula-is = chosen f t e _ t.formula some;
+      names_are = chosen f t e _ t.names some;
+      prices_are = chosen f t e _ t.prices some;
+    }

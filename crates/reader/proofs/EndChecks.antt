@@ -1,5 +1,9 @@
 -- Laws of the end of reading: the checks 11 and 12, and the answer and the tables after them. Assumes nothing.
-use mathlib.Core.Path.{◌≡◌, sym, ap, ◌∙◌}
+use mathlib.Core.Path.{◌≡◌, refl, sym, ap, ◌∙◌}
+use Rattle.std.specs.Prelude.{Ok, Err}
+use Rattle.refusals.specs.declared.Refusal.{Refusal}
+use Rattle.refusals.specs.Refusal.{number_of}
+use Rattle.refusals.proofs.Numbers.{number_some}
 use mathlib.Core.Bool.{Bool, true, false, not}
 use mathlib.Core.List.{List}
 use Prim.Native.Nat.{ℕ, ◌*◌, ◌≤◌}
@@ -15,7 +19,8 @@ use Rattle.store.specs.Saying.{edition_of}
 use Rattle.store.proofs.Held.{held_in_limits}
 use Rattle.checks.specs.declared.progress.Progress.{Progress}
 use Rattle.reader.specs.Reading.{Outcome, or_else, settings_few, end_refusal, ending, read_lines, read_file}
-use Rattle.reader.specs.Steps.{end_refusal_in, Countable, refused_at, FileTaken}
+use Rattle.reader.specs.Answers.{of_no_line}
+use Rattle.reader.specs.Steps.{end_refusal_in, Countable, FileTaken}
 use Rattle.reader.proofs.FilledTables.{few-settings-filled}
 use Rattle.reader.proofs.TakingLines.{or_else-refused, refused-taken, LinesTaken}
 
@@ -66,22 +71,24 @@ module _ {f : List ℕ} {t₀ t : Lent} {p : Progress} {at line : ℕ} (i : Line
     clauses-long = i.long.clauses-long;
   }
 
-  module _ (h : length f ≤ at) {n : ℕ} (e : n ≡ end_refusal_in c t.clauses) where
-    -- the end decides by this number
-    end_by : read_file f ≡ or_else n 0 (Outcome.case i.said)
-    unfolding read_lines ending
-    end_by =
-        i.rest-is ∙ ap (λ (m : List (List ℕ)). read_lines m i.said line) (lines_none f at h)
-        ∙ ap (λ (m : ℕ). or_else m 0 (Outcome.case i.said)) (sym (e ∙ end_is))
+  -- the end decides by the number n
+  end_by : length f ≤ at → {n : ℕ} → n ≡ end_refusal_in c t.clauses → read_file f ≡ or_else n 0 (Outcome.case i.said)
+  unfolding read_lines ending
+  end_by h e =
+      i.rest-is ∙ ap (λ (m : List (List ℕ)). read_lines m i.said line) (lines_none f at h)
+      ∙ ap (λ (m : ℕ). or_else m 0 (Outcome.case i.said)) (sym (e ∙ end_is))
 
-    pub end_refused : (n ≡ 0 → ⊥) → FileTaken f t₀ t (refused_at n 0)
-    end_refused p = refused-taken f t₀ t n 0 (end_by ∙ or_else-refused n 0 _ p) p i.kept
+  pub end_refused : length f ≤ at → {r : Refusal} → number_of r ≡ end_refusal_in c t.clauses
+      → FileTaken f t₀ t (Err (of_no_line r))
+  end_refused h {r} e =
+      let some : number_of r ≡ 0 → ⊥ = λ z. let s = number_some r in omega arith in
+      refused-taken f t₀ t r 0 (end_by h e ∙ or_else-refused (number_of r) 0 _ some) i.kept
 
-    pub end-accepted : n ≡ 0 → FileTaken f t₀ t (record { refusal = 0; line = 0; found = c })
-    end-accepted p =
-        let o = rw p at end_by in
-        record {
-          answer-is = rw (o, i.reached.held.case-is);
-          kept = i.kept;
-          tables_are = λ z. rw o i.reached.held.tables_are;
-        }
+  pub end-accepted : length f ≤ at → 0 ≡ end_refusal_in c t.clauses → FileTaken f t₀ t (Ok c)
+  end-accepted h e =
+      let o : read_file f ≡ Outcome.case i.said = end_by h e in
+      record {
+        answer-is = rw o (record { refusal_is = refl; line-is = refl; case-is = i.reached.held.case-is });
+        kept = i.kept;
+        tables_are = rw o i.reached.held.tables_are;
+      }

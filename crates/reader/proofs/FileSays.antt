@@ -27,11 +27,13 @@ use Rattle.store.specs.Prices.{CostRow, price_in}
 use Rattle.store.specs.Saying.{ClauseRow, Said, nothing_said, edition_of, plain_atoms, negated_atoms}
 use Rattle.store.specs.Tables.{words_of, case_said}
 use Rattle.store.specs.Held.{Long}
-use Rattle.store.proofs.Lent.{lent_same}
+use Rattle.store.proofs.FilledLent.{lent_same}
 use Rattle.store.proofs.Saying.{is-atoms}
 use Rattle.store.proofs.FilledRows.{formula-is}
 use Rattle.store.proofs.Prices.{price-at}
-use Rattle.reader.specs.declared.read.Answer.{Answer}
+use Rattle.std.specs.Prelude.{Result}
+use Rattle.reader.specs.declared.read.Refused.{Refused}
+use Rattle.reader.specs.Answers.{refusal_in, case_in}
 use Rattle.reader.specs.Reading.{Outcome, refusal_of, read_file}
 use Rattle.reader.specs.Operation.{early_refusal, ReadAs}
 use Rattle.reader.specs.Contents.{file_names, no_content, file_content, constraints_of, Says}
@@ -127,14 +129,14 @@ not-refused (Outcome.case st) h e = (st, refl)
 not-refused (Outcome.refused n k) h e = absurd (h e)
 
 -- the tables u at exit hold what the file f says, which is said, over the tables t at entry
-pub record Accepted (f : List ℕ) (t u : Lent) (r : Answer) : Type 0 where
+pub record Accepted (f : List ℕ) (t u : Lent) (r : Result Case Refused) : Type 0 where
   pub said : Said
   pub file-is : read_file f ≡ Outcome.case said
   pub long : Long t
-  pub found-is : r.found ≡ case_said said
+  pub found-is : case_in r ≡ case_said said
   pub tables_are : u ≡ filled_with (words_of said) t
 
-module _ (f : List ℕ) (t u : Lent) (r : Answer) (h : ReadAs f t u r) (z : r.refusal ≡ 0) where
+module _ (f : List ℕ) (t u : Lent) (r : Result Case Refused) (h : ReadAs f t u r) (z : refusal_in r ≡ 0) where
   unrefused : (early_refusal f t ≡ 0) × (refusal_of (read_file f) ≡ 0)
   unrefused = first_of-none (early_refusal f t) (refusal_of (read_file f)) (sym h.refusal_is ∙ z)
 
@@ -151,7 +153,8 @@ module _ (f : List ℕ) (t u : Lent) (r : Answer) (h : ReadAs f t u r) (z : r.re
             (rw (early, e) at h.formula-is) (rw (early, e) at h.names_are) (rw (early, e) at h.prices_are);
       }
 
-pub answer-says : (f : List ℕ) (t u : Lent) (r : Answer) → ReadAs f t u r → r.refusal ≡ 0 → Says f r.found u
+pub answer-says : (f : List ℕ) (t u : Lent) (r : Result Case Refused) → ReadAs f t u r → refusal_in r ≡ 0
+    → Says f (case_in r) u
 answer-says f t u r h z =
     let a = accepted f t u r h z in
-    says f a.said a.file-is r.found t u a.long a.found-is a.tables_are
+    says f a.said a.file-is (case_in r) t u a.long a.found-is a.tables_are

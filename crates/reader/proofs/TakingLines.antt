@@ -6,10 +6,13 @@ use Prim.Native.Nat.{ℕ, zero, suc, ◌+◌, ◌-◌, ◌≤◌}
 use native.Mathlib.Numerals.{add-one}
 use native.Mathlib.Omega.{arith}
 use lib.ListN.{length, replicate, take, drop}
-use lib.Seq.{slice}
+use Rattle.std.specs.Prelude.{Result, Ok, Err}
+use Rattle.refusals.specs.declared.Refusal.{Refusal}
+use Rattle.refusals.specs.Refusal.{number_of}
+use Rattle.refusals.proofs.Numbers.{number_some}
 use Rattle.text.specs.Lines.{lines}
 use Rattle.text.specs.Scanning.{LineEnds}
-use Rattle.text.proofs.Slices.{slice_take}
+use Rattle.text.proofs.Slices.{part_slice}
 use Rattle.program.specs.declared.case.Case.{Case}
 use Rattle.table.proofs.Filled.{padded-zeros}
 use Rattle.store.specs.Lent.{Lent}
@@ -17,22 +20,17 @@ use Rattle.store.specs.Saying.{Said, nothing_said}
 use Rattle.store.specs.Tables.{case_with, case_said}
 use Rattle.store.specs.Held.{Long, Kept}
 use Rattle.store.proofs.Held.{held_in_limits}
-use Rattle.store.proofs.Lent.{kept_refl-all, kept_trans-all}
+use Rattle.store.proofs.FilledLent.{kept_refl-all, kept_trans-all}
 use Rattle.store.proofs.Saying.{last_none}
 use Rattle.store.proofs.KeptTables.{SameLengths, kept_lengths, kept-long}
 use Rattle.checks.specs.declared.progress.Progress.{Progress}
-use Rattle.checks.specs.declared.take.Taken.{Taken}
 use Rattle.checks.specs.Checks.{line_refusal, said_after}
 use Rattle.checks.specs.Progress.{Reached, Bounded}
 use Rattle.checks.specs.Took.{Took, TakenAs}
 use Rattle.checks.proofs.Costed.{none_costed}
-use Rattle.reader.specs.declared.read.Answer.{Answer}
+use Rattle.reader.specs.declared.read.Refused.{Refused}
 use Rattle.reader.specs.Reading.{Outcome, or_else, read_lines, read_file}
-use Rattle.reader.specs.Steps.{Ready, refused_at, answer_of, FileTaken}
-
--- the part of a list that is lent is the slice
-part_slice : (l : List ℕ) (a e : ℕ) → a ≤ e → take (e - a) (drop a l) ≡ slice a e l
-part_slice l a e h = let s : a + (e - a) ≡ e = omega arith in rw s at (sym (slice_take a (e - a) l))
+use Rattle.reader.specs.Steps.{Ready, FileTaken}
 
 -- read_lines
 
@@ -51,19 +49,15 @@ module _ (l : List ℕ) (ls : List (List ℕ)) (st : Said) (k : ℕ) where
 
 -- FileTaken
 
-refused-answer : (n k : ℕ) → (n ≡ 0 → ⊥) → refused_at n k ≡ answer_of (Outcome.refused n k)
-refused-answer zero k h = absurd (h refl)
-refused-answer (suc n) k h = refl
-
-pub refused-taken : (f : List ℕ) (t u : Lent) (n k : ℕ) → read_file f ≡ Outcome.refused n k → (n ≡ 0 → ⊥) → Kept t u
-    → FileTaken f t u (refused_at n k)
-refused-taken f t u n k e h s = record {
-  answer-is = refused-answer n k h ∙ ap answer_of (sym e);
+pub refused-taken : (f : List ℕ) (t u : Lent) (r : Refusal) (k : ℕ) → read_file f ≡ Outcome.refused (number_of r) k
+    → Kept t u → FileTaken f t u (Err (record { refusal = r; line = k }))
+refused-taken f t u r k e s = record {
+  answer-is = rw e (record { refusal_is = refl; line-is = refl; case-is = tt });
   kept = s;
-  tables_are = λ z. absurd (h z);
+  tables_are = tt;
 }
 
-pub file_lengths : {f : List ℕ} {t u : Lent} {r : Answer} → FileTaken f t u r → SameLengths t u
+pub file_lengths : {f : List ℕ} {t u : Lent} {r : Result Case Refused} → FileTaken f t u r → SameLengths t u
 file_lengths {f} {t} {u} h = kept_lengths t u h.kept
 
 -- the place at of the file f, not too long, and the number line of the line there
@@ -115,7 +109,8 @@ taken_bounded {f} {t₀} {t} {p} i = record {
 }
 
 -- the line w of f from place at to place e is taken
-module _ {f : List ℕ} {t₀ t u : Lent} {p : Progress} {at e line : ℕ} {r : Taken} (i : LinesTaken f t₀ t p at line)
+module _ {f : List ℕ} {t₀ t u : Lent} {p : Progress} {at e line : ℕ} {r : Result Progress Refusal}
+    (i : LinesTaken f t₀ t p at line)
     (l : LineEnds f at e)
     (k : TakenAs (λ st. line_refusal st (take (e - at) (drop at f))) (λ st. said_after st (take (e - at) (drop at f))) p
     t r u) where
@@ -136,21 +131,22 @@ module _ {f : List ℕ} {t₀ t u : Lent} {p : Progress} {at e line : ℕ} {r : 
     counted = omega (arith, l.onward, i.places.counted);
   }
 
-  pub line_taken : r.refusal ≡ 0 → LinesTaken f t₀ u r.reached (e + 1) (line + 1)
-  line_taken z =
-      let n : line_refusal i.said w ≡ 0 = sym took.refusal_is ∙ z in
+  pub line_taken : {q : Progress} → r ≡ Ok q → LinesTaken f t₀ u q (e + 1) (line + 1)
+  line_taken {q} z =
+      let n : line_refusal i.said w ≡ 0 = sym (rw z at took.refusal_is) in
       record {
         places = next-places;
         long = kept-long t u k.kept i.long;
         said = said_after i.said w;
-        reached = took.reached n;
+        reached = rw z at took.reached;
         kept = kept_trans-all t₀ t i.kept u k.kept;
         rest-is = here ∙ lines-go w (lines (drop (e + 1) f)) i.said line n;
       }
 
-  pub line_refused : (r.refusal ≡ 0 → ⊥) → FileTaken f t₀ u (refused_at r.refusal line)
-  line_refused h =
-      let n = lines_stop w (lines (drop (e + 1) f)) i.said line (λ z. h (took.refusal_is ∙ z)) in
-      refused-taken f t₀ u r.refusal line
-      (here ∙ n ∙ ap (λ (x : ℕ). Outcome.refused x line) (sym took.refusal_is)) h
+  pub line_refused : {x : Refusal} → r ≡ Err x → FileTaken f t₀ u (Err (record { refusal = x; line = line }))
+  line_refused {x} z =
+      let m : number_of x ≡ line_refusal i.said w = rw z at took.refusal_is in
+      let some : line_refusal i.said w ≡ 0 → ⊥ = λ y. let s = number_some x in omega arith in
+      let n = lines_stop w (lines (drop (e + 1) f)) i.said line some in
+      refused-taken f t₀ u x line (here ∙ n ∙ ap (λ (j : ℕ). Outcome.refused j line) (sym m))
       (kept_trans-all t₀ t i.kept u k.kept)

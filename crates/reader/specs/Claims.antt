@@ -10,8 +10,9 @@
 --   NodesFit                                    why there is no refusal for too many nodes
 --   SupplementNearest                           how a supplement is rounded
 use Rattle.std.specs.Prelude.{◌≡◌, Bool, true, false, ◌&&◌, List, [], ◌∷◌, ℕ, suc, ◌+◌, ◌*◌}
-use Rattle.std.specs.Prelude.{◌≤◌, ◌<◌, eqb, length, get_or, take}
+use Rattle.std.specs.Prelude.{◌≤◌, ◌<◌, eqb, length, get_or, take, Result}
 use Rattle.logic.specs.Nodes.{nodes}
+use Rattle.program.specs.declared.case.Case.{Case}
 use Rattle.program.specs.Case.{clause_size, constraint_size, formula_size}
 use Rattle.program.specs.Sound.{sound}
 use Rattle.text.specs.Lines.{lines, is_comment}
@@ -30,7 +31,8 @@ use Rattle.checks.specs.Checks.{line_refusal, said_after}
 use Rattle.checks.specs.Naming.{IsName}
 use Rattle.reader.specs.Reading.{Outcome, ending, read_file}
 use Rattle.reader.specs.Contents.{Says}
-use Rattle.reader.specs.declared.read.Answer.{Answer}
+use Rattle.reader.specs.declared.read.Refused.{Refused}
+use Rattle.reader.specs.Answers.{refusal_in, case_in}
 use Rattle.reader.specs.Operation.{tables_fit, ReadAs}
 
 -- an accepted file's case is sound, with tables filled over any tables of full size
@@ -43,7 +45,8 @@ AcceptedSound = (f : List ℕ) (st : Said) (t : Lent) → tables_fit t ≡ true 
 
 -- where reading accepts the file f, the record and the tables that it leaves say what f says
 abbrev pub TablesSay : Type 0
-TablesSay = (f : List ℕ) (t u : Lent) (r : Answer) → ReadAs f t u r → r.refusal ≡ 0 → Says f r.found u
+TablesSay = (f : List ℕ) (t u : Lent) (r : Result Case Refused) → ReadAs f t u r → refusal_in r ≡ 0
+    → Says f (case_in r) u
 
 -- an accepted file's names are names and differ: each is found at its own place
 pub record NamesRight (st : Said) : Type 0 where

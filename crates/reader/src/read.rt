@@ -1,33 +1,35 @@
 // The operation *read*.
 ghost use Rattle.std.specs.Prelude.{◌≡◌, ◌≤◌, length};
+ghost use Rattle.refusals.specs.Refusal.{refused_as};
 ghost use Rattle.store.specs.Lent.{lent};
+ghost use Rattle.store.specs.LentTables.{lent_of};
 ghost use Rattle.store.specs.Held.{Long};
+ghost use Rattle.reader.specs.Answers.{of_no_line};
 ghost use Rattle.reader.specs.Operation.{tables_fit, early_refusal, ReadAs};
 ghost use Rattle.reader.specs.Steps.{end_refusal_in, Countable, Zeroed, Ready, FileTaken, LinesRead};
 
 use checks::progress::Progress;
 use checks::take::take_line;
-use program::case::Case;
+use program::case::{Case, tables_full};
+use program::clauses::Clauses;
+use program::sound::settings_few;
+use refusals::Refusal;
+use store::lent::LentTables;
 
-// What reading answers: 0 and the record of the case, or a refusal's number, its line and a record of zeros.
+// Why a file is not read, and the line that is refused, counted from 1, or 0 where it is none.
 #[derive(Clone, Copy)]
-pub struct Answer {
-    pub refusal: u32,
+pub struct Refused {
+    pub refusal: Refusal,
     pub line: u32,
-    pub found: Case,
 }
 
-// The record of zeros.
-const NO_CASE: Case = Case {
-    atoms: 0,
-    clauses: 0,
-    constraints: 0,
-    formulas: 0,
-    plain: 0,
-    negated: 0,
-    nodes: [0; 16],
-    edition: 0,
-};
+impl From<Refusal> for Refused {
+    ghost from_gives = { λ r e. e ≡ of_no_line r };
+
+    fn from(refusal: Refusal) -> Refused {
+        Refused { refusal, line: 0 }
+    }
+}
 
 // The record before the first line: zeros, and edition 1.
 const NOTHING_READ: Case = Case {
@@ -56,25 +58,29 @@ fn zero(
         (lent clauses.new constraints.new formula.new names.new
         prices.new) }
 {
-    table::zero_words(clauses, Case::CLAUSE_WORDS);
-    table::zero_words(constraints, Case::CONSTRAINT_WORDS);
-    table::zero_bytes(formula, Case::FORMULA_BYTES);
-    table::zero_bytes(names, Case::NAME_BYTES);
-    table::zero_prices(prices, Case::PRICES);
+    clauses[..Case::CLAUSE_WORDS].fill(0);
+    constraints[..Case::CONSTRAINT_WORDS].fill(0);
+    formula[..Case::FORMULA_BYTES].fill(0);
+    names[..Case::NAME_BYTES].fill(0);
+    prices[..Case::PRICES].fill(0);
 }
 
-// The number of the refusal after the last line: 11 no query, 12 more than 59,049 settings, 0 for neither.
-fn end_refusal(c: Case, clauses: &[u64]) -> u32
+// The checks after the last line: 11 no query, 12 more than 59,049 settings.
+fn check_end(c: Case, clauses: &[u64]) -> Result<(), Refusal>
     requires { Countable c clauses.now }
-    ensures { result ≡ end_refusal_in c clauses.now }
+    ensures { refused_as result ≡ end_refusal_in c clauses.now }
 {
     if c.formulas == 0 {
-        return 11;
+        return Err(Refusal::NoQuery);
     }
-    if !program::sound::settings_few(c.edition, c.atoms, clauses, c.clauses) {
-        return 12;
+    let table = Clauses {
+        words: clauses,
+        count: c.clauses,
+    };
+    if !settings_few(c.edition, c.atoms, table) {
+        return Err(Refusal::ManySettings);
     }
-    0
+    Ok(())
 }
 
 // Reads a file of at most 32,768 bytes into tables that hold nothing, up to the first refusal.
@@ -85,7 +91,7 @@ fn take_lines(
     formula: &mut [u8],
     names: &mut [u8],
     prices: &mut [u32],
-) -> Answer
+) -> Result<Case, Refused>
     requires { Ready file.now (lent clauses.old constraints.old formula.old names.old
         prices.old) }
     ensures { FileTaken file.now
@@ -101,9 +107,10 @@ fn take_lines(
     };
     let mut at = 0;
     let mut line: u32 = 1;
+    // No `split` at LF: behind the last one it would give a line more.
     while at < file.len() {
         let e = text::lines::line_end(file, at);
-        let taken = take_line(
+        match take_line(
             &file[at..e],
             p,
             clauses,
@@ -111,32 +118,15 @@ fn take_lines(
             formula,
             names,
             prices,
-        );
-        if taken.refusal != 0 {
-            return Answer {
-                refusal: taken.refusal,
-                line,
-                found: NO_CASE,
-            };
+        ) {
+            Ok(next) => p = next,
+            Err(refusal) => return Err(Refused { refusal, line }),
         }
-        p = taken.reached;
         at = e + 1;
         line += 1;
     }
-    let c = p.found;
-    let number = end_refusal(c, clauses);
-    if number != 0 {
-        return Answer {
-            refusal: number,
-            line: 0,
-            found: NO_CASE,
-        };
-    }
-    Answer {
-        refusal: 0,
-        line: 0,
-        found: c,
-    }
+    check_end(p.found, clauses)?;
+    Ok(p.found)
 }
 
 // Reads a file of at most 32,768 bytes into tables of full size, which a refusal leaves zero in their sizes.
@@ -147,7 +137,7 @@ fn read_lines(
     formula: &mut [u8],
     names: &mut [u8],
     prices: &mut [u32],
-) -> Answer
+) -> Result<Case, Refused>
     requires { Long (lent clauses.old constraints.old formula.old names.old prices.old)
         × (length file.now ≤ 32768) }
     ensures { LinesRead file.now
@@ -158,54 +148,32 @@ fn read_lines(
 {
     zero(clauses, constraints, formula, names, prices);
     let answer = take_lines(file, clauses, constraints, formula, names, prices);
-    if answer.refusal != 0 {
+    if answer.is_err() {
         zero(clauses, constraints, formula, names, prices);
     }
     answer
 }
 
 // Whether the five tables are as long as their sizes.
-pub fn tables_fit(
-    clauses: &[u64],
-    constraints: &[u64],
-    formula: &[u8],
-    names: &[u8],
-    prices: &[u32],
-) -> bool
-    ensures { result ≡ tables_fit
-        (lent clauses.now constraints.now formula.now names.now
-        prices.now) }
+#[tactic(auto, unfolding(crate::specs::Operation::tables_fit))]
+pub fn tables_fit(t: LentTables) -> bool
+    ensures { result ≡ tables_fit (lent_of t.entry) }
 {
-    if !program::case::tables_full(clauses, constraints, formula) {
-        return false;
-    }
-    if names.len() < Case::NAME_BYTES {
-        return false;
-    }
-    Case::PRICES <= prices.len()
+    tables_full(t.tables()) && t.names.len() >= Case::NAME_BYTES && t.prices.len() >= Case::PRICES
 }
 
-// The number of the refusal before the first line: 1 a table shorter than its size, 2 a file over 32,768 bytes, 0 for
-// neither.
-fn early_refusal(
-    file: &[u8],
-    clauses: &[u64],
-    constraints: &[u64],
-    formula: &[u8],
-    names: &[u8],
-    prices: &[u32],
-) -> u32
-    ensures { result ≡ early_refusal file.now
-        (lent clauses.now constraints.now formula.now names.now
-        prices.now) }
+// The checks before the first line: 1 a table shorter than its size, 2 a file over 32,768 bytes.
+#[tactic(auto, unfolding(crate::specs::Operation::early_refusal))]
+fn check_start(file: &[u8], t: LentTables) -> Result<(), Refusal>
+    ensures { refused_as result ≡ early_refusal file.now (lent_of t.entry) }
 {
-    if !tables_fit(clauses, constraints, formula, names, prices) {
-        return 1;
+    if !tables_fit(t) {
+        return Err(Refusal::ShortTable);
     }
-    if 32768 < file.len() {
-        return 2;
+    if file.len() > 32768 {
+        return Err(Refusal::LongFile);
     }
-    0
+    Ok(())
 }
 
 // Reads a case file into five lent tables. Refuses with 1 a table shorter than its size, with 2 a file over 32,768
@@ -218,20 +186,20 @@ pub fn read(
     formula: &mut [u8],
     names: &mut [u8],
     prices: &mut [u32],
-) -> Answer
+) -> Result<Case, Refused>
     ensures { ReadAs file.now
         (lent clauses.old constraints.old formula.old names.old
         prices.old)
         (lent clauses.new constraints.new formula.new names.new
         prices.new) result }
 {
-    let number = early_refusal(file, clauses, constraints, formula, names, prices);
-    if number != 0 {
-        return Answer {
-            refusal: number,
-            line: 0,
-            found: NO_CASE,
-        };
-    }
+    let lent = LentTables {
+        clauses,
+        constraints,
+        formula,
+        names,
+        prices,
+    };
+    check_start(file, lent)?;
     read_lines(file, clauses, constraints, formula, names, prices)
 }

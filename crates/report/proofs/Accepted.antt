@@ -23,9 +23,12 @@ use Rattle.names.specs.Row.{name_in}
 use Rattle.names.specs.Held.{Named}
 use Rattle.names.proofs.RowNames.{every-named, table-name}
 use Rattle.names.proofs.Short.{no_zero}
+use Rattle.std.specs.Prelude.{Result, Ok, Err, IsOk}
+use Rattle.refusals.specs.declared.Refusal.{Refusal}
+use Rattle.refusals.proofs.Numbers.{number_some}
 use Rattle.question.specs.declared.operation.Answer.{Answer}
 use Rattle.question.specs.Operation.{settings_in, choices_in, question_refusal, answer_in, Asked}
-use Rattle.question.proofs.Answers.{lent-full, refusal-none, asked-answer, asked_list}
+use Rattle.question.proofs.Answers.{lent-full, refusal-none}
 use Rattle.verdict.specs.Walk.{verdict_number}
 use Rattle.verdict.proofs.Counting.{minimals-le}
 use Rattle.verdict.proofs.Verdicts.{verdicts_length}
@@ -139,7 +142,7 @@ module _ (f : List ℕ) (st : Said) (e : read_file f ≡ Outcome.case st) where
       let l = minimals-le (judge_in st) (choices_in (case_said st) (clause_table st)) n in
       omega (arith, said-settings)
 
-  said-queries : length st.queries ≤ 16
+  pub said-queries : length st.queries ≤ 16
   said-queries = (sound-formulas (case_said st) _ _ _ said-sound).1
 
   said-short : Short (totals_of st)
@@ -160,28 +163,35 @@ module _ (f : List ℕ) (st : Said) (e : read_file f ≡ Outcome.case st) where
 
 -- What is answered for it, with a list of 1,024 slots and a work area of 59,049 bytes
 
+module _ (f : List ℕ) (st : Said) (e : read_file f ≡ Outcome.case st) where
+  none : (work : List ℕ) → length work ≡ 59049
+      → question_refusal (case_said st) (clause_table st) (constraint_table st) (formula_table st) (price_table st)
+      (length work) ≡ 0
+  none work room =
+      let s = said-sound f st e in
+      let prices = padded-length price_size (prices_of st.costs) in
+      let full =
+      lent-full (clause_table st) (constraint_table st) (formula_table st) (price_table st)
+      (sound-full (case_said st) _ _ _ s) (omega arith) in
+      refusal-none (case_said st) _ _ _ (price_table st) (length work) full s (omega (arith, said-settings f st e))
+
+  pub asked_is_ok : (list work : List ℕ) → length work ≡ 59049 → (p : Result Answer Refusal)
+      (listAfter workAfter : List ℕ)
+      → Asked (case_said st) (clause_table st) (constraint_table st) (formula_table st) (price_table st) list work p
+      listAfter workAfter
+      → IsOk p
+  asked_is_ok list work room (Ok q) _ _ h = refl
+  asked_is_ok list work room (Err r) _ _ h =
+      let n = number_some r in absurd (omega (arith, h.refusal_is, none work room))
+
 module _ (f : List ℕ) (st : Said) (e : read_file f ≡ Outcome.case st) (list work : List ℕ) (full : length list ≡ 1024)
     (room : length work ≡ 59049) (r : Answer) (listAfter workAfter : List ℕ)
-    (h : Asked (case_said st) (clause_table st) (constraint_table st) (formula_table st) (price_table st) list work r
-    listAfter workAfter)
+    (h : Asked (case_said st) (clause_table st) (constraint_table st) (formula_table st) (price_table st) list work
+    (Ok r) listAfter workAfter)
   where
-    none : question_refusal (case_said st) (clause_table st) (constraint_table st) (formula_table st) (price_table st)
-        (length work) ≡ 0
-    none =
-        let s = said-sound f st e in
-        let prices = padded-length price_size (prices_of st.costs) in
-        let full =
-        lent-full (clause_table st) (constraint_table st) (formula_table st) (price_table st)
-        (sound-full (case_said st) _ _ _ s) (omega arith) in
-        refusal-none (case_said st) _ _ _ (price_table st) (length work) full s (omega (arith, said-settings f st e))
-
     answer-is : r
         ≡ answer_in (case_said st) (clause_table st) (constraint_table st) (formula_table st) (price_table st) 1024
-    answer-is = rw full at (asked-answer (case_said st) _ _ _ _ list work r listAfter workAfter h none)
-
-    pub asked-queries : length st.queries ≤ length r.verdicts
-    asked-queries =
-        rw answer-is (omega (arith, padded-length 16 (verdict_numbers st), said-queries f st e))
+    answer-is = rw full at h.answer_is
 
     -- the numbers in use
     verdicts_are : take (length st.queries) r.verdicts ≡ verdict_numbers st
@@ -196,7 +206,7 @@ module _ (f : List ℕ) (st : Said) (e : read_file f ≡ Outcome.case st) (list 
         ≡ take (min (length (minimals_of st)) 1024) (minimals_of st) ++ drop (min (length (minimals_of st)) 1024) list
     list_is =
         let w = min (length (minimals_of st)) 1024 in
-        let l = rw full at (asked_list (case_said st) _ _ _ _ list work r listAfter workAfter h none) in
+        let l = rw (none f st e work room, full) at h.list_is in
         l ∙ ap (λ (k : ℕ). take w (minimals_of st) ++ drop k list) (front_length (minimals_of st) list 1024)
 
     pub asked-fits : r.written ≤ length listAfter

@@ -2,8 +2,6 @@
 -- Report: from a file's bytes to its report.
 -- Operation: what the report answers and leaves in the output.
 -- Claims: what is claimed beyond the contract.
--- Sizes: what the inner function asks of what it is lent.
 pub mod Report
 pub mod Operation
 pub mod Claims
-pub mod Sizes

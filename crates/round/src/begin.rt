@@ -1,33 +1,30 @@
 // The first round in each lane, from the opening and from what the settings add.
-ghost use Rattle.planes.specs.Planes.{Sizes};
 ghost use Rattle.round.specs.Begin.{Opens};
 
 use crate::redo::Changed;
+use planes::fill::AddedPlanes;
+use planes::opening::OpeningPlanes;
+use planes::plane::TruthPlanes;
 use planes::word::open_word;
 
-// The planes after the first round, from those with nothing added, and what it changed.
-pub fn begin(
-    ot: &[u64; 64],
-    of: &[u64; 64],
-    oh: &[u64; 64],
-    x: &[u64; 64],
-    y: &[u64; 64],
-    t: &mut [u64; 64],
-    f: &mut [u64; 64],
-) -> Changed
-    requires { Sizes t.old f.old }
-    ensures { Opens ot.now of.now oh.now x.now y.now
-        t.new f.new result }
+// Fills the planes with those after the first round; answers what it changed.
+pub fn begin(opening: &OpeningPlanes, added: &AddedPlanes, p: &mut TruthPlanes) -> Changed
+    ensures { Opens opening.now.trues opening.now.falses opening.now.heads added.now.facts
+        added.now.assumptions p.new.trues p.new.falses result }
 {
     let mut c = Changed { lanes: 0, atoms: 0 };
-    let mut i: u32 = 0;
-    while i < 64 {
+    for i in 0..64 {
         let at = i as usize;
-        let v = open_word(ot[at], of[at], oh[at], x[at], y[at]);
-        t[at] = v.trues;
-        f[at] = v.falses;
+        let v = open_word(
+            opening.trues[at],
+            opening.falses[at],
+            opening.heads[at],
+            added.facts[at],
+            added.assumptions[at],
+        );
+        p.trues[at] = v.trues;
+        p.falses[at] = v.falses;
         c = c.with(i, v.trues | v.falses);
-        i += 1;
     }
     c
 }

@@ -1,12 +1,15 @@
 // One round in each lane: the heads that the round before can have changed are decided anew where they are undecided.
-ghost use Rattle.std.specs.Prelude.{◌≡◌, false, ◌*◌, ◌≤◌, ◌<◌, length};
+ghost use Rattle.std.specs.Prelude.{◌≡◌, false, ◌*◌, ◌<◌};
 ghost use Rattle.words.specs.Bits.{has};
 ghost use Rattle.prepared.specs.Chains.{Lasts, Linked};
 ghost use Rattle.planes.specs.Planes.{Planes, Sizes};
 ghost use Rattle.round.specs.Redo.{noted_with, Noted, Taken, Decided, Committed, Redone};
 
-use planes::plane::{Lanes, rules};
+use planes::plane::{Lanes, TruthPlanes, rules};
 use planes::word::undecided;
+use prepared::tables::Preparation;
+use program::clauses::Clauses;
+use words::walk::bits_of;
 
 // What a round has changed: the lanes, and the atoms that changed in some lane.
 #[derive(Clone, Copy)]
@@ -32,15 +35,14 @@ impl Changed {
 }
 
 // Notes where an atom with the value v by its rules is decided among the open lanes.
-fn note(c: Changed, a: u32, free: u64, v: Lanes, ut: &mut [u64; 64], uf: &mut [u64; 64]) -> Changed
-    requires { (a < 64) × Sizes ut.old uf.old }
-    ensures { Noted c a free v ut.old uf.old ut.new uf.new result }
+fn note(c: Changed, a: u32, free: u64, v: Lanes, noted: &mut TruthPlanes) -> Changed
+    requires { a < 64 }
+    ensures { Noted c a free v noted.old.trues noted.old.falses noted.new.trues noted.new.falses result }
 {
     let up = v.trues & free;
     let down = v.falses & free;
-    let at = a as usize;
-    ut[at] = up;
-    uf[at] = down;
+    noted.trues[a as usize] = up;
+    noted.falses[a as usize] = down;
     c.with(a, up | down)
 }
 
@@ -48,92 +50,75 @@ fn note(c: Changed, a: u32, free: u64, v: Lanes, ut: &mut [u64; 64], uf: &mut [u
 fn turn(
     c: Changed,
     a: u32,
-    clauses: &[u64],
-    n: usize,
-    last: &[usize; 64],
-    prev: &[usize; 256],
-    t: &[u64; 64],
-    f: &[u64; 64],
-    ut: &mut [u64; 64],
-    uf: &mut [u64; 64],
+    clauses: Clauses,
+    preparation: &Preparation,
+    p: &TruthPlanes,
+    noted: &mut TruthPlanes,
 ) -> Changed
-    requires { (a < 64) × (n ≤ 256) × (3 * n ≤ length clauses.now) × Lasts clauses.now n last.now
-        × Linked clauses.now n prev.now × Planes t.now f.now × Sizes ut.old uf.old
-        × (has c.atoms a ≡ false) }
-    ensures { Taken clauses.now n t.now f.now a ut.old
-        uf.old c ut.new uf.new result }
+    requires { (a < 64) × Lasts clauses.words.now clauses.count preparation.now.last
+        × Linked clauses.words.now clauses.count preparation.now.prev × Planes p.now.trues p.now.falses
+        × Sizes noted.old.trues noted.old.falses × (has c.atoms a ≡ false) }
+    ensures { Taken clauses.entry.words.now clauses.entry.count p.now.trues p.now.falses a
+        noted.old.trues noted.old.falses c noted.new.trues noted.new.falses result }
 {
     let at = a as usize;
-    let free = undecided(t[at], f[at]);
+    let free = undecided(p.trues[at], p.falses[at]);
     if free == 0 {
         return c;
     }
-    let v = rules(clauses, n, prev, a, last[at], t, f);
-    note(c, a, free, v, ut, uf)
+    let v = rules(clauses, &preparation.prev, a, preparation.last[at], p);
+    note(c, a, free, v, noted)
 }
 
 // Where the heads of a word are decided by their rules.
 fn decide(
     heads: u64,
-    clauses: &[u64],
-    n: usize,
-    last: &[usize; 64],
-    prev: &[usize; 256],
-    t: &[u64; 64],
-    f: &[u64; 64],
-    ut: &mut [u64; 64],
-    uf: &mut [u64; 64],
+    clauses: Clauses,
+    preparation: &Preparation,
+    p: &TruthPlanes,
+    noted: &mut TruthPlanes,
 ) -> Changed
-    requires { (n ≤ 256) × (3 * n ≤ length clauses.now) × Lasts clauses.now n last.now
-        × Linked clauses.now n prev.now × Planes t.now f.now × Sizes ut.old uf.old }
-    ensures { Decided clauses.now n heads t.now f.now ut.new
-        uf.new result }
+    requires { Lasts clauses.words.now clauses.count preparation.now.last
+        × Linked clauses.words.now clauses.count preparation.now.prev × Planes p.now.trues p.now.falses
+        × Sizes noted.old.trues noted.old.falses }
+    ensures { Decided clauses.entry.words.now clauses.entry.count heads p.now.trues p.now.falses
+        noted.new.trues noted.new.falses result }
 {
     let mut c = Changed { lanes: 0, atoms: 0 };
-    let mut left = heads;
-    while left != 0 {
-        let a = words::lowest_bit(left);
-        c = turn(c, a, clauses, n, last, prev, t, f, ut, uf);
-        left = words::without_lowest(left);
+    for a in bits_of(heads) {
+        c = turn(c, a, clauses, preparation, p, noted);
     }
     c
 }
 
 // Takes the lanes where the atoms of w are decided into the planes.
-fn commit(w: u64, ut: &[u64; 64], uf: &[u64; 64], t: &mut [u64; 64], f: &mut [u64; 64])
-    requires { Sizes t.old f.old }
-    ensures { Committed w ut.now uf.now t.old f.old
-        t.new f.new }
+fn commit(w: u64, noted: &TruthPlanes, p: &mut TruthPlanes)
+    ensures { Committed w noted.now.trues noted.now.falses p.old.trues p.old.falses
+        p.new.trues p.new.falses }
 {
-    let mut left = w;
-    while left != 0 {
-        let i = words::lowest_bit(left) as usize;
-        t[i] = t[i] | ut[i];
-        f[i] = f[i] | uf[i];
-        left = words::without_lowest(left);
+    for i in bits_of(w) {
+        p.trues[i as usize] |= noted.trues[i as usize];
+        p.falses[i as usize] |= noted.falses[i as usize];
     }
 }
 
-// One round: the heads of a word decided anew, in each lane those that are undecided there.
+// One round: the heads of a word decided anew, in each lane those that are undecided there; noted is overwritten.
+// The sizes of noted are asked for as no type tells them where a structure is only passed on.
 pub fn redo(
     heads: u64,
-    clauses: &[u64],
-    n: usize,
-    last: &[usize; 64],
-    prev: &[usize; 256],
-    t: &mut [u64; 64],
-    f: &mut [u64; 64],
-    ut: &mut [u64; 64],
-    uf: &mut [u64; 64],
+    clauses: Clauses,
+    preparation: &Preparation,
+    p: &mut TruthPlanes,
+    noted: &mut TruthPlanes,
 ) -> Changed
-    requires { (n ≤ 256) × (3 * n ≤ length clauses.now) × Lasts clauses.now n last.now
-        × Linked clauses.now n prev.now × Planes t.old f.old × Sizes t.old f.old
-        × Sizes ut.old uf.old }
-    ensures redone { Redone clauses.now n heads t.old f.old t.new
-        f.new result }
-    ensures sizes { Sizes t.new f.new × Sizes ut.new uf.new }
+    requires { Lasts clauses.words.now clauses.count preparation.now.last
+        × Linked clauses.words.now clauses.count preparation.now.prev × Planes p.old.trues p.old.falses
+        × Sizes noted.old.trues noted.old.falses }
+    ensures redone { Redone clauses.entry.words.now clauses.entry.count heads p.old.trues
+        p.old.falses p.new.trues p.new.falses result }
+    ensures sizes { Sizes p.new.trues p.new.falses × Sizes noted.new.trues noted.new.falses }
 {
-    let c = decide(heads, clauses, n, last, prev, t, f, ut, uf);
-    commit(c.atoms, ut, uf, t, f);
+    let c = decide(heads, clauses, preparation, p, noted);
+    commit(c.atoms, noted, p);
     c
 }

@@ -1,90 +1,56 @@
--- Laws of what settling one setting answers: which refusal is due, and the answer with or without one. Assumes nothing.
+-- Which refusal is due where one setting is settled, and the count of the settings. Assumes nothing.
 use mathlib.Core.Path.{◌≡◌, sym, ap, ◌∙◌}
-use mathlib.Core.Bool.{true, false}
+use mathlib.Core.Bool.{true}
 use mathlib.Core.List.{List, [], ◌∷◌}
-use Prim.Native.Nat.{ℕ, suc, ◌≤◌, ◌<◌}
+use Prim.Native.Nat.{ℕ, ◌≤◌, ◌<◌, min}
 use lib.Dec.{ltb}
 use borrow.Author.Tests.{lt-ltb, le-ltb}
-use Rattle.words.specs.Choice.{unless_refused, Check, check}
+use Rattle.std.specs.Prelude.{Err}
+use Rattle.words.specs.Choice.{Check, check}
 use Rattle.words.proofs.Checks.{first-failed-here, first-failed-behind}
+use Rattle.refusals.specs.declared.Refusal.{Refusal}
+use Rattle.refusals.specs.Refusal.{number_of}
 use Rattle.program.specs.declared.case.Case.{Case}
 use Rattle.program.specs.Case.{tables_full}
-use Rattle.program.specs.Cause.{causes_of}
+use Rattle.program.specs.declared.cause.Causes.{Causes}
+use Rattle.program.specs.Cause.{causes_in, causes_of}
 use Rattle.program.specs.Setting.{settings_of}
 use Rattle.program.specs.Sound.{sound}
-use Rattle.settle.specs.declared.operation.Answer.{Answer}
-use Rattle.settle.specs.declared.settle.Settled.{Settled}
-use Rattle.settle.specs.Rounds.{settled}
-use Rattle.settle.specs.Operation.{settle_refusal, program_of, refused_with, SettledOne}
+use Rattle.program.proofs.Causes.{causes-of}
+use Rattle.program.proofs.Counting.{capped_is}
+use Rattle.program.proofs.Soundness.{sound-settings}
+use Rattle.settle.specs.Check.{checked}
+use Rattle.settle.specs.Operation.{settle_refusal}
+use Rattle.settle.proofs.Asking.{refused_first}
 
 module _ (c : Case) (cl co fo : List ℕ) (s : ℕ) where
-  abbrev refusal : ℕ
-  refusal = settle_refusal c cl co fo s
-
-  -- ---- the refusal that is due
-  -- the last check, and the last two
-  abbrev setting_check : List Check
+  -- the last check
+  abbrev pub setting_check : List Check
   setting_check = check 14 (ltb s (settings_of (causes_of c cl))) ∷ []
 
-  abbrev case_checks : List Check
-  case_checks = check 13 (sound c cl co fo) ∷ setting_check
-
-  pub refusal-short : tables_full cl co fo ≡ false → refusal ≡ 1
+  pub refusal_first : (e : Refusal) → checked (tables_full cl co fo) (sound c cl co fo) ≡ Err e
+      → number_of e ≡ settle_refusal c cl co fo s
   unfolding settle_refusal
-  refusal-short e = first-failed-here 1 case_checks e
+  refusal_first e = refused_first _ _ setting_check e
 
-  pub refusal_unsound : tables_full cl co fo ≡ true → sound c cl co fo ≡ false → refusal ≡ 13
-  unfolding settle_refusal
-  refusal_unsound e f = first-failed-behind 1 case_checks e ∙ first-failed-here 13 setting_check f
+  module _ (e : (tables_full cl co fo ≡ true) × (sound c cl co fo ≡ true)) where
+    pub refusal-past : settings_of (causes_of c cl) ≤ s → settle_refusal c cl co fo s ≡ 14
+    unfolding settle_refusal
+    refusal-past l =
+        first-failed-behind 1 (check 13 (sound c cl co fo) ∷ setting_check) e.0
+        ∙ first-failed-behind 13 setting_check e.1
+        ∙ first-failed-here 14 [] (le-ltb s (settings_of (causes_of c cl)) l)
 
-  pub refusal-past : tables_full cl co fo ≡ true → sound c cl co fo ≡ true → settings_of (causes_of c cl) ≤ s
-      → refusal ≡ 14
-  unfolding settle_refusal
-  refusal-past e f l =
-      first-failed-behind 1 case_checks e ∙ first-failed-behind 13 setting_check f
-      ∙ first-failed-here 14 [] (le-ltb s (settings_of (causes_of c cl)) l)
+    pub refusal-none : s < settings_of (causes_of c cl) → settle_refusal c cl co fo s ≡ 0
+    unfolding settle_refusal
+    refusal-none l =
+        first-failed-behind 1 (check 13 (sound c cl co fo) ∷ setting_check) e.0
+        ∙ first-failed-behind 13 setting_check e.1
+        ∙ first-failed-behind 14 [] (lt-ltb s (settings_of (causes_of c cl)) l)
 
-  pub refusal-none : tables_full cl co fo ≡ true → sound c cl co fo ≡ true → s < settings_of (causes_of c cl)
-      → refusal ≡ 0
-  unfolding settle_refusal
-  refusal-none e f l =
-      first-failed-behind 1 case_checks e ∙ first-failed-behind 13 setting_check f
-      ∙ first-failed-behind 14 [] (lt-ltb s (settings_of (causes_of c cl)) l)
-
-  -- ---- the answer
-  abbrev result : Settled
-  result = settled (program_of c cl s)
-
-  none-accepted : (n x : ℕ) → refusal ≡ suc n → 0 ≡ unless_refused refusal x 0
-  none-accepted n x e = rw e
-
-  all-accepted : (x : ℕ) → refusal ≡ 0 → x ≡ unless_refused refusal x 0
-  all-accepted x e = rw e
-
-  pub answer-refused : (n : ℕ) (r : Answer) → refusal ≡ suc n → r ≡ refused_with (suc n) → SettledOne c cl co fo s r
-  answer-refused n r e q = record {
-    refusal_is = ap (λ (a : Answer). a.refusal) q ∙ sym e;
-    trues_are = ap (λ (a : Answer). a.trues) q ∙ none-accepted n result.interpretation.trues e;
-    falses_are = ap (λ (a : Answer). a.falses) q ∙ none-accepted n result.interpretation.falses e;
-    rounds_are = ap (λ (a : Answer). a.rounds) q ∙ none-accepted n result.rounds e;
-    decided_are = ap (λ (a : Answer). a.decided) q ∙ none-accepted n result.decided e;
-  }
-
-  -- the answer that hands a settled interpretation on
-  abbrev pub answer_of : Settled → Answer
-  answer_of r = record {
-    refusal = 0;
-    trues = r.interpretation.trues;
-    falses = r.interpretation.falses;
-    rounds = r.rounds;
-    decided = r.decided;
-  }
-
-  pub answer-settled : (r : Settled) → refusal ≡ 0 → r ≡ result → SettledOne c cl co fo s (answer_of r)
-  answer-settled r e q = record {
-    refusal_is = sym e;
-    trues_are = ap (λ (x : Settled). x.interpretation.trues) q ∙ all-accepted result.interpretation.trues e;
-    falses_are = ap (λ (x : Settled). x.interpretation.falses) q ∙ all-accepted result.interpretation.falses e;
-    rounds_are = ap (λ (x : Settled). x.rounds) q ∙ all-accepted result.rounds e;
-    decided_are = ap (λ (x : Settled). x.decided) q ∙ all-accepted result.decided e;
-  }
+    -- a count of the settings that stops at 59,050 is the number of them
+    pub settings_counted : {w : Causes} {n : ℕ} → w ≡ causes_in c.edition c.atoms cl c.clauses
+        → n ≡ min (settings_of w) 59050 → n ≡ settings_of (causes_of c cl)
+    settings_counted q h =
+        capped_is _ _ (sound-settings c cl co fo e.1)
+        (h ∙ ap (λ (w : Causes). min (settings_of w) 59050) (q ∙ sym (causes-of c cl)))

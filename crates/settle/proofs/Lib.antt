@@ -9,7 +9,8 @@
 -- Definitions: the bodies of an atom in a table's clauses and in those that a set adds.
 -- Alike: programs that settle alike.
 -- Passes: the step by one pass over the clauses.
--- Answers: what settling one setting answers, with and without a refusal.
+-- Asking: what every operation on a case asks first.
+-- Answers: which refusal is due where one setting is settled, and the count of the settings.
 -- Marked: the marked files settled by computation.
 pub mod Given
 pub mod Programs
@@ -22,5 +23,6 @@ pub mod Theorems
 pub mod Definitions
 pub mod Alike
 pub mod Passes
+pub mod Asking
 pub mod Answers
 pub mod Marked

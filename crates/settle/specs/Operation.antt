@@ -3,17 +3,18 @@
 --
 --   settle_refusal   0, or 1 a lent table too short, 13 the case isn't sound, 14 the case has no such setting
 --   program_of       the case's program with a setting's facts and assumptions added
---   refused_with n   the answer of the refusal n
---   SettledOne       the answer, part by part
-use Rattle.std.specs.Prelude.{◌≡◌, List, [], ◌∷◌, ℕ, ltb}
-use Rattle.words.specs.Choice.{unless_refused, check, first_failed}
+--   SettledOne       the refusal, or what settling the program comes to
+use Rattle.std.specs.Prelude.{◌≡◌, List, [], ◌∷◌, ℕ, ltb, Result, IfOk}
+use Rattle.refusals.specs.declared.Refusal.{Refusal}
+use Rattle.refusals.specs.Refusal.{refused_as}
+use Rattle.words.specs.Choice.{check, first_failed}
 use Rattle.program.specs.declared.case.Case.{Case}
 use Rattle.program.specs.Case.{tables_full}
 use Rattle.program.specs.Program.{Clause, program_with}
 use Rattle.program.specs.Cause.{causes_of}
 use Rattle.program.specs.Setting.{settings_of, additions_of}
 use Rattle.program.specs.Sound.{sound}
-use Rattle.settle.specs.declared.operation.Answer.{Answer}
+use Rattle.settle.specs.declared.settle.Settled.{Settled}
 use Rattle.settle.specs.Rounds.{settled}
 
 unfoldable pub settle_refusal : Case → List ℕ → List ℕ → List ℕ → ℕ → ℕ
@@ -27,14 +28,6 @@ settle_refusal c cl co fo s =
 abbrev pub program_of : Case → List ℕ → ℕ → List Clause
 program_of c cl s = program_with cl c.clauses (additions_of (causes_of c cl) s)
 
-abbrev pub refused_with : ℕ → Answer
-refused_with n = record { refusal = n; trues = 0; falses = 0; rounds = 0; decided = 0 }
-
-pub record SettledOne (c : Case) (cl co fo : List ℕ) (s : ℕ) (r : Answer) : Type 0 where
-  pub refusal_is : r.refusal ≡ settle_refusal c cl co fo s
-  pub trues_are : r.trues
-      ≡ unless_refused (settle_refusal c cl co fo s) (settled (program_of c cl s)).interpretation.trues 0
-  pub falses_are : r.falses
-      ≡ unless_refused (settle_refusal c cl co fo s) (settled (program_of c cl s)).interpretation.falses 0
-  pub rounds_are : r.rounds ≡ unless_refused (settle_refusal c cl co fo s) (settled (program_of c cl s)).rounds 0
-  pub decided_are : r.decided ≡ unless_refused (settle_refusal c cl co fo s) (settled (program_of c cl s)).decided 0
+pub record SettledOne (c : Case) (cl co fo : List ℕ) (s : ℕ) (r : Result Settled Refusal) : Type 0 where
+  pub refusal_is : refused_as r ≡ settle_refusal c cl co fo s
+  pub settled_is : IfOk r (λ a. a ≡ settled (program_of c cl s))

@@ -1,5 +1,5 @@
 // One application of the step.
-ghost use Rattle.std.specs.Prelude.{◌≡◌, ◌+◌, ◌*◌, ◌≤◌, ◌<◌, length};
+ghost use Rattle.std.specs.Prelude.{◌≡◌};
 ghost use Rattle.logic.specs.Formula.{value_of};
 ghost use Rattle.logic.specs.Formula.{body as Formula·body};
 ghost use Rattle.logic.specs.Interpretation.{value_at, Disjoint};
@@ -9,19 +9,19 @@ ghost use Rattle.settle.specs.Step.{stepped};
 use logic::interpretation::Interpretation;
 use logic::value::Value;
 use program::cause::Additions;
+use program::clause::Clause;
+use program::clauses::Clauses;
 
 // The value of a clause's body by its kind and its literals.
-pub fn body_value(i: Interpretation, kind: u64, plain: u64, negated: u64) -> Value
+pub fn body_value(i: Interpretation, clause: Clause) -> Value
     requires { Disjoint i }
-    ensures { result ≡ value_of (value_at i) (by_kind kind (Formula·body plain negated)) }
+    ensures { result ≡ value_of (value_at i) (by_kind clause.kind (Formula·body clause.plain clause.negated)) }
 {
-    if kind == 0 {
-        return Value::True;
+    match clause.kind {
+        0 => Value::True,
+        1 => Value::False,
+        _ => i.body(clause.plain, clause.negated),
     }
-    if kind == 1 {
-        return Value::False;
-    }
-    i.body(plain, negated)
 }
 
 // What one application answers: the interpretation after, and how many atoms it decides newly.
@@ -33,21 +33,17 @@ pub struct Stepped {
 
 // The interpretation after i, and how many atoms it decides newly. The defined atoms are false at first, and each
 // clause raises its head to its body's value.
-pub fn apply(i: Interpretation, clauses: &[u64], n: usize, heads: u64, added: Additions) -> Stepped
-    requires { Disjoint i × (n ≤ 256) × (3 * n ≤ length clauses.now) × (heads ≡ heads_of clauses.now n) }
-    ensures { result ≡ stepped (program_with clauses.now n added) i }
+pub fn apply(i: Interpretation, clauses: Clauses, heads: u64, added: Additions) -> Stepped
+    requires { Disjoint i × (heads ≡ heads_of clauses.words.now clauses.count) }
+    ensures { result ≡ stepped (program_with clauses.entry.words.now clauses.entry.count added) i }
 {
     let mut next = Interpretation {
         trues: added.facts,
         falses: (heads | added.assumptions) & !added.facts,
     };
-    let mut k = 0;
-    while k < n {
-        let at = 3 * k;
-        let first = clauses[at];
-        let v = body_value(i, first / 64, clauses[at + 1], clauses[at + 2]);
-        next = next.raise((first % 64) as u32, v);
-        k += 1;
+    for k in 0..clauses.count {
+        let clause = clauses.at(k);
+        next = next.raise(clause.head, body_value(i, clause));
     }
     let decided = next.newly_decided(i);
     Stepped {

@@ -1,12 +1,12 @@
 -- Laws of lines written one behind the other, and of the room they take. Assumes nothing.
 use mathlib.Core.Path.{◌≡◌, refl, sym, ap, ◌∙◌}
-use mathlib.Core.Bool.{Bool, true, false, ◌||◌, or_assoc, or-true, or-false}
+use mathlib.Core.Bool.{false, ◌||◌, or_assoc, or-false}
 use mathlib.Core.List.{List, [], ◌∷◌, ◌++◌}
-use Prim.Native.Nat.{ℕ, ◌-◌, ◌≤◌, ◌<◌}
+use Prim.Native.Nat.{ℕ, ◌-◌, ◌≤◌}
 use native.Mathlib.Omega.{arith}
 use lib.Dec.{ltb}
 use lib.ListN.{length}
-use borrow.Author.Tests.{lt-ltb, le-ltb, ltb-false}
+use borrow.Author.Tests.{ltb-false}
 use Rattle.words.proofs.Tests.{or_false_l, or_false_r}
 use Rattle.text.specs.Tokens.{Token}
 use Rattle.text.specs.Spelled.{spelled, text_of}
@@ -36,27 +36,6 @@ short-lines (l ∷ ls) h = (
   ltb-false 200 (length l) (or_false_l _ (some_long_line ls) h),
   short-lines ls (or_false_r (ltb 200 (length l)) _ h),
 )
-
--- Ends
-
--- the page at a place, behind a long line where the test holds
-abbrev page_at : ℕ → Bool → Page
-page_at at b = record { at = at; long = b }
-
-module _ {g : Page} {p : Pen} {out out₁ : List ℕ} {at : ℕ} (w : Writes (10 ∷ []) out p.at at out₁) where
-  pub ended-long : 200 < p.at - g.at → Ends g p out (page_at at true) out₁
-  ended-long h = record {
-    place_is = w.place_is;
-    long-is = sym (ap (λ b. g.long || b) (lt-ltb 200 _ h) ∙ or-true g.long);
-    out_is = w.out_is;
-  }
-
-  pub ended-short : p.at - g.at ≤ 200 → Ends g p out (page_at at g.long) out₁
-  ended-short h = record {
-    place_is = w.place_is;
-    long-is = sym (ap (λ b. g.long || b) (le-ltb 200 _ h) ∙ or-false g.long);
-    out_is = w.out_is;
-  }
 
 -- Sets
 

@@ -9,7 +9,7 @@ ghost use Rattle.output.specs.Writing.{Room, Writes};
 ghost use Rattle.spelling.specs.Pen.{gap_of, inked, Spells};
 ghost use Rattle.spelling.specs.Page.{Ends};
 
-use output::{put, put_decimal, put_name, put_text};
+use output::{name_of, put, put_decimal, put_text};
 
 // A place of the output, and whether a word stands just before it.
 #[derive(Clone, Copy)]
@@ -39,9 +39,8 @@ pub fn closing(out: &mut [u8], p: Pen) -> Pen
     requires { Room (inked p (Token.closing ∷ [])) p.at }
     ensures { Spells (Token.closing ∷ []) out.old p result out.new }
 {
-    let end = put(out, p.at, b')');
     Pen {
-        at: end,
+        at: put(out, p.at, b')'),
         behind: false,
     }
 }
@@ -74,9 +73,7 @@ pub fn name(out: &mut [u8], p: Pen, names: &[u8], atom: usize) -> Pen
     ensures { Spells (Token.word (name_in names.now atom) ∷ []) out.old p result
         out.new }
 {
-    let first = gap(out, p);
-    let at = put_name(out, first, names, atom);
-    Pen { at, behind: true }
+    word(out, p, name_of(names, atom))
 }
 
 // Writes a number in decimal as a word.
@@ -95,11 +92,6 @@ pub fn end_line(out: &mut [u8], from: Page, p: Pen) -> Page
     ensures { Ends from p out.old result out.new }
 {
     let at = put(out, p.at, b'\n');
-    if 200 < p.at - from.at {
-        return Page { at, long: true };
-    }
-    Page {
-        at,
-        long: from.long,
-    }
+    let long = from.long || 200 < p.at - from.at;
+    Page { at, long }
 }

@@ -36,7 +36,7 @@ use Rattle.store.specs.Tables.{case_with, clause_words, constraint_words, formul
 use Rattle.store.specs.Held.{Long, Limits, InLimits, Held}
 use Rattle.store.specs.Masks.{masks_by}
 use Rattle.store.specs.Stored.{ClauseStored, ConstraintStored, ObservedStored, with_price, of_edition}
-use Rattle.store.proofs.Lent.{lent_same}
+use Rattle.store.proofs.FilledLent.{lent_same}
 use Rattle.store.proofs.Saying.{last_push}
 use Rattle.store.proofs.Formulas.{over-some}
 use Rattle.store.proofs.Encoded.{Known, encoded-over, encoded-length}

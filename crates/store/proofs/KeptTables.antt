@@ -13,7 +13,7 @@ use Rattle.store.specs.Lent.{Lent, lent, filled_with}
 use Rattle.store.specs.Saying.{nothing_said}
 use Rattle.store.specs.Tables.{clause_words, constraint_words, formula_parts, words_of, case_said}
 use Rattle.store.specs.Held.{Long, Limits, Held, Kept}
-use Rattle.store.proofs.Lent.{lent_same, filled_with-again}
+use Rattle.store.proofs.FilledLent.{lent_same, filled_with-again}
 use Rattle.store.proofs.Prices.{no_prices}
 
 pub record SameLengths (t u : Lent) : Type 0 where

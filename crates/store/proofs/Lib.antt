@@ -1,5 +1,5 @@
 -- The laws of this crate, a file for each notion.
--- Lent: the five tables filled in their sizes.
+-- FilledLent: the five tables filled in their sizes.
 -- Prices: prices, and their table.
 -- Saying: what a line says.
 -- KeptTables: their lengths, and tables that hold nothing.
@@ -14,7 +14,7 @@
 -- FilledRows: the rows of filled tables.
 -- Held: tables that hold what was read with one row, reading, query, cost or name more.
 -- Stored: what storing a form of a line leaves, for each kind of line.
-pub mod Lent
+pub mod FilledLent
 pub mod Prices
 pub mod Saying
 pub mod KeptTables

@@ -7,22 +7,21 @@ use mathlib.Core.Option.{Option}
 use Prim.Native.Nat.{ℕ, ◌-◌, ◌^◌, ◌≤◌, ◌<◌}
 use native.Mathlib.Omega.{arith}
 use borrow.Author.Tests.{ltb-true, ltb-false, ne_eqb}
-use denote.Enum.Declared.{tag_of}
-use types.Run.{OneOf, miss}
 use lib.Dec.{eqb, ltb}
-use lib.ListN.{length, drop}
+use lib.ListN.{length, take, drop}
 use lib.Seq.{slice}
 use Rattle.words.specs.Bits.{has, word}
 use Rattle.words.proofs.Tests.{by_test, eqb_comm}
 use Rattle.words.proofs.Bits.{has-zero}
 use Rattle.words.proofs.Words.{is_word, word_ext, has-or-one, or-one-lt}
+use Rattle.text.proofs.Slices.{part_slice}
 use Rattle.text.specs.Tokens.{tokens}
 use Rattle.formulas.specs.Items.{prepend}
+use Rattle.std.specs.Prelude as code
 use Rattle.grammar.specs.declared.literal.Lit.{Lit}
 use Rattle.grammar.specs.declared.literal.Lit.TheVariants as lit
 use Rattle.grammar.specs.Line.{Literal}
 use Rattle.grammar.specs.Parsing.{body_in, first_literal, LiteralInside, LiteralFound}
-use Rattle.grammar.specs.contracts.literal.Lit.{the_type}
 use Rattle.store.specs.declared.masks.Masks.{Masks}
 use Rattle.store.specs.Saying.{some_on, atoms_by}
 use Rattle.store.specs.Masks.{masks, with_atom, with_literal, masks_by}
@@ -104,36 +103,10 @@ pub record Passed (at : List ℕ → ℕ) (l : List ℕ) (start i : ℕ) (m : Ma
 pub passed_none : (at : List ℕ → ℕ) (l : List ℕ) (i : ℕ) → Passed at l i i (masks 0 0)
 passed_none at l i = record { passed = refl }
 
--- where no literal is left
-ended : (at : List ℕ → ℕ) (m : Masks) (l : List ℕ) (r : Lit) → OneOf (0 ∷ (1 ∷ [])) (tag_of the_type r)
-    → (ls : List Literal) → marked_in at (masks 0 0) (Option.some ls) ≡ marked_in at m (first_literal l r)
-    → m ≡ masks_by at ls
-ended at m l lit.NoLiteral o ls e = let z : ◌≡◌ {A = ℕ} 0 1 = cc in absurd (omega arith)
-ended at m l lit.BodyEnd o ls e = let p : m ≡ marked at (masks 0 0) ls = cc in p ∙ masks-marked at ls
-ended at m l (lit.Literal b a e next) o ls p = absurd (miss (0 ∷ (1 ∷ [])) 2 tt o)
-
-module _ {at : List ℕ → ℕ} {l : List ℕ} {start i : ℕ} {m : Masks} {r : Lit} (h : Passed at l start i m)
-    (f : LiteralFound l i r) where
-  pub passed-more : {b : Bool} {a e next atom : ℕ} {n : Masks} → r ≡ lit.Literal b a e next → atom ≡ at (slice a e l)
-      → n ≡ with_literal m b atom → Passed at l start next n
-  passed-more {b} {a} {e} {next} q k g =
-      let first = f.literals_are ∙ ap (first_literal l) q in
-      record {
-        passed =
-            h.passed ∙ ap (marked_in at m) first
-            ∙ marked-first at m b (slice a e l) (body_in (tokens (drop next l))) ∙ rw (g, k);
-      }
-
-  pub passed-all : OneOf (0 ∷ (1 ∷ [])) (tag_of the_type r) → (ls : List Literal)
-      → body_in (tokens (drop start l)) ≡ Option.some ls → m ≡ masks_by at ls
-  passed-all o ls e =
-      ended at m l r o ls
-      (sym (ap (marked_in at (masks 0 0)) e) ∙ h.passed ∙ ap (marked_in at m) f.literals_are)
-
 -- the name of a literal that was found lies in the line, and what is left of the line grows shorter
-module _ {l : List ℕ} {i : ℕ} {r : Lit} {b : Bool} {a e next : ℕ} (f : LiteralFound l i r)
-    (q : r ≡ lit.Literal b a e next) where
-  literal-inside : LiteralInside l i (lit.Literal b a e next)
+module _ {l : List ℕ} {i : ℕ} {r : code.Option Lit} {b : Bool} {a e next : ℕ}
+    (f : LiteralFound l i r) (q : r ≡ code.Some (lit.Literal b a e next)) where
+  literal-inside : LiteralInside l i (code.Some (lit.Literal b a e next))
   literal-inside = subst (LiteralInside l i) q f.inside
 
   pub literal-onward : a ≤ e
@@ -144,3 +117,31 @@ module _ {l : List ℕ} {i : ℕ} {r : Lit} {b : Bool} {a e next : ℕ} (f : Lit
 
   pub literal-less : length l - next < length l - i
   literal-less = let k = literal-inside in omega arith
+
+-- where no literal is left
+ended : (at : List ℕ → ℕ) (m : Masks) (l : List ℕ) (r : code.Option Lit)
+    → ((b : Bool) (a e next : ℕ) → r ≡ code.Some (lit.Literal b a e next) → ⊥) → (ls : List Literal)
+    → marked_in at (masks 0 0) (Option.some ls) ≡ marked_in at m (first_literal l r) → m ≡ masks_by at ls
+ended at m l code.None o ls e = let z : ◌≡◌ {A = ℕ} 0 1 = cc in absurd (omega arith)
+ended at m l (code.Some lit.BodyEnd) o ls e = let p : m ≡ marked at (masks 0 0) ls = cc in p ∙ masks-marked at ls
+ended at m l (code.Some (lit.Literal b a e next)) o ls p = absurd (o b a e next refl)
+
+module _ {at : List ℕ → ℕ} {l : List ℕ} {start i : ℕ} {m : Masks} {r : code.Option Lit} (h : Passed at l start i m)
+    (f : LiteralFound l i r) where
+  pub passed-more : {b : Bool} {a e next atom : ℕ} {n : Masks} → r ≡ code.Some (lit.Literal b a e next)
+      → atom ≡ at (take (e - a) (drop a l))
+      → n ≡ with_literal m b atom → Passed at l start next n
+  passed-more {b} {a} {e} {next} q k g =
+      let first = f.literals_are ∙ ap (first_literal l) q in
+      let name = part_slice l a e (literal-onward f q) in
+      record {
+        passed =
+            h.passed ∙ ap (marked_in at m) first
+            ∙ marked-first at m b (slice a e l) (body_in (tokens (drop next l))) ∙ rw (g, k, name);
+      }
+
+  pub passed-all : ((b : Bool) (a e next : ℕ) → r ≡ code.Some (lit.Literal b a e next) → ⊥) → (ls : List Literal)
+      → body_in (tokens (drop start l)) ≡ Option.some ls → m ≡ masks_by at ls
+  passed-all o ls e =
+      ended at m l r o ls
+      (sym (ap (marked_in at (masks 0 0)) e) ∙ h.passed ∙ ap (marked_in at m) f.literals_are)

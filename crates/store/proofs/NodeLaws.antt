@@ -8,8 +8,8 @@ use Prim.Native.Nat.{ℕ, zero, suc, ◌+◌, ◌-◌, ◌*◌, ◌≤◌, ◌<�
 use native.Mathlib.Nat.{add-zero, zero-add}
 use native.Mathlib.Numerals.{add-one}
 use native.Mathlib.Omega.{arith}
-use lib.ListN.{length, drop, get_or, set}
-use lib.Seq.{slice, sets}
+use lib.ListN.{length, take, drop, get_or, set}
+use lib.Seq.{sets}
 use borrow.Author.Tests.{lt-ltb, le-ltb}
 use borrow.Rule.Slice.PartMut.{take_put}
 use Rattle.words.specs.Choice.{pick}
@@ -21,11 +21,14 @@ use Rattle.text.specs.Tokens.{Token, tokens}
 use Rattle.text.specs.declared.tokens.Next.{Next}
 use Rattle.text.specs.declared.tokens.Next.TheVariants.{End, Open, Close, Word}
 use Rattle.text.specs.Scanning.{Found}
-use Rattle.text.proofs.TokenLaws.{found-tokens}
+use Rattle.text.proofs.Slices.{part_slice}
+use Rattle.text.proofs.TokenLaws.{found-tokens, word-le}
 use Rattle.table.proofs.Stores.{rest_from, rest_back, rest-lent, rest_back_lem, sets-part}
 use Rattle.formulas.specs.Sentence.{Sentence, form_words, tokens_of, is_sentence}
 use Rattle.formulas.specs.Items.{Item, items_of}
-use Rattle.formulas.specs.Keyword.{node_of}
+use Rattle.std.specs.Prelude as code
+use Rattle.std.specs.Prelude.{unwrap_or}
+use Rattle.formulas.specs.Keyword.{node_of, NodeFound}
 use Rattle.formulas.specs.Parsing.{size_of}
 use Rattle.formulas.proofs.Keywords.{word-node}
 use Rattle.formulas.proofs.Spelling.{joined-sentence, spelled_items, Spells, items_spell}
@@ -174,12 +177,19 @@ module _ {at : List ℕ → ℕ} {all : NodeTable} {l : List ℕ} {i : ℕ} {b :
     unfolding nodes_from with_nodes
     storing_full k = sym (h.all_are ∙ rw (found-tokens f q, le-ltb n part_size k))
 
-    pub storing_word : {x : ℕ} → n < part_size → x ≡ pick b (node_of (slice a e l)) (at (slice a e l))
+    pub storing_word : {x : ℕ} → n < part_size
+        → x ≡ pick b (node_of (take (e - a) (drop a l))) (at (take (e - a) (drop a l)))
         → Storing at all l e false (n + 1) (set t n x)
     unfolding nodes_from with_nodes
     storing_word k g =
-        record { all_are = h.all_are ∙ rw (found-tokens f q, lt-ltb n part_size k, ← g) }
+        let w = part_slice l a e (word-le f q) in
+        record { all_are = h.all_are ∙ rw (found-tokens f q, lt-ltb n part_size k, ← w, ← g) }
 
 -- the row of a name fits a byte
 pub row-few : (t : List ℕ) (n : ℕ) (w : List ℕ) {r : ℕ} → r ≡ row_of t n w → r ≤ n
 row-few t n w e = rw e (row-le t n w)
+
+-- the node that was found for the word w, or 69
+pub node_or_none : (w : List ℕ) (r : code.Option ℕ) → NodeFound w r → unwrap_or r 69 ≡ node_of w
+node_or_none w code.None h = sym h.node_is
+node_or_none w (code.Some k) h = h.node_is.0

@@ -1,21 +1,22 @@
 -- Storing a form of a line leaves tables that hold what was read with that line: a law for each kind of line.
 -- Assumes nothing.
-use mathlib.Core.Path.{◌≡◌, ap₂, ◌∙◌, subst}
+use mathlib.Core.Path.{◌≡◌, ap, ap₂, ◌∙◌, subst}
 use mathlib.Core.List.{List, [], ◌∷◌}
 use mathlib.Core.Option.{Option}
-use Prim.Native.Nat.{ℕ, ◌*◌, ◌≤◌, ◌<◌}
+use Prim.Native.Nat.{ℕ, ◌*◌, ◌-◌, ◌≤◌, ◌<◌}
 use native.Mathlib.Omega.{arith}
-use lib.ListN.{length, drop}
+use lib.ListN.{length, take, drop}
 use lib.Seq.{slice}
 use Rattle.logic.specs.Nodes.{nodes}
 use Rattle.program.specs.declared.case.Case.{Case}
 use Rattle.program.specs.Case.{clause_size, constraint_size, formula_size, part_size}
+use Rattle.text.proofs.Slices.{part_slice}
 use Rattle.text.specs.Tokens.{tokens}
 use Rattle.table.proofs.Kept.{kept_refl, sets-kept}
 use Rattle.formulas.specs.Parsing.{size_of}
 use Rattle.formulas.proofs.Sizes.{first-formula-size}
 use Rattle.grammar.specs.declared.line.Form.{Form}
-use Rattle.grammar.specs.declared.line.Form.TheVariants.{Skipped, NoForm, Clause, Constraint, Seen, Query, Cost, Atom}
+use Rattle.grammar.specs.declared.line.Form.TheVariants.{Skipped, Clause, Constraint, Seen, Query, Cost, Atom}
 use Rattle.grammar.specs.declared.line.Form.TheVariants.{Edition}
 use Rattle.grammar.specs.Line.{Line, Literal}
 use Rattle.grammar.specs.Parsing.{FormIs, body_in}
@@ -29,7 +30,7 @@ use Rattle.store.specs.Masks.{masks_by}
 use Rattle.store.specs.Stored.{ClauseStored, ConstraintStored, ObservedStored, QueryStored, with_price, of_edition}
 use Rattle.store.specs.Stored.{Storable, StoredAs}
 use Rattle.store.proofs.Encoded.{encoded-length}
-use Rattle.store.proofs.Lent.{lent_same, kept_refl-all}
+use Rattle.store.proofs.FilledLent.{lent_same, kept_refl-all}
 use Rattle.store.proofs.NodeLaws.{formula_put}
 use Rattle.store.proofs.Prices.{price-kept}
 use Rattle.store.proofs.Held.{clause-held, constraint-held, observed-held, query-held, cost-held, edition-held}
@@ -94,10 +95,6 @@ module _ {l : List ℕ} {x : Form} {c : Case} {y : Line} (s : Storable l x c y) 
     unfolding said_by
     skipped_stored q = record { kept = kept_refl-all _; held = λ st h known once. rw (form-told q) h }
 
-    pub no_form_stored : x ≡ NoForm → StoredAs y c (lent cl co fo na pr) c (lent cl co fo na pr)
-    unfolding said_by
-    no_form_stored q = record { kept = kept_refl-all _; held = λ st h known once. rw (form-told q) h }
-
     pub atom_stored : {a e : ℕ} → x ≡ Atom a e → StoredAs y c (lent cl co fo na pr) c (lent cl co fo na pr)
     unfolding said_by
     atom_stored q = record { kept = kept_refl-all _; held = λ st h known once. rw (form-told q).1 h }
@@ -112,9 +109,11 @@ module _ {l : List ℕ} {x : Form} {c : Case} {y : Line} (s : Storable l x c y) 
 
     module _ (long : Long (lent cl co fo na pr)) {r : Case} where
       pub clause_stored : {k a e n : ℕ} {m : Masks} {u : List ℕ} → x ≡ Clause k a e n → MasksOf l e na c.atoms m
-          → ClauseStored (slice a e l) k m c na cl r u → StoredAs y c (lent cl co fo na pr) r (lent u co fo na pr)
+          → ClauseStored (take (e - a) (drop a l)) k m c na cl r u
+          → StoredAs y c (lent cl co fo na pr) r (lent u co fo na pr)
       unfolding said_by
-      clause_stored {k} {a} {e} q i d =
+      clause_stored {k} {a} {e} {n} {m} {u} q i h =
+          let d = subst (λ w. ClauseStored w k m c na cl r u) (part_slice l a e (head-onward q)) h in
           let f = (form-told q).2 in
           let room = clause-room q in
           record {
@@ -180,11 +179,12 @@ module _ {l : List ℕ} {x : Form} {c : Case} {y : Line} (s : Storable l x c y) 
           }
 
     pub cost_stored : {a e p d i v : ℕ} {u : List ℕ} → Long (lent cl co fo na pr) → x ≡ Cost a e p d
-        → i ≡ row_of na c.atoms (slice a e l) → v ≡ price_of p d → u ≡ with_price pr i v
+        → i ≡ row_of na c.atoms (take (e - a) (drop a l)) → v ≡ price_of p d → u ≡ with_price pr i v
         → StoredAs y c (lent cl co fo na pr) c (lent cl co fo na u)
     unfolding said_by is_second_cost
     cost_stored {a} {e} {p} {d} {i} {v} long q j k n =
         let f = (form-told q).1 in
+        let atom = j ∙ ap (row_of na c.atoms) (part_slice l a e (name-onward q)) in
         let price = k ∙ ap₂ price_of f.price-is f.supplement-is in
         record {
           kept =
@@ -194,5 +194,5 @@ module _ {l : List ℕ} {x : Form} {c : Case} {y : Line} (s : Storable l x c y) 
               rw f.line-is
               (cost-held st c _ h long (slice a e l) f.price f.supplement (rw f.line-is at known)
               (rw f.line-is at once)
-              (n ∙ ap₂ (with_price pr) j price));
+              (n ∙ ap₂ (with_price pr) atom price));
         }

@@ -1,6 +1,5 @@
 // Storing what a form of a line says in the record and the tables.
 ghost use Rattle.std.specs.Prelude.{◌≤◌, ◌<◌, length};
-ghost use Rattle.std.proofs.Math.Seq.{slice};
 ghost use Rattle.program.specs.Case.{clause_size, constraint_size, formula_size, name_size};
 ghost use Rattle.text.specs.Tokens.{tokens};
 ghost use Rattle.grammar.specs.LineOf.{line_of};
@@ -9,40 +8,39 @@ ghost use Rattle.store.specs.Held.{Long};
 ghost use Rattle.store.specs.Stored.{ClauseStored, ConstraintStored, ObservedStored, QueryStored};
 ghost use Rattle.store.specs.Stored.{Storable, StoredAs};
 
+use crate::atom::atom_of;
 use crate::formula_nodes::store_nodes;
 use crate::masks::{Masks, masks_of};
 use crate::price::{price_of, put_price};
 use grammar::line::Form;
 use program::case::Case;
 
-// Stores a clause with the head from a to e of a line, a kind and the atoms of its literals.
+// Stores a clause with a head, a kind and the atoms of its literals.
 fn store_clause(
-    l: &[u8],
+    head: &[u8],
     kind: usize,
-    a: usize,
-    e: usize,
     m: Masks,
     c: Case,
     names: &[u8],
     clauses: &mut [u64],
 ) -> Case
-    requires { (c.atoms ≤ 64) × (c.clauses < 256) × (kind ≤ 2) × (a ≤ e) × (e ≤ length l.now)
-        × (name_size ≤ length names.now) × (clause_size ≤ length clauses.old) }
-    ensures { ClauseStored (slice a e l.now) kind m c names.now clauses.old result
+    requires { (c.atoms ≤ 64) × (c.clauses < 256) × (kind ≤ 2) × (name_size ≤ length names.now)
+        × (clause_size ≤ length clauses.old) }
+    ensures { ClauseStored head.now kind m c names.now clauses.old result
         clauses.new }
 {
-    let n = c.clauses;
-    let head = names::find(names, c.atoms, l, a, e);
+    let atom = atom_of(names, c.atoms, head);
     table::put_three(
         clauses,
-        3 * n,
-        (head + 64 * kind) as u64,
+        3 * c.clauses,
+        (atom + 64 * kind) as u64,
         m.plain,
         m.negated,
     );
-    let mut next = c;
-    next.clauses = n + 1;
-    next
+    Case {
+        clauses: c.clauses + 1,
+        ..c
+    }
 }
 
 // Stores a constraint with the atoms of its literals and its kind.
@@ -52,19 +50,21 @@ fn store_constraint(m: Masks, kind: usize, c: Case, constraints: &mut [u64]) -> 
 {
     let n = c.constraints;
     table::put_three(constraints, 3 * n, m.plain, m.negated, kind as u64);
-    let mut next = c;
-    next.constraints = n + 1;
-    next
+    Case {
+        constraints: n + 1,
+        ..c
+    }
 }
 
 // Adds observed literals to the record.
 fn store_observed(m: Masks, c: Case) -> Case
     ensures { ObservedStored m c result }
 {
-    let mut next = c;
-    next.plain = c.plain | m.plain;
-    next.negated = c.negated | m.negated;
-    next
+    Case {
+        plain: c.plain | m.plain,
+        negated: c.negated | m.negated,
+        ..c
+    }
 }
 
 // Stores the nodes of the query at or behind a place of a line, in the part behind those in use.
@@ -75,15 +75,16 @@ fn store_query(l: &[u8], at: usize, c: Case, names: &[u8], formula: &mut [u8]) -
         formula.new }
 {
     let k = c.formulas;
-    let part = Case::NODES * k;
-    let n = store_nodes(l, at, names, c.atoms, &mut formula[part..]);
+    let part = &mut formula[Case::NODES * k..];
+    let n = store_nodes(l, at, names, c.atoms, part);
     let mut next = c;
     next.formulas = k + 1;
     next.nodes[k] = n;
     next
 }
 
-// Stores what the line of a form says.
+// Stores what the line of a form says. The tables are no struct of `&mut`s: one of these cannot be lent as a `&`
+// through a `&mut` to the struct, which the borrow checker does not cover.
 pub fn store_form(
     l: &[u8],
     x: Form,
@@ -103,11 +104,10 @@ pub fn store_form(
         prices.new) }
 {
     match x {
-        Form::NoForm => c,
-        Form::Skipped => c,
+        Form::Skipped | Form::Atom(_, _) => c,
         Form::Clause(kind, a, e, _) => {
             let m = masks_of(l, e, names, c.atoms);
-            store_clause(l, kind, a, e, m, c, names, clauses)
+            store_clause(&l[a..e], kind, m, c, names, clauses)
         }
         Form::Constraint(kind, at, _) => {
             let m = masks_of(l, at, names, c.atoms);
@@ -119,15 +119,10 @@ pub fn store_form(
         }
         Form::Query(at, _) => store_query(l, at, c, names, formula),
         Form::Cost(a, e, price, supplement) => {
-            let atom = names::find(names, c.atoms, l, a, e);
+            let atom = atom_of(names, c.atoms, &l[a..e]);
             put_price(prices, atom, price_of(price, supplement));
             c
         }
-        Form::Atom(_, _) => c,
-        Form::Edition(n) => {
-            let mut next = c;
-            next.edition = n;
-            next
-        }
+        Form::Edition(n) => Case { edition: n, ..c },
     }
 }

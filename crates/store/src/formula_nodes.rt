@@ -1,6 +1,5 @@
 // The nodes of a formula.
 ghost use Rattle.std.specs.Prelude.{◌≡◌, false, ◌≤◌, length, drop};
-ghost use Rattle.std.proofs.Math.Seq.{slice};
 ghost use Rattle.words.specs.Choice.{pick};
 ghost use Rattle.program.specs.Case.{part_size, name_size};
 ghost use Rattle.text.specs.Tokens.{tokens};
@@ -8,20 +7,24 @@ ghost use Rattle.formulas.specs.Keyword.{node_of};
 ghost use Rattle.names.specs.Row.{row_of};
 ghost use Rattle.store.specs.Nodes.{nodes_from, node_table, with_nodes};
 
+use crate::atom::atom_of;
 use formulas::keyword::node_of;
 use program::case::Case;
 use text::tokens::{Next, token};
 
-// The node of the word from a to e of a line: of its form, or of its atom by a table of count names.
-fn node_at(l: &[u8], a: usize, e: usize, form: bool, names: &[u8], count: usize) -> u8
-    requires { (count ≤ 64) × (name_size ≤ length names.now) × (a ≤ e) × (e ≤ length l.now) }
-    ensures { result ≡ pick form (node_of (slice a e l.now))
-        (row_of names.now count (slice a e l.now)) }
+// What stands for the node of a word that is no form's, as the promise of `store_nodes` has it.
+const NO_NODE: u8 = 69;
+
+// The node of a word: of its form, or of its atom by a table of count names.
+fn node_at(w: &[u8], form: bool, names: &[u8], count: usize) -> u8
+    requires { (count ≤ 64) × (name_size ≤ length names.now) }
+    ensures { result ≡ pick form (node_of w.now) (row_of names.now count w.now) }
 {
     if form {
-        return node_of(l, a, e);
+        node_of(w).unwrap_or(NO_NODE)
+    } else {
+        atom_of(names, count, w) as u8
     }
-    names::find(names, count, l, a, e) as u8
 }
 
 // Stores the nodes of the words from a place of a line on, by a table of count names, while there is room in a
@@ -36,9 +39,7 @@ pub fn store_nodes(l: &[u8], at: usize, names: &[u8], count: usize, nodes: &mut 
     let mut opened = false;
     loop {
         match token(l, i) {
-            Next::End => {
-                return n;
-            }
+            Next::End => return n,
             Next::Open(next) => {
                 opened = true;
                 i = next;
@@ -48,10 +49,10 @@ pub fn store_nodes(l: &[u8], at: usize, names: &[u8], count: usize, nodes: &mut 
                 i = next;
             }
             Next::Word(a, e) => {
-                if Case::NODES <= n {
+                if n >= Case::NODES {
                     return n;
                 }
-                nodes[n] = node_at(l, a, e, opened, names, count);
+                nodes[n] = node_at(&l[a..e], opened, names, count);
                 n += 1;
                 opened = false;
                 i = e;

@@ -8,6 +8,7 @@ ghost use Rattle.grammar.specs.Parsing.{body_in};
 ghost use Rattle.names.specs.Row.{row_of};
 ghost use Rattle.store.specs.Masks.{with_atom, with_literal, masks_by};
 
+use crate::atom::atom_of;
 use grammar::literal::{Lit, literal};
 
 // The atoms of a body's plain and of its negated literals, bit i for atom i.
@@ -22,9 +23,10 @@ pub fn with_atom(w: u64, atom: usize) -> u64
     ensures { result ≡ with_atom w atom }
 {
     if atom < 64 {
-        return w | words::single(atom as u32);
+        w | words::single(atom as u32)
+    } else {
+        w
     }
-    w
 }
 
 // The atoms of literals with those of one more.
@@ -32,14 +34,15 @@ fn with_literal(m: Masks, negated: bool, atom: usize) -> Masks
     ensures { result ≡ with_literal m negated atom }
 {
     if negated {
-        return Masks {
-            plain: m.plain,
+        Masks {
             negated: with_atom(m.negated, atom),
-        };
-    }
-    Masks {
-        plain: with_atom(m.plain, atom),
-        negated: m.negated,
+            ..m
+        }
+    } else {
+        Masks {
+            plain: with_atom(m.plain, atom),
+            ..m
+        }
     }
 }
 
@@ -54,12 +57,9 @@ pub fn masks_of(l: &[u8], at: usize, names: &[u8], count: usize) -> Masks
         plain: 0,
         negated: 0,
     };
-    loop {
-        let Lit::Literal(negated, a, e, next) = literal(l, i) else {
-            return m;
-        };
-        let atom = names::find(names, count, l, a, e);
-        m = with_literal(m, negated, atom);
+    while let Some(Lit::Literal(negated, a, e, next)) = literal(l, i) {
+        m = with_literal(m, negated, atom_of(names, count, &l[a..e]));
         i = next;
     }
+    m
 }

@@ -1,7 +1,7 @@
 // What the programs ask of the system besides their input: their arguments, and writing.
 #![tactic(auto)]
 
-ghost use Rattle.std.specs.Prelude.{OnOk};
+ghost use Rattle.std.specs.Prelude.{IfSome, OnOk};
 ghost use Rattle.std.specs.Counts.{IsPrefixLen};
 ghost use Rattle.system.specs.Writing.{WritesText, TellsFault};
 
@@ -18,11 +18,11 @@ pub fn argument_count(env: &impl Env) -> usize {
     usize::MAX
 }
 
-// Puts argument i at the start of a buffer and answers its length, or 0 where it is missing or longer than the buffer.
-pub fn argument(env: &impl Env, i: usize, buf: &mut [u8]) -> usize
-    ensures { IsPrefixLen result buf.new }
+// Puts argument i at the start of a buffer and answers its length, none where it is missing or longer than the buffer.
+pub fn argument(env: &impl Env, i: usize, buf: &mut [u8]) -> Option<usize>
+    ensures { IfSome result (λ n. IsPrefixLen n buf.new) }
 {
-    env.arg(i, buf).unwrap_or(0)
+    env.arg(i, buf).ok()
 }
 
 // Writes all of a text, or stops at the first call of write that fails or takes nothing. An interrupted one counts as
@@ -31,6 +31,7 @@ pub fn write_whole<W: Write>(to: &mut W, text: &[u8]) -> io::Result<()>
     ensures { WritesText result (W.contents to.old) (W.contents to.new) text.now }
 {
     let mut done: usize = 0;
+    // A write takes any number of bytes, so this counts no index.
     while done < text.len() {
         let n = to.write(&text[done..])?;
         if n == 0 {

@@ -1,14 +1,13 @@
 -- Laws of the list that stores one behind the other leave, for straight stores and for loops that store a list or a
 -- row. Assumes nothing.
-use mathlib.Core.Path.{◌≡◌, refl, sym, ap, subst, ◌∙◌}
+use mathlib.Core.Path.{◌≡◌, refl, sym, ◌∙◌}
 use mathlib.Core.List.{List, [], ◌∷◌, ◌++◌, append_assoc, append-nil}
 use Prim.Native.Nat.{ℕ, suc, ◌+◌, ◌-◌, ◌≤◌, ◌<◌}
 use native.Mathlib.Nat.{add-suc, suc-add, add-zero, zero-add}
 use native.Mathlib.Numerals.{add-one}
 use native.Mathlib.Omega.{arith}
-use lib.ListN.{length, take, drop, get_or, set, length-set, length-drop, take-append-drop, get_or-eq_default}
+use lib.ListN.{length, take, drop, get_or, set, length-set, length-drop, take-append-drop}
 use lib.Seq.{sets, sets-eq, take_all, take-suc, length-take-le, drop-drop, drop_at, drop-length}
-use lib.Seq.{slice, length-slice, get_or-take, get_or-drop}
 use borrow.Rule.Slice.PartMut.{mid_of, put_mid, Post-is}
 use Rattle.table.specs.Filled.{padded}
 use Rattle.table.proofs.Filled.{padded-length, padded-at}
@@ -34,6 +33,13 @@ rest_put i t ys h = rw (Post-is i (length t) t h, drop-length, append-nil)
 pub rest_back_lem : (i : ℕ) (t ys : List ℕ) → i ≤ length t → drop i (rest_back i t ys) ≡ ys
 rest_back_lem i t ys h = rw (rest_put i t ys h) (drop_at (take i t) ys i (length-take-le i t h))
 
+-- a part that is written whole is stored
+pub part_stored : (i e : ℕ) (vs t ys : List ℕ) → e ≡ i + length vs → e ≤ length t → ys ≡ vs
+    → put_mid i (e - i) t ys ≡ sets t i vs
+part_stored i e vs t ys q h p =
+    rw (p, Post-is i e t (omega (arith, q)), q)
+    (sym (append_assoc (take i t) vs (drop (i + length vs) t)) ∙ sym (sets-eq vs t i (omega (arith, q, h))))
+
 -- stores in it
 pub sets-part : (i : ℕ) (vs t u : List ℕ) → i + length vs ≤ length t → take i u ≡ take i t
     → drop i u ≡ sets (drop i t) 0 vs → u ≡ sets t i vs
@@ -50,14 +56,6 @@ module _ (vs t t₀ : List ℕ) (i j : ℕ) (e : t ≡ sets t₀ i (take j vs)) 
 
   pub stored_all : length vs ≤ j → t ≡ sets t₀ i vs
   stored_all h = e ∙ rw (take_all j vs h)
-
--- entry i of a part of s, and past its end
-pub slice_at : (s : List ℕ) (a e i : ℕ) → a + i < e → get_or s (a + i) 0 ≡ get_or (slice a e s) i 0
-slice_at s a e i h = sym (get_or-drop a (take e s) i 0 ∙ get_or-take e s (a + i) 0 h)
-
-pub slice_past : (s : List ℕ) (a e i : ℕ) → e ≤ length s → e - a ≤ i → 0 ≡ get_or (slice a e s) i 0
-slice_past s a e i h l =
-    let m : length (slice a e s) ≤ i = rw (length-slice a e s h) l in sym (get_or-eq_default (slice a e s) 0 m)
 
 -- t is t₀ with the first i of n bytes of a padded row stored from a place on: at the loop's start, after a turn and at
 -- its end
@@ -78,16 +76,3 @@ module _ {t₀ : List ℕ} {at n : ℕ} {w t : List ℕ} {i : ℕ} (h : RowStore
 
   pub row_stored_all : n ≤ i → t ≡ sets t₀ at (padded n w)
   row_stored_all l = stored_all (padded n w) t t₀ at i h.table_is (rw (padded-length n w) l)
-
--- a row that is the whole table
-module _ {t₀ : List ℕ} {n : ℕ} {w t : List ℕ} {i : ℕ} (h : RowStored t₀ 0 n w t i) where
-  pub whole_row-more : {x : ℕ} → i < n → x ≡ get_or w i 0 → RowStored t₀ 0 n w (set t i x) (i + 1)
-  whole_row-more {x} l e =
-      subst (λ (k : ℕ). RowStored t₀ 0 n w (set t k x) (i + 1)) (zero-add i) (row_stored_more h l e)
-
-  pub whole_row-all : length t₀ ≡ n → n ≤ i → t ≡ padded n w
-  whole_row-all e l =
-      let s : 0 + length (padded n w) ≡ length t₀ = omega (arith, padded-length n w, e) in
-      row_stored_all h l ∙ sets-eq (padded n w) t₀ 0 (omega (arith, s))
-      ∙ ap (λ (k : ℕ). padded n w ++ drop k t₀) s ∙ ap (λ (r : List ℕ). padded n w ++ r) (drop-length t₀)
-      ∙ append-nil (padded n w)

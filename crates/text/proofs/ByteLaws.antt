@@ -1,34 +1,15 @@
 -- Laws of the tests of bytes, and of a test of every byte of a list. Assumes nothing.
-use mathlib.Core.Path.{◌≡◌, refl, sym, ◌∙◌}
-use mathlib.Core.Bool.{Bool, true, false, ◌&&◌, or-false, or-true}
+use mathlib.Core.Path.{◌≡◌, refl}
+use mathlib.Core.Bool.{Bool, true, false, ◌&&◌, or-true}
 use mathlib.Core.List.{List, [], ◌∷◌, ◌++◌}
-use Prim.Native.Nat.{ℕ, zero, suc, ◌+◌, ◌≤◌, ◌<◌}
+use Prim.Native.Nat.{ℕ, zero, suc, ◌≤◌, ◌<◌}
 use native.Mathlib.Nat.{not-suc-le-zero, le_of_suc-le-suc}
-use native.Mathlib.Numerals.{add-one}
 use native.Mathlib.Omega.{arith}
-use lib.Dec.{eqb, leb}
 use lib.ListN.{length, drop, get_or, drop_of_length-le}
-use lib.Seq.{drop-cons}
-use borrow.Author.Tests.{le-leb, lt-leb, ne_eqb, eq-eqb}
+use Rattle.std.specs.List.{list_all}
 use Rattle.text.specs.Bytes.{is_letter, is_digit, is_word_byte, is_allowed, all_of}
 
 -- is_word_byte
-
-pub word_byte_letters : (b : ℕ) → 97 ≤ b → is_word_byte b ≡ leb b 122
-unfolding is_word_byte
-word_byte_letters b h =
-    let n : b ≡ 45 → ⊥ = λ e. omega arith in
-    simp (le-leb 97 b h, lt-leb b 57 (omega arith), le-leb 48 b (omega arith), ne_eqb b 45 n, or-false)
-
-pub word_byte_digits : (b : ℕ) → 48 ≤ b → b < 97 → is_word_byte b ≡ leb b 57
-unfolding is_word_byte
-word_byte_digits b h k =
-    let n : b ≡ 45 → ⊥ = λ e. omega arith in
-    simp (lt-leb 97 b k, le-leb 48 b h, ne_eqb b 45 n, or-false)
-
-pub word_byte_others : (b : ℕ) → b < 48 → is_word_byte b ≡ eqb b 45
-unfolding is_word_byte
-word_byte_others b h = simp (lt-leb 97 b (omega arith), lt-leb 48 b h)
 
 pub word_byte_not_zero : (b : ℕ) → is_word_byte b ≡ true → b ≡ 0 → ⊥
 unfolding is_word_byte
@@ -47,30 +28,17 @@ digit-word_byte b h = rw (h, or-true (is_letter b))
 
 -- is_allowed
 
-module _ (b : ℕ) where
-  pub allowed_word : is_word_byte b ≡ true → is_allowed b ≡ true
-  unfolding is_allowed
-  allowed_word e = simp e
+pub allowed_word : (b : ℕ) → is_word_byte b ≡ true → is_allowed b ≡ true
+unfolding is_allowed
+allowed_word b e = simp e
 
-  pub allowed_space : b ≡ 32 → is_allowed b ≡ true
-  unfolding is_allowed
-  allowed_space e = simp (eq-eqb b 32 e, or-true)
-
-  pub allowed_opening : b ≡ 40 → is_allowed b ≡ true
-  unfolding is_allowed
-  allowed_opening e = simp (eq-eqb b 40 e, or-true)
-
-  pub allowed_others : is_word_byte b ≡ false → (b ≡ 32 → ⊥) → (b ≡ 40 → ⊥) → is_allowed b ≡ eqb b 41
-  unfolding is_allowed
-  allowed_others e s o = simp (e, ne_eqb b 32 s, ne_eqb b 40 o)
-
-  -- LF is not allowed
-  pub allowed_not_feed : is_allowed b ≡ true → b ≡ 10 → ⊥
-  unfolding is_allowed is_word_byte
-  allowed_not_feed t e =
-      let f : is_allowed b ≡ false = rw e in
-      let z : ◌≡◌ {A = ℕ} 0 1 = cc in
-      omega arith
+-- LF is not allowed
+pub allowed_not_feed : (b : ℕ) → is_allowed b ≡ true → b ≡ 10 → ⊥
+unfolding is_allowed is_word_byte
+allowed_not_feed b t e =
+    let f : is_allowed b ≡ false = rw e in
+    let z : ◌≡◌ {A = ℕ} 0 1 = cc in
+    omega arith
 
 -- all_of
 
@@ -112,25 +80,8 @@ unfolding all_of
 all_gives p q f [] h = refl
 all_gives p q f (b ∷ l) h = rw (f b (all_head p b l h)) (all_gives p q f l (all_tail p b l h))
 
--- every entry of l passes p if those from place i on do
-pub record AllFrom (p : ℕ → Bool) (l : List ℕ) (i : ℕ) : Type 0 where
-  pub within : i ≤ length l
-  pub all-is : all_of p l ≡ all_of p (drop i l)
-
-pub all-from-none : (p : ℕ → Bool) (l : List ℕ) → AllFrom p l 0
-all-from-none p l = record { within = omega arith; all-is = refl }
-
-module _ {p : ℕ → Bool} {l : List ℕ} {i : ℕ} (h : AllFrom p l i) where
-  pub all-from-more : i < length l → p (get_or l i 0) ≡ true → AllFrom p l (i + 1)
-  unfolding all_of
-  all-from-more k e = record {
-    within = omega arith;
-    all-is = h.all-is ∙ rw (add-one, drop-cons l i 0 k) (rw e);
-  }
-
-  pub all-from-stops : i < length l → p (get_or l i 0) ≡ false → false ≡ all_of p l
-  unfolding all_of
-  all-from-stops k e = sym (h.all-is ∙ rw (drop-cons l i 0 k) (rw e))
-
-  pub all-from-ends : length l ≤ i → true ≡ all_of p l
-  all-from-ends k = sym (h.all-is ∙ all-ends p l i k)
+-- as the library says it
+pub all_listed : (p : ℕ → Bool) (l : List ℕ) → all_of p l ≡ list_all p l
+unfolding all_of
+all_listed p [] = refl
+all_listed p (b ∷ l) = rw (all_listed p l)

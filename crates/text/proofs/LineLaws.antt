@@ -1,16 +1,14 @@
--- Laws of the lines of a file, by places of the file: a loop over a line, and a line's first byte. Assumes nothing.
+-- Laws of the lines of a file, by places of the file: a loop over a line. Assumes nothing.
 use mathlib.Core.Path.{◌≡◌, refl, ◌∙◌}
-use mathlib.Core.Bool.{false}
 use mathlib.Core.List.{List, [], ◌∷◌, ◌++◌}
 use Prim.Native.Nat.{ℕ, ◌+◌, ◌≤◌, ◌<◌}
 use native.Mathlib.Nat.{not-suc-le-zero}
 use native.Mathlib.Numerals.{add-one}
 use native.Mathlib.Omega.{arith}
-use lib.Dec.{eqb}
 use lib.ListN.{length, drop, get_or, drop_of_length-le}
-use lib.Seq.{slice, slice_empty, length-slice, drop-cons}
+use lib.Seq.{slice, length-slice, drop-cons}
 use borrow.Author.Tests.{eq-eqb, ne_eqb}
-use Rattle.text.specs.Lines.{last_line, lines_from, lines, is_comment}
+use Rattle.text.specs.Lines.{last_line, lines_from, lines}
 use Rattle.text.specs.Scanning.{LineEnds}
 use Rattle.text.proofs.Slices.{slice_more}
 
@@ -47,9 +45,6 @@ pub record InLine (f : List ℕ) (at i : ℕ) : Type 0 where
   pub within : i ≤ length f
   pub lines_are : lines (drop at f) ≡ lines_from (slice at i f) (drop i f)
 
-pub in_line_none : (f : List ℕ) (at : ℕ) → at < length f → InLine f at at
-in_line_none f at h = record { onward = omega arith; within = omega arith; lines_are = rw slice_empty }
-
 module _ {f : List ℕ} {at i : ℕ} (h : InLine f at i) where
   pub in_line_more : i < length f → (get_or f i 0 ≡ 10 → ⊥) → InLine f at (i + 1)
   in_line_more k n = record {
@@ -66,15 +61,3 @@ module _ {f : List ℕ} {at i : ℕ} (h : InLine f at i) where
   in_line_ends l k =
       let n : 0 < length (slice at i f) = rw (length-slice at i f h.within) (omega arith) in
       record { onward = h.onward; within = h.within; lines_are = h.lines_are ∙ lines_end f (slice at i f) i n k }
-
--- is_comment
-
-pub comment_none : (l : List ℕ) → length l ≡ 0 → is_comment l ≡ false
-unfolding is_comment
-comment_none [] h = refl
-comment_none (b ∷ l) h = absurd (omega arith)
-
-pub comment_first : (l : List ℕ) → 0 < length l → is_comment l ≡ eqb (get_or l 0 0) 59
-unfolding is_comment
-comment_first [] h = absurd (not-suc-le-zero h)
-comment_first (b ∷ l) h = refl

@@ -1,6 +1,6 @@
 -- Laws of the comparison of bytes, of lists and by places. Assumes nothing.
-use mathlib.Core.Path.{◌≡◌, refl, sym, ap, ◌∙◌}
-use mathlib.Core.Bool.{true, false, and-false}
+use mathlib.Core.Path.{◌≡◌, refl, sym, ◌∙◌}
+use mathlib.Core.Bool.{true, false}
 use mathlib.Core.List.{List, [], ◌∷◌}
 use Prim.Native.Nat.{ℕ, suc, ◌+◌, ◌≤◌, ◌<◌}
 use native.Mathlib.Nat.{add-suc, add-zero}
@@ -34,14 +34,6 @@ same_comm [] [] = refl
 same_comm [] (c ∷ m) = refl
 same_comm (b ∷ l) [] = refl
 same_comm (b ∷ l) (c ∷ m) = rw (eqb_comm b c, same_comm l m)
-
--- lists of different lengths differ
-pub same_lengths : (l m : List ℕ) → (length l ≡ length m → ⊥) → same_bytes l m ≡ false
-unfolding same_bytes
-same_lengths [] [] h = absurd (h refl)
-same_lengths [] (c ∷ m) h = refl
-same_lengths (b ∷ l) [] h = refl
-same_lengths (b ∷ l) (c ∷ m) h = rw (same_lengths l m (λ e. h (ap suc e)), and-false)
 
 -- the part of l from a to e is w if what is left of it behind its first i entries is what is left of w
 pub record SameFrom (l : List ℕ) (a e : ℕ) (w : List ℕ) (i : ℕ) : Type 0 where

@@ -1,7 +1,7 @@
--- Parts of a list: with one entry more, and of a given length. Assumes nothing.
+-- Parts of a list: with one entry more, of a given length, and lent. Assumes nothing.
 use mathlib.Core.Path.{◌≡◌, sym}
 use mathlib.Core.List.{List, [], ◌∷◌, ◌++◌}
-use Prim.Native.Nat.{ℕ, zero, suc, ◌+◌, ◌≤◌, ◌<◌}
+use Prim.Native.Nat.{ℕ, zero, suc, ◌+◌, ◌-◌, ◌≤◌, ◌<◌}
 use native.Mathlib.Nat.{zero-add, suc-add}
 use native.Mathlib.Numerals.{add-one}
 use native.Mathlib.Omega.{arith}
@@ -18,3 +18,7 @@ pub slice_take : (a n : ℕ) (l : List ℕ) → slice a (a + n) l ≡ take n (dr
 slice_take zero n l = rw zero-add
 slice_take (suc a) n [] = rw suc-add (sym (take-nil n))
 slice_take (suc a) n (x ∷ l) = rw suc-add (slice_take a n l)
+
+-- the part of a list that is lent, as `&l[a..e]`, is the slice
+pub part_slice : (l : List ℕ) (a e : ℕ) → a ≤ e → take (e - a) (drop a l) ≡ slice a e l
+part_slice l a e h = let s : a + (e - a) ≡ e = omega arith in rw s at (sym (slice_take a (e - a) l))

@@ -9,7 +9,7 @@ use native.Mathlib.Nat.{not-suc-le-zero, eq-or-lt_of_le}
 use native.Mathlib.Numerals.{add-one}
 use native.Mathlib.Omega.{arith}
 use lib.ListN.{length, drop, get_or, drop_of_length-le}
-use lib.Seq.{slice, slice_empty, length-slice, drop-cons}
+use lib.Seq.{slice, length-slice, drop-cons}
 use borrow.Author.Tests.{ne_eqb}
 use Rattle.text.specs.Bytes.{is_word_byte}
 use Rattle.text.specs.Tokens.{Token, ended, bracket, tokens_from, tokens}
@@ -51,9 +51,6 @@ pub record InWord (l : List ℕ) (at i : ℕ) : Type 0 where
   pub onward : at ≤ i
   pub within : i ≤ length l
   pub tokens_are : tokens (drop at l) ≡ tokens_from (slice at i l) (drop i l)
-
-pub in_word_none : (l : List ℕ) (at : ℕ) → at < length l → InWord l at at
-in_word_none l at h = record { onward = omega arith; within = omega arith; tokens_are = rw slice_empty }
 
 module _ {l : List ℕ} {at i : ℕ} (h : InWord l at i) where
   pub in_word_more : i < length l → is_word_byte (get_or l i 0) ≡ true → InWord l at (i + 1)
@@ -102,15 +99,9 @@ pub record Passed (l : List ℕ) (at i : ℕ) : Type 0 where
   pub onward : at ≤ i
   pub tokens_are : tokens (drop at l) ≡ tokens (drop i l)
 
-pub passed_none : (l : List ℕ) (at : ℕ) → Passed l at at
-passed_none l at = record { onward = omega arith; tokens_are = refl }
-
 module _ {l : List ℕ} {at i : ℕ} (h : Passed l at i) where
   pub passed-end : length l ≤ i → Found l at End
   passed-end k = record { tokens_are = h.tokens_are ∙ tokens_none l i k; inside = tt }
-
-  pub passed-word : {e : ℕ} → WordEnds l i e → Found l at (Word i e)
-  passed-word w = record { tokens_are = h.tokens_are ∙ w.tokens_are; inside = (h.onward, w.onward, w.within) }
 
   module _ (k : i < length l) where
     pub passed-opening : get_or l i 0 ≡ 40 → Found l at (Open (i + 1))
@@ -134,11 +125,8 @@ module _ {l : List ℕ} {i : ℕ} {r q : Next} (f : Found l i r) (e : r ≡ q) w
   pub found_inside : Inside l i q
   found_inside = subst (Inside l i) e f.inside
 
--- a word that was found has a byte, and lies in the line
+-- a word that was found lies in the line
 module _ {l : List ℕ} {i a e : ℕ} {r : Next} (f : Found l i r) (q : r ≡ Word a e) where
-  pub word-filled : a < e
-  word-filled = (found_inside f q).1
-
   pub word-le : a ≤ e
   word-le = let k = found_inside f q in omega arith
 

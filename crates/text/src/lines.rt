@@ -8,22 +8,18 @@ pub fn line_end(file: &[u8], at: usize) -> usize
     requires { at < length file.now }
     ensures { LineEnds file.now at result }
 {
-    let mut i = at;
-    while i < file.len() {
-        if file[i] == 10 {
+    for i in at..file.len() {
+        if file[i] == b'\n' {
             return i;
         }
-        i += 1;
     }
-    i
+    file.len()
 }
 
 // Whether a line is a comment.
+#[tactic(auto, unfolding(crate::specs::Lines::is_comment))]
 pub fn is_comment(l: &[u8]) -> bool
     ensures { result ≡ is_comment l.now }
 {
-    if l.len() == 0 {
-        return false;
-    }
-    l[0] == 59
+    l.first() == Some(&b';')
 }

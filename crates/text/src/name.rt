@@ -1,67 +1,44 @@
 // Names among the words of a line.
-ghost use Rattle.std.specs.Prelude.{◌≡◌, ◌≤◌, ◌<◌, length};
-ghost use Rattle.std.proofs.Math.Seq.{slice};
-ghost use Rattle.text.specs.Words.{begins_with_letter, is_name_behind};
-ghost use Rattle.text.specs.Scanning.{NameFound};
+ghost use Rattle.std.specs.Prelude.{◌≡◌};
+ghost use Rattle.text.specs.Words.{begins_with_letter};
+ghost use Rattle.text.specs.Scanning.{NameFound, NameNext};
 
-use crate::tokens::{Next, token};
+use crate::tokens::{Next, token, word_at};
 
-// The name that stands next in a line, with its first place and the place behind it, or none.
-#[derive(Clone, Copy)]
-pub enum NextName {
-    NoName,
-    Name(usize, usize),
-}
-
-// Whether the word from a to e is a name.
-pub fn is_name(l: &[u8], a: usize, e: usize) -> bool
-    requires { (a < e) × (e ≤ length l.now) }
-    ensures { result ≡ begins_with_letter (slice a e l.now) }
+// Whether a word is a name.
+#[tactic(auto, unfolding(crate::specs::Words::begins_with_letter))]
+pub fn is_name(w: &[u8]) -> bool
+    ensures { result ≡ begins_with_letter w.now }
 {
-    let b = l[a];
-    if b < 97 {
-        return false;
-    }
-    b <= 122
+    w.first().is_some_and(|b| b.is_ascii_lowercase())
 }
 
-// Whether the word from a to e, behind an opening bracket where so told, is a name.
-fn is_name_behind(l: &[u8], opened: bool, a: usize, e: usize) -> bool
-    requires { (a < e) × (e ≤ length l.now) }
-    ensures { result ≡ is_name_behind opened (slice a e l.now) }
+// The name that stands next at or behind a place: its first place and the place behind it.
+pub fn name_at(l: &[u8], at: usize) -> Option<(usize, usize)>
+    ensures { NameNext l.now at result }
 {
-    if opened {
-        return false;
-    }
-    is_name(l, a, e)
+    let (a, e) = word_at(l, at)?;
+    is_name(&l[a..e]).then_some((a, e))
 }
 
-// The first name at or behind a place: a word that begins with a letter and follows no opening bracket.
-pub fn next_name(l: &[u8], at: usize) -> NextName
+// The first name at or behind a place, with its first place and the place behind it: a word that begins with a letter
+// and follows no opening bracket.
+pub fn next_name(l: &[u8], at: usize) -> Option<(usize, usize)>
     ensures { NameFound l.now at result }
 {
     let mut i = at;
     let mut opened = false;
     loop {
-        match token(l, i) {
-            Next::End => {
-                return NextName::NoName;
-            }
-            Next::Open(n) => {
-                opened = true;
-                i = n;
-            }
-            Next::Close(n) => {
-                opened = false;
-                i = n;
-            }
+        (opened, i) = match token(l, i) {
+            Next::End => return None,
+            Next::Open(n) => (true, n),
+            Next::Close(n) => (false, n),
             Next::Word(a, e) => {
-                if is_name_behind(l, opened, a, e) {
-                    return NextName::Name(a, e);
+                if !opened && is_name(&l[a..e]) {
+                    return Some((a, e));
                 }
-                opened = false;
-                i = e;
+                (false, e)
             }
-        }
+        };
     }
 }

@@ -1,55 +1,31 @@
 // Numbers in decimal.
-ghost use Rattle.std.specs.Prelude.{◌≡◌, ◌-◌, ◌≤◌, length};
-ghost use Rattle.std.proofs.Math.Seq.{slice};
-ghost use Rattle.text.specs.Bytes.{is_digit};
+ghost use Rattle.std.specs.Prelude.{◌≤◌, length};
 ghost use Rattle.text.specs.Scanning.{DigitsRead, NumberRead};
 
-// What a word is as a number: none, or its value.
-#[derive(Clone, Copy)]
-pub enum Number {
-    NoNumber,
-    Value(usize),
-}
-
-// Whether a byte is a digit.
-fn is_digit(b: u8) -> bool
-    ensures { result ≡ is_digit b }
+// The number that digits stand for, at most 19 of them; none where there is no digit, or a byte that is none.
+pub fn digits_at(w: &[u8]) -> Option<usize>
+    requires { length w.now ≤ 19 }
+    ensures { DigitsRead w.now result }
 {
-    if b < 48 {
-        return false;
-    }
-    b <= 57
-}
-
-// The number that the digits from a to e stand for, at most 19 of them; none where there is no digit, or a byte that is
-// none.
-pub fn digits_at(l: &[u8], a: usize, e: usize) -> Number
-    requires { (a ≤ e) × (e ≤ length l.now) × (e - a ≤ 19) }
-    ensures { DigitsRead (slice a e l.now) result }
-{
-    if a == e {
-        return Number::NoNumber;
+    if w.is_empty() {
+        return None;
     }
     let mut n: usize = 0;
-    let mut i = a;
-    while i < e {
-        let b = l[i];
-        if !is_digit(b) {
-            return Number::NoNumber;
+    for b in w {
+        if !b.is_ascii_digit() {
+            return None;
         }
-        n = n * 10 + (b - 48) as usize;
-        i += 1;
+        n = n * 10 + (*b - b'0') as usize;
     }
-    Number::Value(n)
+    Some(n)
 }
 
-// The number that the word from a to e is, of one to seven digits.
-pub fn number_at(l: &[u8], a: usize, e: usize) -> Number
-    requires { (a ≤ e) × (e ≤ length l.now) }
-    ensures { NumberRead (slice a e l.now) result }
+// The number that a word is, of one to seven digits.
+pub fn number_at(w: &[u8]) -> Option<usize>
+    ensures { NumberRead w.now result }
 {
-    if 7 < e - a {
-        return Number::NoNumber;
+    if w.len() > 7 {
+        return None;
     }
-    digits_at(l, a, e)
+    digits_at(w)
 }

@@ -3,54 +3,32 @@
 // argument.
 #![tactic(auto)]
 
-ghost use Rattle.std.specs.Prelude.{length, take};
-ghost use Rattle.system.specs.Writing.{WritesText};
-ghost use Rattle.input.specs.Answering.{IsAnswered};
-ghost use Rattle.tidy.specs.Program.{Answered, IsTidy, TidyRead};
+ghost use Rattle.std.proofs.Common.{◌∙◌};
+ghost use Rattle.tidying.proofs.Theorems.{tidy_cut};
+ghost use Rattle.tidy.specs.Program.{IsTidy};
 
-use input::{Fault, Input, end, read_input};
-use std::io::{self, Read, Write};
-use system::{argument_count, tell_fault, write_whole};
+use input::{Operation, answer, tell};
+use std::io::{self, Write};
+use system::{argument_count, write_whole};
+use tidying::operation::tidy;
 
 // Room for a byte more than a file may have (refusal 2), and for every text (crates/tidying/specs/Claims.antt).
 const FILE_ROOM: usize = 32769;
 
 const TEXT_ROOM: usize = 32768;
 
-// Puts the text of a file in front of an output with room for every text, and answers its length.
-fn answer(file: &[u8], out: &mut [u8; TEXT_ROOM]) -> usize
-    ensures { Answered file.now result out.new }
-{
-    let a = tidying::operation::tidy(file, out);
-    a.length
-}
+struct Tidy;
 
-// Writes the text of the input. The buffer and what reading gave only say of which.
-fn write_text<W: Write>(
-    to: &mut W,
-    file: &[u8; FILE_ROOM],
-    input: Input,
-    text: &[u8],
-) -> io::Result<()>
-    requires { TidyRead (length file.now) (take input.count file.now) text.now }
-    ensures { WritesText result (W.contents to.old) (W.contents to.new) text.now }
-{
-    write_whole(to, text)
-}
+impl Operation for Tidy {
+    ghost is_text = { IsTidy };
 
-// Reads the input, and writes its text.
-fn run<R: Read, W: Write>(from: &mut R, to: &mut W) -> Result<(), Fault>
-    ensures { IsAnswered IsTidy (R.remaining from.old) result (W.contents to.old) (W.contents to.new) }
-{
-    let mut file = [0u8; FILE_ROOM];
-    let input = read_input(from, &mut file);
-    let n = input.count;
-    if let Some(error) = input.fault {
-        return Err(Fault::Input(error));
+    ghost cut = { λ i t k h e. e ∙ tidy_cut i k h };
+
+    fn write<W: Write>(&self, input: &[u8], to: &mut W) -> io::Result<()> {
+        let mut out = [0; TEXT_ROOM];
+        let length = tidy(input, &mut out).unwrap();
+        write_whole(to, &out[..length])
     }
-    let mut out = [0u8; TEXT_ROOM];
-    let length = answer(&file[..n], &mut out);
-    end(write_text(to, &file, input, &out[..length]))
 }
 
 fn main(rt: HostRuntime) {
@@ -62,13 +40,8 @@ fn main(rt: HostRuntime) {
         );
         return;
     }
-    match run(&mut rt.stdin(), &mut rt.stdout()) {
-        Ok(()) => {}
-        Err(Fault::Input(error)) => {
-            let _ = tell_fault(&mut errors, "tidy: standard input", error);
-        }
-        Err(Fault::Output(error)) => {
-            let _ = tell_fault(&mut errors, "tidy: standard output", error);
-        }
+    let mut file = [0; FILE_ROOM];
+    if let Err(fault) = answer(&Tidy, &mut rt.stdin(), &mut rt.stdout(), &mut file) {
+        let _ = tell(&mut errors, "tidy", fault);
     }
 }

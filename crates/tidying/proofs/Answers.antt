@@ -4,14 +4,15 @@ use mathlib.Core.List.{List}
 use Prim.Native.Nat.{ℕ}
 use Rattle.store.specs.Lent.{Lent, lent}
 use Rattle.store.specs.Tables.{case_said}
-use Rattle.reader.specs.declared.read.Answer as reader
-use Rattle.output.specs.declared.Answer as output
+use Rattle.std.specs.Prelude.{Result}
+use Rattle.refusals.specs.declared.Refusal.{Refusal}
+use Rattle.program.specs.declared.case.Case.{Case}
 use Rattle.report.specs.Operation.{ReportShown}
 use Rattle.report.proofs.Reported.{Accepted}
 use Rattle.tidying.specs.Text.{tables_said, written_text, tidy_said, tidy_text}
 use Rattle.tidying.specs.Operation.{Tidied}
 
-module _ {f : List ℕ} {u : Lent} {r : reader.Answer} (a : Accepted f u r) where
+module _ {f : List ℕ} {u : Lent} {c : Case} (a : Accepted f u c) where
   tables_are : u ≡ tables_said a.said
   tables_are = go a.clauses_are a.constraints_are a.formula-is a.names_are a.prices_are
     where
@@ -20,11 +21,11 @@ module _ {f : List ℕ} {u : Lent} {r : reader.Answer} (a : Accepted f u r) wher
           ≡ lent cl co fo na pr
       go e1 e2 e3 e4 e5 = rw (e1, e2, e3, e4, e5)
 
-  text-is : written_text r.found u ≡ tidy_text f
+  text-is : written_text c u ≡ tidy_text f
   unfolding tidy_said
   text-is =
       rw a.case-is (ap (written_text (case_said a.said)) tables_are) ∙ sym (a.text-is tidy_said)
 
-  pub accepted_tidied : {out outAfter : List ℕ} {q : output.Answer}
-      → ReportShown (written_text r.found u) out q outAfter → Tidied f out q outAfter
+  pub accepted_tidied : {out outAfter : List ℕ} {q : Result ℕ Refusal}
+      → ReportShown (written_text c u) out q outAfter → Tidied f out q outAfter
   accepted_tidied s = rw text-is at s

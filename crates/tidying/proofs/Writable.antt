@@ -27,9 +27,8 @@ use Rattle.reader.specs.Operation.{tables_fit}
 use Rattle.reader.proofs.Theorems.{accepted-names}
 use Rattle.writing.specs.Operation.{is_name_row, is_repeated, is_writable_atom, writable}
 use Rattle.report.specs.Report.{price_table, name_of}
-use Rattle.report.specs.Sizes.{FullTables}
 use Rattle.report.proofs.Accepted.{said-sound, said-named, said-table}
-use Rattle.report.proofs.Reported.{full_fit}
+use Rattle.report.proofs.Reported.{FullTables, full_fit}
 use Rattle.tidying.specs.Text.{tables_said}
 use Rattle.tidying.proofs.Priced.{accepted-price}
 

@@ -14,7 +14,9 @@ use Rattle.words.proofs.Tests.{and_true_r, lt-or-le}
 use Rattle.program.specs.declared.case.Case.{Case}
 use Rattle.store.specs.Lent.{Lent}
 use Rattle.reader.specs.Operation.{tables_fit}
-use Rattle.output.specs.declared.Answer.{Answer}
+use Rattle.std.specs.Prelude.{Result}
+use Rattle.refusals.specs.declared.Refusal.{Refusal}
+use Rattle.refusals.specs.Refusal.{number_of, refused_as}
 use Rattle.spelling.specs.Page.{some_long_line}
 use Rattle.wording.specs.Text.{refusal_text}
 use Rattle.wording.proofs.Lengths.{refusal-length}
@@ -78,35 +80,35 @@ module _ (c : Case) (t : Lent) where
   written-length = rw written_is (written_by case_refusal refl)
 
   -- the answer a of writing the case to the output
-  module _ {out u : List ℕ} {a : Answer} (h : WrittenAs c t out a u) where
+  module _ {out u : List ℕ} {a : Result ℕ Refusal} (h : WrittenAs c t out a u) where
     -- the refusal by the output's length alone
     abbrev short_refusal : ℕ
     short_refusal = report_refusal (case_text c t) (length out)
 
-    answered : a.refusal ≡ first_of case_refusal short_refusal
+    answered : refused_as a ≡ first_of case_refusal short_refusal
     answered = h.refusal_is ∙ by_output (length out)
 
     kept : case_refusal ≡ 0 → ReportShown (written_text c t) out a u
     kept e = rw (written_is, e) (rw (by_output (length out), e) at h)
 
     -- neither 0 nor 19 is a refusal of the case
-    not-refused : (m : ℕ) → case_refusal ≡ m → a.refusal ≡ first_of m short_refusal → (a.refusal ≡ 0) ⊎ (a.refusal ≡ 19)
-        → m ≡ 0
+    not-refused : (m : ℕ) → case_refusal ≡ m → refused_as a ≡ first_of m short_refusal
+        → (refused_as a ≡ 0) ⊎ (refused_as a ≡ 19) → m ≡ 0
     not-refused zero e f r = refl
     not-refused (suc m) e f r =
-        absurd (⊎_elim (λ (z : a.refusal ≡ 0). omega (arith, f, z))
-        (λ (z : a.refusal ≡ 19). three_checks (tables_fit t) (writable c t) text_fits (e ∙ sym f ∙ z)) r)
+        absurd (⊎_elim (λ (z : refused_as a ≡ 0). omega (arith, f, z))
+        (λ (z : refused_as a ≡ 19). three_checks (tables_fit t) (writable c t) text_fits (e ∙ sym f ∙ z)) r)
 
-    pub written_whole : a.refusal ≡ 0 → ReportShown (written_text c t) out a u
+    pub written_whole : refused_as a ≡ 0 → ReportShown (written_text c t) out a u
     written_whole z = kept (not-refused case_refusal refl answered (inl z))
 
-    pub written-short : a.refusal ≡ 19 → ReportShown (written_text c t) out a u
+    pub written-short : refused_as a ≡ 19 → ReportShown (written_text c t) out a u
     written-short z = kept (not-refused case_refusal refl answered (inr z))
 
     -- a refusal of the case is told
-    told : (m : ℕ) → case_refusal ≡ m → a.refusal ≡ first_of m short_refusal → (a.refusal ≡ 0 → ⊥)
-        → (a.refusal ≡ 19 → ⊥) → {q : Answer} {v : List ℕ} → ReportShown (refusal_text a.refusal 0) u q v
-        → ReportShown (written_text c t) out q v
+    told : (m : ℕ) → case_refusal ≡ m → refused_as a ≡ first_of m short_refusal → (refused_as a ≡ 0 → ⊥)
+        → (refused_as a ≡ 19 → ⊥) → {q : Result ℕ Refusal} {v : List ℕ}
+        → ReportShown (refusal_text (refused_as a) 0) u q v → ReportShown (written_text c t) out q v
     told zero e f x y s =
         absurd (⊎_elim (λ l. y (f ∙ refusal-short (case_text c t) (length out) l))
         (λ l. x (f ∙ refusal-none (case_text c t) (length out) l)) (lt-or-le (length out) (length (case_text c t))))
@@ -114,6 +116,32 @@ module _ (c : Case) (t : Lent) where
         let w : u ≡ out = rw (by_output (length out), e) at h.out_is in
         rw (written_is, e) (rw (f, w) at s)
 
-    pub written-refused : (a.refusal ≡ 0 → ⊥) → (a.refusal ≡ 19 → ⊥) → {q : Answer} {v : List ℕ}
-        → ReportShown (refusal_text a.refusal 0) u q v → ReportShown (written_text c t) out q v
+    pub written-refused : (refused_as a ≡ 0 → ⊥) → (refused_as a ≡ 19 → ⊥) → {q : Result ℕ Refusal} {v : List ℕ}
+        → ReportShown (refusal_text (refused_as a) 0) u q v → ReportShown (written_text c t) out q v
     written-refused = told case_refusal refl answered
+
+-- one refusal has the number 19
+pub number_short : (e : Refusal) → number_of e ≡ 19 → (e ≡ Refusal.ShortOutput → ⊥) → ⊥
+number_short Refusal.ShortOutput h k = k refl
+number_short Refusal.ShortTable h k = omega (arith, h)
+number_short Refusal.LongFile h k = omega (arith, h)
+number_short Refusal.LongLine h k = omega (arith, h)
+number_short Refusal.StrangeByte h k = omega (arith, h)
+number_short Refusal.NoForm h k = omega (arith, h)
+number_short Refusal.LongName h k = omega (arith, h)
+number_short Refusal.DeepFormula h k = omega (arith, h)
+number_short Refusal.ManyNames h k = omega (arith, h)
+number_short Refusal.ManyRules h k = omega (arith, h)
+number_short Refusal.ManyQueries h k = omega (arith, h)
+number_short Refusal.NoQuery h k = omega (arith, h)
+number_short Refusal.ManySettings h k = omega (arith, h)
+number_short Refusal.Unsound h k = omega (arith, h)
+number_short Refusal.NoSetting h k = omega (arith, h)
+number_short Refusal.ShortWork h k = omega (arith, h)
+number_short Refusal.HighPrice h k = omega (arith, h)
+number_short Refusal.SecondCost h k = omega (arith, h)
+number_short Refusal.LongText h k = omega (arith, h)
+number_short Refusal.ManyLiterals h k = omega (arith, h)
+number_short Refusal.SecondEdition h k = omega (arith, h)
+number_short Refusal.NoLoad h k = omega (arith, h)
+number_short Refusal.ShortLoadOutput h k = omega (arith, h)

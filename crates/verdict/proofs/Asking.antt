@@ -7,7 +7,7 @@ use mathlib.Core.Logic.{⊎_elim}
 use Prim.Native.Nat.{ℕ, ◌≤◌, ◌<◌}
 use native.Mathlib.Omega.{arith}
 use lib.Bits.{bit_or}
-use lib.ListN.{length, get_or}
+use lib.ListN.{get_or}
 use Rattle.words.specs.Bits.{has, word}
 use Rattle.words.specs.OneBit.{BitOf}
 use Rattle.words.proofs.Tests.{Gives, or_gives, and_true_l, lt-or-le}
@@ -15,7 +15,7 @@ use Rattle.words.proofs.Bits.{has-or, has_above}
 use Rattle.words.proofs.Words.{has_word, word_lt}
 use Rattle.logic.specs.declared.value.Value.{Value}
 use Rattle.logic.specs.Nodes.{one_formula}
-use Rattle.program.specs.Case.{formula_size, part_size, nodes_of}
+use Rattle.program.specs.Case.{part_size, nodes_of}
 use Rattle.program.specs.Sound.{sound_formula}
 use Rattle.program.proofs.Soundness.{formula-few, formula-one}
 use Rattle.explanation.specs.Judge.{Judge}
@@ -40,7 +40,6 @@ module _ {ns fo : List ℕ} {k : Counts} (h : Askable ns fo k) where
   pub askable-next : (v : ℕ → Value) → Askable ns fo (counts_with k v)
   askable-next v = record {
     atoms = h.atoms;
-    table-long = h.table-long;
     asked-few = λ q b. h.asked-few q (before b);
     asked-sound = λ q b. h.asked-sound q (before b);
   }
@@ -74,11 +73,10 @@ module _ {J : Judge} {cs : List ℕ} {s : ℕ} {k : Counts} (h : Counted J cs s 
       ⊎_elim (λ (l : q < J.queries). l) (λ (l : J.queries ≤ q). absurd (false≢true (sym (none-past q l) ∙ e)))
       (lt-or-le q J.queries)
 
-  pub askable-counted : (a : ℕ) (ns fo : List ℕ) → J.queries ≤ 16 → formula_size ≤ length fo
+  pub askable-counted : (a : ℕ) (ns fo : List ℕ) → J.queries ≤ 16
       → ((q : ℕ) → q < J.queries → sound_formula a ns fo q ≡ true) → Askable ns fo k
-  askable-counted a ns fo few long each = record {
+  askable-counted a ns fo few each = record {
     atoms = a;
-    table-long = long;
     asked-few = λ q b. omega (arith, asked-below q b.there);
     asked-sound = λ q b. each q (asked-below q b.there);
   }

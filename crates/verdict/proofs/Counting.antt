@@ -16,9 +16,10 @@ use Rattle.explanation.specs.Judge.{Judge}
 use Rattle.explanation.specs.Subset.{minimal}
 use Rattle.explanation.proofs.Minimal.{minimal_alike}
 use Rattle.verdict.specs.declared.counts.Counts.{Counts}
-use Rattle.verdict.specs.Walk.{only_if, minimals_below, true_in_all, false_in_all, verdict_by, verdict_of, verdicts_of}
+use Rattle.verdict.specs.Walk.{only_if, minimals_below, passes_in_all, true_in_all, false_in_all}
+use Rattle.verdict.specs.Walk.{verdict_by, verdict_of, verdicts_of}
 use Rattle.verdict.specs.Counting.{no_counts, counts_with, verdicts_by, Counted}
-use Rattle.verdict.proofs.Verdicts.{true_in_none, false_in_none, all_true-more, all_false-more, verdict_is}
+use Rattle.verdict.proofs.Verdicts.{passes_in_none, passes_in_more, verdict_is}
 
 module _ (J : Judge) (cs : List ℕ) where
   -- ---- the minimal settings with one setting more
@@ -54,8 +55,8 @@ module _ (J : Judge) (cs : List ℕ) where
   unfolding minimals_below
   counted_none = record {
     minimal-is = refl;
-    follows_are = word_ext J.queries _ _ (λ q l. sym (true_in_none J q));
-    denied_are = word_ext J.queries _ _ (λ q l. sym (false_in_none J q));
+    follows_are = word_ext J.queries _ _ (λ q l. sym (passes_in_none is_true J q));
+    denied_are = word_ext J.queries _ _ (λ q l. sym (passes_in_none is_false J q));
   }
 
 -- ---- judges that say of the same settings that they explain
@@ -64,15 +65,6 @@ pub minimals_alike : (J K : Judge) → ((s : ℕ) → J.explains s ≡ K.explain
 unfolding minimals_below
 minimals_alike J K e cs zero = refl
 minimals_alike J K e cs (suc n) = rw (minimals_alike J K e cs n, minimal_alike J K e cs n)
-
--- a test that passes over a list, kept in a word of n bits, with one entry more
-kept_more : (n : ℕ) (w : ℕ) (all all₁ here now : ℕ → Bool) → n ≤ 64 → w ≡ word n all
-    → ((q : ℕ) → all₁ q ≡ (all q && now q)) → ((q : ℕ) → here q ≡ now q)
-    → word 64 (λ q. has w q && here q) ≡ word n all₁
-kept_more n w all all₁ here now h e f g =
-    ap (λ (x : ℕ). word 64 (λ q. has x q && here q)) e
-    ∙ word_kept n 64 all here h
-    ∙ word_ext n _ _ (λ q l. ap (λ (b : Bool). all q && b) (g q) ∙ sym (f q))
 
 module _ {J : Judge} {cs : List ℕ} {s : ℕ} {k : Counts} (h : Counted J cs s k) where
   pub counted-few : k.minimal ≤ s
@@ -89,23 +81,24 @@ module _ {J : Judge} {cs : List ℕ} {s : ℕ} {k : Counts} (h : Counted J cs s 
 
   -- a minimal setting more, under which query q has the value v q
   module _ (v : ℕ → Value) (e : minimal J cs s ≡ true) (l : J.queries ≤ 64) (f : (q : ℕ) → v q ≡ J.value q s) where
-    follows_more : (counts_with k v).follows ≡ word J.queries (λ q. true_in_all J q (minimals_below J cs (s + 1)))
-    follows_more =
-        rw (minimals-more J cs s e)
-        (kept_more J.queries k.follows _ _ (λ q. is_true (v q)) (λ q. is_true (J.value q s)) l h.follows_are
-        (λ q. all_true-more J q s (minimals_below J cs s)) (λ q. ap is_true (f q)))
-
-    denied_more : (counts_with k v).denied ≡ word J.queries (λ q. false_in_all J q (minimals_below J cs (s + 1)))
-    denied_more =
-        rw (minimals-more J cs s e)
-        (kept_more J.queries k.denied _ _ (λ q. is_false (v q)) (λ q. is_false (J.value q s)) l h.denied_are
-        (λ q. all_false-more J q s (minimals_below J cs s)) (λ q. ap is_false (f q)))
+    -- a word w of the queries whose values pass the test, with those of the setting more
+    kept_more : (test : Value → Bool) {w : ℕ}
+        → w ≡ word J.queries (λ q. passes_in_all test J q (minimals_below J cs s))
+        → word 64 (λ q. has w q && test (v q))
+        ≡ word J.queries (λ q. passes_in_all test J q (minimals_below J cs (s + 1)))
+    kept_more test {w} g =
+        let ms = minimals_below J cs s in
+        ap (λ (x : ℕ). word 64 (λ q. has x q && test (v q))) g
+        ∙ word_kept J.queries 64 (λ q. passes_in_all test J q ms) (λ q. test (v q)) l
+        ∙ word_ext J.queries _ _ (λ q b.
+        ap (λ (x : Value). passes_in_all test J q ms && test x) (f q) ∙ sym (passes_in_more test J q s ms))
+        ∙ rw (minimals-more J cs s e)
 
     pub counted-taken : Counted J cs (s + 1) (counts_with k v)
     counted-taken = record {
       minimal-is = rw (minimals-more J cs s e, length-append) (omega (arith, h.minimal-is));
-      follows_are = follows_more;
-      denied_are = denied_more;
+      follows_are = kept_more is_true h.follows_are;
+      denied_are = kept_more is_false h.denied_are;
     }
 
   -- ---- the verdicts

@@ -6,14 +6,13 @@ use mathlib.Core.List.{List, ◌++◌}
 use Prim.Native.Nat.{ℕ, ◌+◌, ◌-◌, ◌≤◌, ◌<◌, min}
 use native.Mathlib.Omega.{arith}
 use lib.ListN.{length, take, drop, set, length-append, length-take, length-drop}
-use Rattle.table.proofs.Stores.{rest_from, rest_back}
 use Rattle.explanation.specs.Judge.{Judge}
 use Rattle.explanation.specs.Subset.{minimal}
 use Rattle.verdict.specs.Walk.{byte_of, bytes_below, minimals_below}
 use Rattle.verdict.specs.Visited.{Left}
 use Rattle.verdict.proofs.Bytes.{bytes-length, bytes-more}
 use Rattle.verdict.proofs.Counting.{minimals-more, minimals-same}
-use Rattle.verdict.proofs.Lists.{lent_length, put_back, list_more}
+use Rattle.verdict.proofs.Lists.{list_more}
 
 pub left-start : (J : Judge) (cs list work : List ℕ) → Left J cs list work 0 0 list work
 unfolding bytes_below minimals_below
@@ -47,22 +46,19 @@ module _ {J : Judge} {cs list₀ work₀ : List ℕ} {s w : ℕ} {list work : Li
         let same = minimals-same J cs s f in
         record { work_is = work_more; list_is = rw same p.list_is; written_is = rw same p.written_is }
 
-    -- the list's free rest was lent to `put`, which took k slots and left ys
-    module _ (f : minimal J cs s ≡ true) (k : ℕ) (ys : List ℕ) (ek : k ≡ min 1 (length (rest_from w list)))
-        (ey : ys ≡ set (rest_from w list) 0 s) where
-      slots_are : k ≡ min 1 (length list₀ - w)
-      slots_are = omega (arith, ek, lent_length w list, list_kept)
-
-      list_longer : rest_back w list ys ≡ take (w + k) (minimals_below J cs (s + 1)) ++ drop (w + k) list₀
+    -- w₁ slots are written and the list is list₁ then
+    module _ (f : minimal J cs s ≡ true) {w₁ : ℕ} {list₁ : List ℕ} (ew : w₁ ≡ w + min 1 (length list - w))
+        (el : list₁ ≡ set list w s) where
+      list_longer : list₁ ≡ take w₁ (minimals_below J cs (s + 1)) ++ drop w₁ list₀
       list_longer =
-          put_back w list s ys ey
+          el
           ∙ ap (λ (l : List ℕ). set l w s) p.list_is
-          ∙ list_more (minimals_below J cs s) list₀ w s k p.written_is slots_are
+          ∙ list_more (minimals_below J cs s) list₀ w s w₁ p.written_is (omega (arith, ew, list_kept))
           ∙ rw (minimals-more J cs s f)
 
-      pub left-taken : Left J cs list₀ work₀ (s + 1) (w + k) (rest_back w list ys) (set work s b)
+      pub left-taken : Left J cs list₀ work₀ (s + 1) w₁ list₁ (set work s b)
       left-taken = record {
         work_is = work_more;
         list_is = list_longer;
-        written_is = rw (minimals-more J cs s f, length-append) (omega (arith, p.written_is, slots_are));
+        written_is = rw (minimals-more J cs s f, length-append) (omega (arith, p.written_is, ew, list_kept));
       }

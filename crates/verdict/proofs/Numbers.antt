@@ -2,8 +2,7 @@
 use mathlib.Core.Path.{◌≡◌, sym, ap, ◌∙◌}
 use mathlib.Core.Bool.{Bool}
 use mathlib.Core.List.{List, [], ◌∷◌, ◌++◌, map, map-append}
-use Prim.Native.Nat.{ℕ, ◌+◌, ◌≤◌, ◌<◌}
-use native.Mathlib.Nat.{le_antisymm}
+use Prim.Native.Nat.{ℕ, ◌+◌, ◌<◌}
 use native.Mathlib.Omega.{arith}
 use lib.ListN.{length, set, replicate}
 use Rattle.words.specs.Bits.{has}
@@ -29,26 +28,19 @@ numbers_more : (k : Counts) (q : ℕ) → numbers_by k q ++ (number_by k q ∷ [
 numbers_more k q =
     sym (map-append verdict_number (verdicts_by k q) _) ∙ sym (ap (map verdict_number) (list_of-more q _))
 
--- the numbers of the first q of n queries are stored
-pub record Numbered (k : Counts) (n : ℕ) (numbers : List ℕ) (q : ℕ) : Type 0 where
-  pub low : q ≤ n
-  pub numbers_are : numbers ≡ padded 16 (numbers_by k q)
+-- the numbers of the first q queries are stored
+abbrev pub Numbered : Counts → List ℕ → ℕ → Type 0
+Numbered k numbers q = numbers ≡ padded 16 (numbers_by k q)
 
-pub numbered-none : (k : Counts) (n : ℕ) → Numbered k n (replicate 16 0) 0
-numbered-none k n = record { low = omega arith; numbers_are = rw list_of-none (padded-zeros 16) }
+pub numbered-none : (k : Counts) → Numbered k (replicate 16 0) 0
+numbered-none k = rw list_of-none (padded-zeros 16)
 
-module _ {k : Counts} {n : ℕ} {numbers : List ℕ} {q : ℕ} (h : Numbered k n numbers q) where
-  -- the verdict v on query q has the number x
-  pub numbered_more : q < n → n ≤ 16 → {t f : Bool} → t ≡ has k.follows q → f ≡ has k.denied q → {v : Verdict}
-      → v ≡ verdict_by k.minimal t f → {x : ℕ} → x ≡ verdict_number v → Numbered k n (set numbers q x) (q + 1)
-  numbered_more l few et ef ev ex = record {
-    low = omega arith;
-    numbers_are =
-        let e = ex ∙ ap verdict_number (rw (et, ef) at ev) in
-        rw (h.numbers_are, e, ← numbers_more k q)
-        (ap (λ (i : ℕ). set (padded 16 (numbers_by k q)) i (number_by k q)) (sym (numbers-length k q))
-        ∙ padded_push 16 (numbers_by k q) (number_by k q) (omega (arith, numbers-length k q)));
-  }
-
-  pub numbered-all : n ≤ q → numbers ≡ padded 16 (numbers_by k n)
-  numbered-all l = h.numbers_are ∙ ap (λ (i : ℕ). padded 16 (numbers_by k i)) (le_antisymm h.low l)
+-- the verdict v on query q has the number x
+pub numbered_more : (k : Counts) {numbers : List ℕ} {q : ℕ} → Numbered k numbers q → q < 16 → {t f : Bool}
+    → t ≡ has k.follows q → f ≡ has k.denied q → {v : Verdict} → v ≡ verdict_by k.minimal t f → {x : ℕ}
+    → x ≡ verdict_number v → Numbered k (set numbers q x) (q + 1)
+numbered_more k {numbers} {q} h l et ef ev ex =
+    let e = ex ∙ ap verdict_number (rw (et, ef) at ev) in
+    rw (h, e, ← numbers_more k q)
+    (ap (λ (i : ℕ). set (padded 16 (numbers_by k q)) i (number_by k q)) (sym (numbers-length k q))
+    ∙ padded_push 16 (numbers_by k q) (number_by k q) (omega (arith, numbers-length k q)))

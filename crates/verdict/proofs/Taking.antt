@@ -3,11 +3,10 @@
 use mathlib.Core.Path.{◌≡◌, sym, ap, subst, ◌∙◌}
 use mathlib.Core.Bool.{Bool, true, false}
 use mathlib.Core.List.{List}
-use Prim.Native.Nat.{ℕ, ◌+◌, ◌≤◌, ◌<◌, min}
+use Prim.Native.Nat.{ℕ, ◌+◌, ◌-◌, ◌≤◌, ◌<◌, min}
 use native.Mathlib.Omega.{arith}
 use lib.ListN.{length, set, length-set}
 use Rattle.logic.specs.declared.interpretation.Interpretation.{Interpretation}
-use Rattle.table.proofs.Stores.{rest_from, rest_back}
 use Rattle.explanation.specs.Judge.{Judge}
 use Rattle.explanation.specs.Subset.{some_proper}
 use Rattle.explanation.proofs.Minimal.{minimal-other, minimal_by}
@@ -20,30 +19,17 @@ use Rattle.verdict.proofs.Asking.{askable-next}
 use Rattle.verdict.proofs.Bytes.{byte_by}
 use Rattle.verdict.proofs.Counting.{counted-passed, counted-taken}
 use Rattle.verdict.proofs.Leaving.{left_passed, left-taken}
-use Rattle.verdict.proofs.Lists.{lent_length, put_back}
-
--- what is found with one minimal setting more, which took k slots; n are the counts with it
-abbrev pub found_with : Found → Counts → ℕ → Found
-found_with f n k = record { counts = n; written = f.written + k }
 
 -- ---- room for the next
 module _ {ns fo : List ℕ} {s : ℕ} {f : Found} {list : List ℕ} (r : Room ns fo s f list) where
-  pub room-passed : Room ns fo (s + 1) f list
-  room-passed = record {
-    free = r.free;
-    few = omega (arith, r.few);
-    listed_few = omega (arith, r.listed_few);
-    askable = r.askable;
-  }
-
-  pub room-taken : (i : Interpretation) (n : Counts) → n ≡ counts_with f.counts (query_under i ns fo)
-      → (k : ℕ) (ys : List ℕ) → k ≡ min 1 (length (rest_from f.written list))
-      → ys ≡ set (rest_from f.written list) 0 s
-      → Room ns fo (s + 1) (found_with f n k) (rest_back f.written list ys)
-  room-taken i n en k ys e q =
-      let h = ap length (put_back f.written list s ys q) ∙ length-set list f.written s in
+  -- the counts are n and w slots are written then
+  pub room-taken : (i : Interpretation) {n : Counts} → n ≡ counts_with f.counts (query_under i ns fo)
+      → {w : ℕ} {list₁ : List ℕ} → w ≡ f.written + min 1 (length list - f.written) → list₁ ≡ set list f.written s
+      → Room ns fo (s + 1) (record { counts = n; written = w }) list₁
+  room-taken i en e q =
+      let h = ap length q ∙ length-set list f.written s in
       record {
-        free = omega (arith, e, lent_length f.written list, h, r.free);
+        free = omega (arith, e, h, r.free);
         few = omega (arith, r.few, ap (λ (m : Counts). m.minimal) en);
         listed_few = omega (arith, r.listed_few, e);
         askable = subst (Askable ns fo) (sym en) (askable-next r.askable (query_under i ns fo));
@@ -52,8 +38,7 @@ module _ {ns fo : List ℕ} {s : ℕ} {f : Found} {list : List ℕ} (r : Room ns
 -- ---- setting s, of which e says whether it explains, and larger whether a proper subset does
 module _ {J : Judge} {cs list₀ work₀ : List ℕ} {s : ℕ} {f : Found} {list work : List ℕ}
     (p : Visited J cs list₀ work₀ s f list work) (within : s < length work)
-    {ns fo : List ℕ} {e : Bool} {i : Interpretation} (t : Tells J ns fo s e i)
-    {larger : Bool} (l : larger ≡ some_proper J.explains cs s) where
+    {ns fo : List ℕ} {e : Bool} {i : Interpretation} (t : Tells J ns fo s e i) where
   pub take-other : e ≡ false → Visited J cs list₀ work₀ (s + 1) f list (set work s 0)
   take-other h =
       let q = sym t.explains-is ∙ h in
@@ -63,8 +48,9 @@ module _ {J : Judge} {cs list₀ work₀ : List ℕ} {s : ℕ} {f : Found} {list
         left = left_passed p.left within 0 (byte_by J cs s false false q m) m;
       }
 
-  pub take_larger : e ≡ true → larger ≡ true → Visited J cs list₀ work₀ (s + 1) f list (set work s 1)
-  take_larger h g =
+  pub take_larger : {larger : Bool} → larger ≡ some_proper J.explains cs s → e ≡ true → larger ≡ true
+      → Visited J cs list₀ work₀ (s + 1) f list (set work s 1)
+  take_larger l h g =
       let q = sym t.explains-is ∙ h in
       let m = minimal_by J cs s true q (sym l ∙ g) in
       record {
@@ -72,17 +58,16 @@ module _ {J : Judge} {cs list₀ work₀ : List ℕ} {s : ℕ} {f : Found} {list
         left = left_passed p.left within 1 (byte_by J cs s true false q m) m;
       }
 
-  -- the list's free rest was lent to `put`, which took k slots and left ys
-  pub take-minimal : e ≡ true → larger ≡ false → (n : Counts)
-      → n ≡ counts_with f.counts (query_under i ns fo) → (k : ℕ) (ys : List ℕ)
-      → k ≡ min 1 (length (rest_from f.written list))
-      → ys ≡ set (rest_from f.written list) 0 s
-      → Visited J cs list₀ work₀ (s + 1) (found_with f n k) (rest_back f.written list ys) (set work s 2)
-  take-minimal h g n en k ys ek ey =
+  -- the counts are n, w slots are written and the list is list₁ then
+  pub take-minimal : {larger : Bool} → larger ≡ some_proper J.explains cs s → e ≡ true → larger ≡ false
+      → {n : Counts} → n ≡ counts_with f.counts (query_under i ns fo)
+      → {w : ℕ} {list₁ : List ℕ} → w ≡ f.written + min 1 (length list - f.written) → list₁ ≡ set list f.written s
+      → Visited J cs list₀ work₀ (s + 1) (record { counts = n; written = w }) list₁ (set work s 2)
+  take-minimal l h g en ew el =
       let q = sym t.explains-is ∙ h in
       let m = minimal_by J cs s false q (sym l ∙ g) in
       let few : J.queries ≤ 64 = omega (arith, t.queries-few) in
       record {
         counted = subst (Counted J cs (s + 1)) (sym en) (counted-taken p.counted _ m few t.values_are);
-        left = left-taken p.left within 2 (byte_by J cs s true true q m) m k ys ek ey;
+        left = left-taken p.left within 2 (byte_by J cs s true true q m) m ew el;
       }

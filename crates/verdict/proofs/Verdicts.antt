@@ -1,78 +1,49 @@
--- The verdict by its tests, the tests over a list of minimal settings and one more, and the list of the verdicts.
--- Assumes nothing.
+-- A test over a list of minimal settings and one more, and the list of the verdicts. Assumes nothing.
 use mathlib.Core.Path.{◌≡◌, refl, ap₂}
-use mathlib.Core.Bool.{Bool, true, false, ◌&&◌, and-true, and_assoc}
+use mathlib.Core.Bool.{Bool, true, ◌&&◌, and-true, and_assoc}
 use mathlib.Core.List.{List, [], ◌∷◌, ◌++◌}
-use Prim.Native.Nat.{ℕ, zero, suc, ◌<◌}
+use Prim.Native.Nat.{ℕ, ◌<◌}
 use lib.ListN.{length, get_or}
 use Rattle.words.proofs.Lists.{list_of-length, list_of-at, list_of-one}
+use Rattle.logic.specs.declared.value.Value.{Value}
 use Rattle.logic.specs.Value.{is_true, is_false}
-use Rattle.verdict.specs.declared.verdict.Verdict.TheVariants.{Unexplained, Follows, Denied, Open}
+use Rattle.verdict.specs.declared.verdict.Verdict.TheVariants.{Unexplained}
 use Rattle.explanation.specs.Judge.{Judge}
-use Rattle.verdict.specs.Walk.{true_in_all, false_in_all, verdict_by, verdict_of, verdicts_of}
+use Rattle.verdict.specs.Walk.{passes_in_all, true_in_all, false_in_all, verdict_by, verdict_of, verdicts_of}
 
--- ---- of one or more minimal settings
-pub verdict_follows : (m : ℕ) (t f : Bool) → (m ≡ 0 → ⊥) → t ≡ true → Follows ≡ verdict_by m t f
-verdict_follows zero t f n p = absurd (n refl)
-verdict_follows (suc m) t f n p = rw p
+-- ---- a test of the value of query q
+module _ (test : Value → Bool) (J : Judge) (q : ℕ) where
+  pub passes_in_none : passes_in_all test J q [] ≡ true
+  unfolding passes_in_all
+  passes_in_none = refl
 
-pub verdict_denied : (m : ℕ) (t f : Bool) → (m ≡ 0 → ⊥) → t ≡ false → f ≡ true → Denied ≡ verdict_by m t f
-verdict_denied zero t f n p q = absurd (n refl)
-verdict_denied (suc m) t f n p q = rw (p, q)
+  pub passes_in_next : (s : ℕ) (l : List ℕ)
+      → passes_in_all test J q (s ∷ l) ≡ (test (J.value q s) && passes_in_all test J q l)
+  unfolding passes_in_all
+  passes_in_next s l = refl
 
-pub verdict_open : (m : ℕ) (t f : Bool) → (m ≡ 0 → ⊥) → t ≡ false → f ≡ false → Open ≡ verdict_by m t f
-verdict_open zero t f n p q = absurd (n refl)
-verdict_open (suc m) t f n p q = rw (p, q)
+  pub passes_in_more : (s : ℕ) (l : List ℕ)
+      → passes_in_all test J q (l ++ (s ∷ [])) ≡ (passes_in_all test J q l && test (J.value q s))
+  unfolding passes_in_all
+  passes_in_more s [] = and-true (test (J.value q s))
+  passes_in_more s (x ∷ l) = rw (passes_in_more s l, and_assoc)
 
--- ---- on one query
-module _ (J : Judge) (q : ℕ) where
-  pub verdict_is : (l : List ℕ) → verdict_of J q l ≡ verdict_by (length l) (true_in_all J q l) (false_in_all J q l)
-  unfolding verdict_of
-  verdict_is l = refl
-
-  pub true_in_none : true_in_all J q [] ≡ true
-  unfolding true_in_all
-  true_in_none = refl
-
-  pub true_in_next : (s : ℕ) (l : List ℕ) → true_in_all J q (s ∷ l) ≡ (is_true (J.value q s) && true_in_all J q l)
-  unfolding true_in_all
-  true_in_next s l = refl
-
-  pub false_in_none : false_in_all J q [] ≡ true
-  unfolding false_in_all
-  false_in_none = refl
-
-  pub false_in_next : (s : ℕ) (l : List ℕ) → false_in_all J q (s ∷ l) ≡ (is_false (J.value q s) && false_in_all J q l)
-  unfolding false_in_all
-  false_in_next s l = refl
-
-  pub all_true-more : (s : ℕ) (l : List ℕ)
-      → true_in_all J q (l ++ (s ∷ [])) ≡ (true_in_all J q l && is_true (J.value q s))
-  unfolding true_in_all
-  all_true-more s [] = and-true (is_true (J.value q s))
-  all_true-more s (x ∷ l) = rw (all_true-more s l, and_assoc)
-
-  pub all_false-more : (s : ℕ) (l : List ℕ)
-      → false_in_all J q (l ++ (s ∷ [])) ≡ (false_in_all J q l && is_false (J.value q s))
-  unfolding false_in_all
-  all_false-more s [] = and-true (is_false (J.value q s))
-  all_false-more s (x ∷ l) = rw (all_false-more s l, and_assoc)
+-- ---- the verdict on query q
+pub verdict_is : (J : Judge) (q : ℕ) (l : List ℕ)
+    → verdict_of J q l ≡ verdict_by (length l) (true_in_all J q l) (false_in_all J q l)
+unfolding verdict_of
+verdict_is J q l = refl
 
 -- ---- query p of one judge and query q of another, with the same values
 module _ (J K : Judge) (p q : ℕ) (e : (s : ℕ) → J.value p s ≡ K.value q s) where
-  true_alike : (l : List ℕ) → true_in_all J p l ≡ true_in_all K q l
-  unfolding true_in_all
-  true_alike [] = refl
-  true_alike (s ∷ l) = rw (e s, true_alike l)
-
-  false_alike : (l : List ℕ) → false_in_all J p l ≡ false_in_all K q l
-  unfolding false_in_all
-  false_alike [] = refl
-  false_alike (s ∷ l) = rw (e s, false_alike l)
+  passes_alike : (test : Value → Bool) (l : List ℕ) → passes_in_all test J p l ≡ passes_in_all test K q l
+  unfolding passes_in_all
+  passes_alike test [] = refl
+  passes_alike test (s ∷ l) = rw (e s, passes_alike test l)
 
   pub verdict_alike : (l : List ℕ) → verdict_of J p l ≡ verdict_of K q l
   unfolding verdict_of
-  verdict_alike l = ap₂ (verdict_by (length l)) (true_alike l) (false_alike l)
+  verdict_alike l = ap₂ (verdict_by (length l)) (passes_alike is_true l) (passes_alike is_false l)
 
 -- ---- on all queries
 module _ (J : Judge) (l : List ℕ) where

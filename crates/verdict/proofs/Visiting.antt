@@ -1,8 +1,8 @@
 -- The lanes of a block visited one by one. Assumes nothing.
-use mathlib.Core.Path.{◌≡◌, refl, sym, subst, ◌∙◌}
+use mathlib.Core.Path.{◌≡◌, subst, ◌∙◌}
 use mathlib.Core.Bool.{Bool}
 use mathlib.Core.List.{List}
-use Prim.Native.Nat.{ℕ, ◌+◌, ◌≤◌, ◌<◌}
+use Prim.Native.Nat.{ℕ, ◌+◌, ◌<◌}
 use native.Mathlib.Omega.{arith}
 use lib.ListN.{length}
 use Rattle.words.specs.Bits.{has}
@@ -22,7 +22,6 @@ Steps ns fo x y t f j s r list work r₁ list₁ work₁ = (J : Judge) (cs ls ws
 -- j of the first m settings from first on are visited
 pub record Visiting (ns fo : List ℕ) (e larger : ℕ) (t f : List ℕ) (m first : ℕ) (r₀ : Found)
     (list₀ work₀ list work : List ℕ) (r : Found) (j : ℕ) : Type 0 where
-  pub low : j ≤ m
   pub list_size : length list ≡ length list₀
   pub work_size : length work ≡ length work₀
   pub room : Room ns fo (first + j) r list
@@ -30,22 +29,10 @@ pub record Visiting (ns fo : List ℕ) (e larger : ℕ) (t f : List ℕ) (m firs
       → Visited J cs ls ws first r₀ list₀ work₀ → Visited J cs ls ws (first + j) r list work
 
 module _ {ns fo : List ℕ} {e larger : ℕ} {t f : List ℕ} {m first : ℕ} {r₀ : Found} {list₀ work₀ : List ℕ} where
-  pub visiting_start : Room ns fo first r₀ list₀
-      → Visiting ns fo e larger t f m first r₀ list₀ work₀ list₀ work₀ r₀ 0
-  visiting_start h =
-      let none : first ≡ first + 0 = omega arith in
-      record {
-        low = omega arith;
-        list_size = refl;
-        work_size = refl;
-        room = subst (λ (k : ℕ). Room ns fo k r₀ list₀) none h;
-        visited = λ J cs ls ws s v. subst (λ (k : ℕ). Visited J cs ls ws k r₀ list₀ work₀) none v;
-      }
-
   module _ {list work : List ℕ} {r : Found} {j : ℕ}
       (v : Visiting ns fo e larger t f m first r₀ list₀ work₀ list work r j) where
-    module _ (l : j < m) {list₁ work₁ : List ℕ} {r₁ : Found} {x y : Bool} (p : x ≡ has e j) (q : y ≡ has larger j)
-        (step : Steps ns fo x y t f j (first + j) r list work r₁ list₁ work₁) where
+    module _ (l : j < m) {list₁ work₁ : List ℕ} {r₁ : Found}
+        (step : Steps ns fo (has e j) (has larger j) t f j (first + j) r list work r₁ list₁ work₁) where
       further : first + j + 1 ≡ first + (j + 1)
       further = omega arith
 
@@ -53,14 +40,11 @@ module _ {ns fo : List ℕ} {e larger : ℕ} {t f : List ℕ} {m first : ℕ} {r
           → Visited J cs ls ws first r₀ list₀ work₀ → Visited J cs ls ws (first + (j + 1)) r₁ list₁ work₁
       one_more J cs ls ws s w =
           subst (λ (k : ℕ). Visited J cs ls ws k r₁ list₁ work₁) further
-          (step J cs ls ws
-          (subst (λ (z : Bool). Tells J ns fo (first + j) z (column t f j)) (sym p) (s.tells j l))
-          (q ∙ s.larger_is j l) (v.visited J cs ls ws s w))
+          (step J cs ls ws (s.tells j l) (s.larger_is j l) (v.visited J cs ls ws s w))
 
       pub visiting_next : length list₁ ≡ length list → length work₁ ≡ length work → Room ns fo (first + j + 1) r₁ list₁
           → Visiting ns fo e larger t f m first r₀ list₀ work₀ list₁ work₁ r₁ (j + 1)
       visiting_next a b h = record {
-        low = omega arith;
         list_size = a ∙ v.list_size;
         work_size = b ∙ v.work_size;
         room = subst (λ (k : ℕ). Room ns fo k r₁ list₁) further h;

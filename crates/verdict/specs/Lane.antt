@@ -14,7 +14,7 @@ use Rattle.logic.specs.declared.interpretation.Interpretation.{Interpretation}
 use Rattle.logic.specs.Formula.{value_of}
 use Rattle.logic.specs.Interpretation.{value_at}
 use Rattle.logic.specs.Nodes.{formula_of}
-use Rattle.program.specs.Case.{formula_size, nodes_of}
+use Rattle.program.specs.Case.{nodes_of}
 use Rattle.program.specs.Sound.{sound_formula}
 use Rattle.planes.specs.Planes.{column}
 use Rattle.explanation.specs.Judge.{Judge}
@@ -28,7 +28,6 @@ query_under i ns fo q = value_of (value_at i) (formula_of (nodes_of ns fo q))
 -- ns has the node count of each formula
 pub record Askable (ns fo : List ℕ) (k : Counts) : Type 0 where
   pub atoms : ℕ
-  pub table-long : formula_size ≤ length fo
   pub asked-few : (q : ℕ) → BitOf (bit_or k.follows k.denied) q → q < 16
   pub asked-sound : (q : ℕ) → BitOf (bit_or k.follows k.denied) q → sound_formula atoms ns fo q ≡ true
 

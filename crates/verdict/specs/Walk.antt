@@ -12,6 +12,7 @@
 use Rattle.std.specs.Prelude.{Bool, true, false, ◌&&◌, List, [], ◌∷◌, ◌++◌, ℕ, zero, suc, length}
 use Rattle.words.specs.Below.{sum}
 use Rattle.words.specs.Lists.{list_of}
+use Rattle.logic.specs.declared.value.Value.{Value}
 use Rattle.logic.specs.Value.{is_true, is_false}
 use Rattle.verdict.specs.declared.verdict.Verdict.{Verdict}
 use Rattle.verdict.specs.declared.verdict.Verdict.TheVariants.{Unexplained, Follows, Denied, Open}
@@ -45,14 +46,16 @@ rounds_below J n = sum n J.rounds
 abbrev pub decided_below : Judge → ℕ → ℕ
 decided_below J n = sum n J.decided
 
--- query q is true, and is false, under each of the settings
-unfoldable pub true_in_all : Judge → ℕ → List ℕ → Bool
-true_in_all J q [] = true
-true_in_all J q (s ∷ l) = is_true (J.value q s) && true_in_all J q l
+-- the value of query q passes a test under each of the settings
+unfoldable pub passes_in_all : (Value → Bool) → Judge → ℕ → List ℕ → Bool
+passes_in_all test J q [] = true
+passes_in_all test J q (s ∷ l) = test (J.value q s) && passes_in_all test J q l
 
-unfoldable pub false_in_all : Judge → ℕ → List ℕ → Bool
-false_in_all J q [] = true
-false_in_all J q (s ∷ l) = is_false (J.value q s) && false_in_all J q l
+abbrev pub true_in_all : Judge → ℕ → List ℕ → Bool
+true_in_all J q l = passes_in_all is_true J q l
+
+abbrev pub false_in_all : Judge → ℕ → List ℕ → Bool
+false_in_all J q l = passes_in_all is_false J q l
 
 -- of m minimal settings, under each of which the query is true, or not, and false, or not
 abbrev pub verdict_by : ℕ → Bool → Bool → Verdict

@@ -9,7 +9,7 @@ use logic::value::Value;
 
 // How many minimal explanations there are, and which queries are true, and which are false, under each of them, bit q
 // for query q.
-#[derive(Clone, Copy)]
+#[derive(Clone, Copy, Debug, PartialEq, Eq)]
 pub struct Counts {
     pub minimal: u64,
     pub follows: u64,
@@ -39,20 +39,12 @@ impl Counts {
         let follows = words::without(self.follows, q);
         let denied = words::without(self.denied, q);
         match v {
-            Value::True => Counts {
-                minimal: self.minimal,
-                follows: self.follows,
-                denied,
-            },
-            Value::False => Counts {
-                minimal: self.minimal,
-                follows,
-                denied: self.denied,
-            },
+            Value::True => Counts { denied, ..self },
+            Value::False => Counts { follows, ..self },
             Value::Unknown => Counts {
-                minimal: self.minimal,
                 follows,
                 denied,
+                ..self
             },
         }
     }
@@ -63,13 +55,10 @@ impl Counts {
         ensures { result ≡ padded 16 (map verdict_number (verdicts_by self n)) }
     {
         let mut numbers = [0u64; 16];
-        let mut q: usize = 0;
-        while q < n {
+        for q in 0..n {
             let follows = words::test(self.follows, q as u32);
             let denied = words::test(self.denied, q as u32);
-            let verdict = Verdict::over(self.minimal, follows, denied);
-            numbers[q] = verdict.number();
-            q += 1;
+            numbers[q] = u64::from(Verdict::over(self.minimal, follows, denied));
         }
         numbers
     }

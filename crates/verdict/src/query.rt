@@ -10,46 +10,48 @@ use crate::counts::Counts;
 use logic::interpretation::Interpretation;
 use logic::value::Value;
 use planes::lane::lane;
+use planes::plane::TruthPlanes;
 use program::case::Case;
+use words::walk::bits_of;
 
-// The value of query q under an interpretation; nodes has the node count of each query.
-pub fn query_value(nodes: &[usize; 16], formula: &[u8], q: usize, i: Interpretation) -> Value
-    requires { (q < 16) × (get_or nodes.now q 0 ≤ part_size) × (formula_size ≤ length formula.now) }
-    ensures { (n : ℕ) → one_formula n (nodes_of nodes.now formula.now q) ≡ true
-        → result ≡ query_under i nodes.now formula.now q }
-{
-    let at = Case::NODES * q;
-    let end = at + nodes[q];
-    nodes::formula::formula_value(&formula[at..end], i)
+// The queries of a case: the node count of each, and the table of their nodes.
+#[derive(Clone, Copy)]
+pub struct Queries<'a> {
+    pub nodes: &'a [usize; 16],
+    pub formula: &'a [u8],
+    ghost long: { formula_size ≤ length formula.now },
+}
+
+impl Queries<'_> {
+    // The value of query q under an interpretation.
+    pub fn value(self, q: usize, i: Interpretation) -> Value
+        requires { (q < 16) × (get_or self.nodes.now q 0 ≤ part_size) }
+        ensures { (n : ℕ) → one_formula n (nodes_of self.entry.nodes.now self.entry.formula.now q) ≡ true
+            → result ≡ query_under i self.entry.nodes.now self.entry.formula.now q }
+    {
+        let at = Case::NODES * q;
+        let end = at + self.nodes[q];
+        nodes::formula::formula_value(&self.formula[at..end], i)
+    }
 }
 
 // The counts with one minimal explanation more, that of lane j. A query that is open already is not evaluated.
-pub fn hold(
-    nodes: &[usize; 16],
-    formula: &[u8],
-    t: &[u64; 64],
-    f: &[u64; 64],
-    j: u32,
-    counts: Counts,
-) -> Counts
-    requires { (j < 64) × (counts.minimal < 59049) × Askable nodes.now formula.now counts }
-    ensures { result ≡ counts_with counts (query_under (column t.now f.now j)
-        nodes.now formula.now) }
+pub fn hold(queries: Queries, planes: &TruthPlanes, j: u32, counts: Counts) -> Counts
+    requires { (j < 64) × (counts.minimal < 59049) × Askable queries.nodes.now queries.formula.now counts }
+    ensures { result ≡ counts_with counts (query_under (column planes.now.trues planes.now.falses j)
+        queries.entry.nodes.now queries.entry.formula.now) }
 {
     let mut told = Counts {
         minimal: counts.minimal + 1,
-        follows: counts.follows,
-        denied: counts.denied,
+        ..counts
     };
-    let mut left = counts.follows | counts.denied;
-    if left == 0 {
+    let asked = counts.follows | counts.denied;
+    if asked == 0 {
         return told;
     }
-    let i = lane(t, f, j);
-    while left != 0 {
-        let q = words::lowest_bit(left);
-        told = told.with(q, query_value(nodes, formula, q as usize, i));
-        left = words::without_lowest(left);
+    let i = lane(planes, j);
+    for q in bits_of(asked) {
+        told = told.with(q, queries.value(q as usize, i));
     }
     told
 }

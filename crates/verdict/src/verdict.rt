@@ -3,7 +3,7 @@ ghost use Rattle.std.specs.Prelude.{◌≡◌};
 ghost use Rattle.verdict.specs.Walk.{verdict_by, verdict_number};
 
 // What is said of a query over all minimal explanations.
-#[derive(Clone, Copy)]
+#[derive(Clone, Copy, Debug, PartialEq, Eq)]
 pub enum Verdict {
     Unexplained,
     Follows,
@@ -18,22 +18,23 @@ impl Verdict {
         ensures { result ≡ verdict_by minimal follows denied }
     {
         if minimal == 0 {
-            return Verdict::Unexplained;
+            Verdict::Unexplained
+        } else if follows {
+            Verdict::Follows
+        } else if denied {
+            Verdict::Denied
+        } else {
+            Verdict::Open
         }
-        if follows {
-            return Verdict::Follows;
-        }
-        if denied {
-            return Verdict::Denied;
-        }
-        Verdict::Open
     }
+}
 
-    // Document 01's number of a verdict.
-    pub fn number(self) -> u64
-        ensures { result ≡ verdict_number self }
-    {
-        match self {
+// Document 01's number of a verdict.
+impl From<Verdict> for u64 {
+    ghost from_gives = { λ v n. n ≡ verdict_number v };
+
+    fn from(verdict: Verdict) -> u64 {
+        match verdict {
             Verdict::Unexplained => 0,
             Verdict::Follows => 1,
             Verdict::Denied => 2,

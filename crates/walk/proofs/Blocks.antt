@@ -3,10 +3,12 @@
 -- block's rounds and decided atoms are summed, and its minimal settings are those the cheapest is chosen from.
 -- Assumes nothing.
 use mathlib.Core.Path.{◌≡◌, refl, sym, ap, ap₂, subst, ◌∙◌}
+use mathlib.Core.Bool.{true}
 use mathlib.Core.List.{List, ◌++◌}
 use Prim.Native.Nat.{ℕ, ◌+◌, ◌-◌, ◌*◌, ◌≤◌, ◌<◌, min}
 use native.Mathlib.Omega.{arith}
 use lib.ListN.{length, get_or}
+use Rattle.std.specs.Prelude.{Option, None}
 use Rattle.words.specs.Below.{sum}
 use Rattle.words.specs.Bits.{has}
 use Rattle.words.specs.OneBit.{BitOf}
@@ -19,6 +21,7 @@ use Rattle.program.specs.Program.{Clause, program_with}
 use Rattle.program.specs.declared.cause.Causes.{Causes}
 use Rattle.program.specs.Cause.{causes_of}
 use Rattle.program.specs.Setting.{choices_of, settings_of, additions_of}
+use Rattle.program.specs.Sound.{sound}
 use Rattle.program.proofs.Soundness.{sound-formulas, sound-each}
 use Rattle.program.proofs.Soundness.{sound-settings}
 use Rattle.settle.specs.declared.settle.Settled.{Settled}
@@ -29,7 +32,6 @@ use Rattle.planes.specs.Fill.{Filled}
 use Rattle.lanes.specs.declared.rounds.Sums.{Sums}
 use Rattle.lanes.specs.Rounds.{added_in, Settles}
 use Rattle.lanes.proofs.Additions.{settles_filled}
-use Rattle.lanes.proofs.LaneRounds.{sums}
 use Rattle.explanation.specs.Explanation.{explains_under}
 use Rattle.explanation.specs.Judge.{Judge, judge_of}
 use Rattle.explanation.specs.Covering.{Weights}
@@ -40,42 +42,52 @@ use Rattle.explanation.proofs.Weighing.{weights_low}
 use Rattle.cost.specs.declared.cheapest.Cheapest.{Cheapest}
 use Rattle.cost.specs.declared.cheapest.Minimals.{Minimals}
 use Rattle.cost.specs.Cost.{cost_under}
-use Rattle.cost.specs.Cheapest.{none_chosen, Chosen}
+use Rattle.cost.specs.Cheapest.{Chosen}
 use Rattle.cost.specs.Block.{lane_settings, MinimalIn}
-use Rattle.cost.proofs.Least.{chosen_none}
 use Rattle.verdict.specs.declared.visit.Found.{Found}
 use Rattle.walk.specs.declared.walk.Tally.{Tally}
 use Rattle.verdict.specs.Walk.{minimals_below}
 use Rattle.verdict.specs.Counting.{no_counts}
 use Rattle.verdict.specs.Lane.{query_under, Room, Seen}
 use Rattle.verdict.specs.Visited.{Visited}
-use Rattle.walk.specs.Walking.{Bounded, Summed, Walked}
-use Rattle.walk.proofs.Bounds.{rounds-few, decided-few, formula-fits}
+use Rattle.walk.specs.Walking.{AtHand, Walked}
+use Rattle.walk.proofs.Bounds.{rounds-few, decided-few}
 use Rattle.walk.proofs.MinimalLanes.{minimals-block}
 use Rattle.verdict.proofs.Counting.{minimals-none, minimals-le, counted_none, counted-few}
 use Rattle.verdict.proofs.Asking.{askable-counted}
 use Rattle.verdict.proofs.Leaving.{left-start, work_kept, written-free}
 
--- those of r and d together
-abbrev both : Sums → Sums → Sums
-both r d = sums (r.rounds + d.rounds) (r.decided + d.decided)
-
 -- nothing is found for n queries yet
-abbrev pub none_found : ℕ → Found
-none_found n = record { counts = no_counts n; written = 0 }
+abbrev pub none_found : ℕ → Tally
+none_found n = record {
+  found = record { counts = no_counts n; written = 0 };
+  sums = record { rounds = 0; decided = 0 };
+  cheapest = None;
+}
 
--- the walk before setting s, whose bit is the first of word b of the row
+-- those of r and d together
+abbrev pub both : Sums → Sums → Sums
+both r d = record { rounds = r.rounds + d.rounds; decided = r.decided + d.decided }
+
+-- the case is sound, its causes and the number of its settings are at hand, and the work area is enough
+pub record Bounded (c : Case) (cl co fo : List ℕ) (causes : Causes) (end : ℕ) (work : List ℕ) : Type 0 where
+  pub is-sound : sound c cl co fo ≡ true
+  pub causes_are : causes ≡ causes_of c cl
+  pub end_is : end ≡ settings_of (causes_of c cl)
+  pub work_long : end ≤ length work
+
+pub bounded : {c : Case} {cl co fo : List ℕ} {heads : ℕ} {causes : Causes} {end : ℕ} {work : List ℕ}
+    → AtHand c cl co fo heads causes → end ≡ settings_of (causes_of c cl) → end ≤ length work
+    → Bounded c cl co fo causes end work
+bounded h e l = record { is-sound = h.is-sound; causes_are = h.causes_are; end_is = e; work_long = l }
+
+-- the walk before block k
 pub record Walking (c : Case) (cl co fo pr : List ℕ) (causes : Causes) (end : ℕ)
-    (list₀ work₀ list work row : List ℕ) (f : Found)
-    (r : Sums) (k : Cheapest) (added : Additions) (b s : ℕ) : Type 0 where
-  pub place_is : 59072 + s ≡ 64 * b
-  pub added_is : added ≡ additions_of causes s
-  pub size_is : length row ≡ 1848
-  pub covered : CoveredRow (judge_of c cl co fo).explains (choices_of causes) (min s end) row
-  pub visited : Visited (judge_of c cl co fo) (choices_of causes) list₀ work₀ (min s end) f list work
-  pub summed : Summed (judge_of c cl co fo) (min s end) r
-  pub chosen : Chosen (cost_under pr causes)
-      (minimals_below (judge_of c cl co fo) (choices_of causes) (min s end)) k
+    (list₀ work₀ list work row : List ℕ) (t : Tally) (added : Additions) (k : ℕ) : Type 0 where
+  pub added_is : added ≡ additions_of causes (64 * k)
+  pub covered : CoveredRow (judge_of c cl co fo).explains (choices_of causes) (min (64 * k) end) row
+  pub walked : Walked (judge_of c cl co fo) (cost_under pr causes) (choices_of causes) list₀ work₀ (min (64 * k) end) t
+      list work
 
 module _ {c : Case} {cl co fo : List ℕ} {causes : Causes} {end : ℕ} {work₀ : List ℕ}
     (g : Bounded c cl co fo causes end work₀) where
@@ -95,67 +107,58 @@ module _ {c : Case} {cl co fo : List ℕ} {causes : Causes} {end : ℕ} {work₀
       → 2 * get_or weights a 0 ≤ 59072
   weights_few weights w = weights_low causes weights w (omega (arith, end_is, end-few))
 
-  start : 0 ≡ min 0 end
+  start : 0 ≡ min (64 * 0) end
   start = omega arith
 
   -- the minimal settings below n
   abbrev minimals : ℕ → List ℕ
   minimals n = minimals_below J cs n
 
-  pub walking_start : {pr list₀ : List ℕ} (row : List ℕ) → length row ≡ 1848
-      → Walking c cl co fo pr causes end list₀ work₀ list₀ work₀ row (none_found c.formulas) (sums 0 0) none_chosen
-      (record { facts = 0; assumptions = 0 }) 923 0
-  walking_start {pr} {list₀} row e = record {
-    place_is = refl;
+  pub walking_start : {pr list₀ : List ℕ} (row : List ℕ)
+      → Walking c cl co fo pr causes end list₀ work₀ list₀ work₀ row (none_found c.formulas)
+      (record { facts = 0; assumptions = 0 }) 0
+  walking_start {pr} {list₀} row = record {
     added_is = additions_start causes;
-    size_is = e;
     covered = λ s l. absurd (omega arith);
-    visited = subst (λ (n : ℕ). Visited J cs list₀ work₀ n (none_found c.formulas) list₀ work₀) start
-        (record { counted = counted_none J cs; left = left-start J cs list₀ work₀ });
-    summed = subst (λ (n : ℕ). Summed J n (sums 0 0)) start
-        (record { rounds_are = sym (sum-none _); decided_are = sym (sum-none _) });
-    chosen = subst (λ (l : List ℕ). Chosen (cost_under pr causes) l none_chosen)
-        (sym (minimals-none J cs) ∙ ap minimals start) (chosen_none (cost_under pr causes));
+    walked = subst
+        (λ (n : ℕ). Walked J (cost_under pr causes) cs list₀ work₀ n (none_found c.formulas) list₀ work₀) start
+        (record {
+          visited = record { counted = counted_none J cs; left = left-start J cs list₀ work₀ };
+          summed = record { rounds_are = sym (sum-none _); decided_are = sym (sum-none _) };
+          chosen = rw (minimals-none J cs) refl;
+        });
   }
 
-  module _ {pr list₀ list work row : List ℕ} {f : Found} {r : Sums} {best : Cheapest} {added : Additions}
-      {b s : ℕ} (w : Walking c cl co fo pr causes end list₀ work₀ list work row f r best added b s) where
-    -- ---- the end
-    pub walking_end : end ≤ s
-        → Walked J (cost_under pr (causes_of c cl)) (choices_of (causes_of c cl)) list₀ work₀ end
-        (record { found = f; sums = r; cheapest = best }) list work
-    walking_end l =
-        let there : min s end ≡ end = omega arith in
-        let t : Tally = record { found = f; sums = r; cheapest = best } in
-        subst (λ (i : Causes). Walked J (cost_under pr i) (choices_of i) list₀ work₀ end t list work)
-        g.causes_are (record {
-          visited = subst (λ (n : ℕ). Visited J cs list₀ work₀ n f list work) there w.visited;
-          summed = subst (λ (n : ℕ). Summed J n r) there w.summed;
-          chosen = subst (λ (n : ℕ). Chosen (cost_under pr causes) (minimals n) best) there w.chosen;
-        })
+  module _ {pr list₀ list work row : List ℕ} {r : Tally} {added : Additions} {k : ℕ}
+      (w : Walking c cl co fo pr causes end list₀ work₀ list work row r added k) where
+    -- the setting of the block's first lane, and the row's word of the block
+    abbrev s : ℕ
+    s = 64 * k
+
+    abbrev b : ℕ
+    b = 923 + k
 
     pub walking_work : length work ≡ length work₀
-    walking_work = work_kept w.visited.left (omega (arith, g.work_long))
+    walking_work = work_kept w.walked.visited.left (omega (arith, g.work_long))
 
     -- ---- a block
     module _ (l : s < end) where
       here : min s end ≡ s
       here = omega arith
 
-      pub word-inside : (923 ≤ b) × (b < 1846)
-      word-inside = (omega (arith, w.place_is), omega (arith, w.place_is, end-few))
+      pub word-inside : b < 1846
+      word-inside = omega (arith, end-few)
 
-      standing : Visited J cs list₀ work₀ s f list work
-      standing = subst (λ (n : ℕ). Visited J cs list₀ work₀ n f list work) here w.visited
+      standing : Walked J (cost_under pr causes) cs list₀ work₀ s r list work
+      standing = subst (λ (n : ℕ). Walked J (cost_under pr causes) cs list₀ work₀ n r list work) here w.walked
 
-      pub walking_room : Room c.nodes fo s f list
+      pub walking_room : Room c.nodes fo s r.found list
       walking_room = record {
-        free = written-free standing.left;
-        few = counted-few standing.counted;
-        listed_few = omega (arith, standing.left.written_is, minimals-le J cs s);
-        askable = askable-counted standing.counted c.atoms c.nodes fo
-            (sound-formulas c cl co fo g.is-sound).1 (formula-fits c cl co fo g.is-sound)
-            (sound-each c cl co fo g.is-sound);
+        free = written-free standing.visited.left;
+        few = counted-few standing.visited.counted;
+        listed_few = omega (arith, standing.visited.left.written_is, minimals-le J cs s);
+        askable = askable-counted standing.visited.counted c.atoms c.nodes fo
+            (sound-formulas c cl co fo g.is-sound).1 (sound-each c cl co fo g.is-sound);
       }
 
       -- the first m lanes are those of settings, and d has the sums over them
@@ -188,29 +191,29 @@ module _ {c : Case} {cl co fo : List ℕ} {causes : Causes} {end : ℕ} {work₀
         decided-block : d.decided ≡ sum m (λ j. J.decided (s + j))
         decided-block = v.decided_are ∙ block-sum (λ (x : Settled). x.decided)
 
-        -- h is what is summed, k its sum over the settings before, and n that over the block
-        module _ (h : ℕ → ℕ) {k n : ℕ} (below : k ≡ sum (min s end) h) (block : n ≡ sum m (λ j. h (s + j))) where
-          sum_fits : ((i : ℕ) → h i ≤ 64) → k + n ≤ 8000000
+        -- h is what is summed, i its sum over the settings before, and n that over the block
+        module _ (h : ℕ → ℕ) {i n : ℕ} (below : i ≡ sum s h) (block : n ≡ sum m (λ j. h (s + j))) where
+          sum_fits : ((j : ℕ) → h j ≤ 64) → i + n ≤ 8000000
           sum_fits few =
               omega (
                 arith,
                 end-few,
-                sum-le (min s end) 64 h (λ i q. few i),
+                sum-le s 64 h (λ j q. few j),
                 sum-le m 64 (λ j. h (s + j)) (λ j q. few (s + j)),
               )
 
-          sum-next : k + n ≡ sum (min (s + 64) end) h
+          sum-next : i + n ≡ sum (min (64 * (k + 1)) end) h
           sum-next =
-              let z : s + m ≡ min (s + 64) end = omega arith in
-              ap₂ ◌+◌ (below ∙ ap (λ (i : ℕ). sum i h) here) block ∙ sum-append s m h ∙ ap (λ (i : ℕ). sum i h) z
+              let z : s + m ≡ min (64 * (k + 1)) end = omega arith in
+              ap₂ ◌+◌ below block ∙ sum-append s m h ∙ ap (λ (j : ℕ). sum j h) z
 
-        pub rounds_fit : r.rounds + d.rounds ≤ 8000000
+        pub rounds_fit : r.sums.rounds + d.rounds ≤ 8000000
         rounds_fit =
-            sum_fits J.rounds w.summed.rounds_are rounds-block (rounds-few c cl co fo g.is-sound)
+            sum_fits J.rounds standing.summed.rounds_are rounds-block (rounds-few c cl co fo g.is-sound)
 
-        pub decided_fit : r.decided + d.decided ≤ 8000000
+        pub decided_fit : r.sums.decided + d.decided ≤ 8000000
         decided_fit =
-            sum_fits J.decided w.summed.decided_are decided-block (decided-few c cl co fo g.is-sound)
+            sum_fits J.decided standing.summed.decided_are decided-block (decided-few c cl co fo g.is-sound)
 
         -- e has the lanes that explain, larger those of which a proper subset explains
         module _ {e larger : ℕ} {weights row₁ : List ℕ} (ew : Weights causes weights)
@@ -224,7 +227,7 @@ module _ {c : Case} {cl co fo : List ℕ} {causes : Causes} {end : ℕ} {work₀
 
           block : Block J.explains s b e causes weights x y row
           block = record {
-            place_is = w.place_is;
+            place_is = omega arith;
             filled = ex;
             weights_are = ew;
             explains = λ j q z. explains-is j q;
@@ -242,38 +245,39 @@ module _ {c : Case} {cl co fo : List ℕ} {causes : Causes} {end : ℕ} {work₀
             larger_is = λ j q. el.larger_is J.explains s block j (omega arith) (omega (arith, end_is));
           }
 
-          -- ms are the minimal settings of the block, and best₁ the cheapest with them
-          chosen-next : {ms : Minimals} {best₁ : Cheapest} → MinimalIn e larger m s ms
-              → ((i : Causes) (l : List ℕ) → Filled i ms.first x y → Chosen (cost_under pr i) l best
-              → Chosen (cost_under pr i) (l ++ lane_settings ms) best₁)
-              → Chosen (cost_under pr causes) (minimals (s + m)) best₁
-          chosen-next {ms} {best₁} p choose =
-              subst (λ (l : List ℕ). Chosen (cost_under pr causes) l best₁) (sym (minimals-block seen (omega arith) p))
-              (choose causes (minimals s) (subst (λ (n : ℕ). Filled causes n x y) (sym p.first-is) ex)
-              (subst (λ (n : ℕ). Chosen (cost_under pr causes) (minimals n) best) here w.chosen))
+          -- ms are the minimal settings of the block, and best the cheapest with them
+          chosen-next : {ms : Minimals} {best : Option Cheapest} → MinimalIn e larger m s ms
+              → ((i : Causes) (l : List ℕ) → Filled i ms.first x y → Chosen (cost_under pr i) l r.cheapest
+              → Chosen (cost_under pr i) (l ++ lane_settings ms) best)
+              → Chosen (cost_under pr causes) (minimals (s + m)) best
+          chosen-next {ms} {best} p choose =
+              subst (λ (l : List ℕ). Chosen (cost_under pr causes) l best) (sym (minimals-block seen (omega arith) p))
+              (choose causes (minimals s) (subst (λ (n : ℕ). Filled causes n x y) (sym p.first-is) ex) standing.chosen)
 
-          pub walking_next : {next : Additions} {f₁ : Found} {list₁ work₁ : List ℕ} {ms : Minimals} {best₁ : Cheapest}
+          pub walking_next : {next : Additions} {f : Found} {list₁ work₁ : List ℕ} {ms : Minimals}
+              {best : Option Cheapest}
               → next ≡ additions_of causes (s + 64)
               → ((J : Judge) (cs ls ws : List ℕ) → Seen J cs c.nodes fo e larger t u m s
-              → Visited J cs ls ws s f list work → Visited J cs ls ws (s + m) f₁ list₁ work₁)
+              → Visited J cs ls ws s r.found list work → Visited J cs ls ws (s + m) f list₁ work₁)
               → MinimalIn e larger m s ms
-              → ((i : Causes) (l : List ℕ) → Filled i ms.first x y → Chosen (cost_under pr i) l best
-              → Chosen (cost_under pr i) (l ++ lane_settings ms) best₁)
-              → Walking c cl co fo pr causes end list₀ work₀ list₁ work₁ row₁ f₁ (both r d) best₁ next (b + 1)
-              (s + 64)
-          walking_next {next} {f₁} {list₁} {work₁} {ms} {best₁} n step p choose =
-              let z : s + m ≡ min (s + 64) end = omega arith in
+              → ((i : Causes) (l : List ℕ) → Filled i ms.first x y → Chosen (cost_under pr i) l r.cheapest
+              → Chosen (cost_under pr i) (l ++ lane_settings ms) best)
+              → Walking c cl co fo pr causes end list₀ work₀ list₁ work₁ row₁
+              (record { found = f; sums = both r.sums d; cheapest = best }) next (k + 1)
+          walking_next {next} {f} {list₁} {work₁} {ms} {best} n step p choose =
+              let z : s + m ≡ min (64 * (k + 1)) end = omega arith in
+              let q : min (s + 64) (settings_of causes) ≡ min (64 * (k + 1)) end = omega (arith, end_is) in
+              let a : s + 64 ≡ 64 * (k + 1) = omega arith in
               record {
-                place_is = omega (arith, w.place_is);
-                added_is = n;
-                size_is = el.size_is;
-                covered = subst (λ (i : ℕ). CoveredRow J.explains cs (min (s + 64) i) row₁) (sym end_is)
-                    (el.covered J.explains s block);
-                visited = subst (λ (i : ℕ). Visited J cs list₀ work₀ i f₁ list₁ work₁) z
-                    (step J cs list₀ work₀ seen standing);
-                summed = record {
-                  rounds_are = sum-next J.rounds w.summed.rounds_are rounds-block;
-                  decided_are = sum-next J.decided w.summed.decided_are decided-block;
+                added_is = n ∙ ap (additions_of causes) a;
+                covered = subst (λ (i : ℕ). CoveredRow J.explains cs i row₁) q (el.covered J.explains s block);
+                walked = record {
+                  visited = subst (λ (i : ℕ). Visited J cs list₀ work₀ i f list₁ work₁) z
+                      (step J cs list₀ work₀ seen standing.visited);
+                  summed = record {
+                    rounds_are = sum-next J.rounds standing.summed.rounds_are rounds-block;
+                    decided_are = sum-next J.decided standing.summed.decided_are decided-block;
+                  };
+                  chosen = subst (λ (i : ℕ). Chosen (cost_under pr causes) (minimals i) best) z (chosen-next p choose);
                 };
-                chosen = subst (λ (i : ℕ). Chosen (cost_under pr causes) (minimals i) best₁) z (chosen-next p choose);
               }

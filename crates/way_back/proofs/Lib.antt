@@ -15,6 +15,7 @@
 -- LiteralCounts: how many literals these lines have.
 -- SaidBodies: how long the bodies of a case are.
 -- TextRead: reading its text gives what the case says, or is refused with 20.
+-- Early: a file within the limit.
 -- Theorems: a proof of each claim of specs/Claims.antt.
 pub mod Formed
 pub mod Writable
@@ -36,4 +37,5 @@ pub mod WrittenLines
 pub mod LiteralCounts
 pub mod SaidBodies
 pub mod TextRead
+pub mod Early
 pub mod Theorems

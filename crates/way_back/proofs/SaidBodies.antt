@@ -6,12 +6,14 @@ use Prim.Native.Nat.{ℕ, ◌≤◌, ◌<◌}
 use lib.ListN.{length, get_or}
 use Rattle.words.specs.Lists.{list_of}
 use Rattle.words.proofs.Lists.{list_of-map, list_of_ext, list_of_is}
+use Rattle.std.specs.Prelude.{Result}
 use Rattle.program.specs.declared.case.Case.{Case}
 use Rattle.text.proofs.Each.{each_at}
 use Rattle.store.specs.Lent.{Lent}
 use Rattle.store.proofs.BodySizes.{clause_body, constraint_body, said_bodies}
 use Rattle.store.proofs.FilledRows.{no_row, no_constraint, clause-is, constraint-is}
-use Rattle.reader.specs.declared.read.Answer.{Answer}
+use Rattle.reader.specs.declared.read.Refused.{Refused}
+use Rattle.reader.specs.Answers.{case_in}
 use Rattle.reader.proofs.FileSays.{Accepted}
 use Rattle.reader.proofs.WellFormed.{WellFormed}
 use Rattle.reader.proofs.WellFormedLines.{accepted-formed}
@@ -31,11 +33,11 @@ sizes_are size l d f same =
     list_of_ext (length l) f _ same ∙ sym (list_of-map (length l) (λ k. get_or l k d) size)
     ∙ ap (map size) (list_of_is l d _ (λ k h. refl))
 
-module _ (f : List ℕ) (t u : Lent) (r : Answer) (a : Accepted f t u r) where
+module _ (f : List ℕ) (t u : Lent) (r : Result Case Refused) (a : Accepted f t u r) where
   formed : WellFormed a.said
   formed = (accepted-formed f a.said a.file-is).formed
 
-  read_bodies : body_sizes r.found u ≡ said_bodies a.said
+  read_bodies : body_sizes (case_in r) u ≡ said_bodies a.said
   read_bodies =
       let cs = a.said.clauses in
       let ds = a.said.constraints in
@@ -48,7 +50,7 @@ module _ (f : List ℕ) (t u : Lent) (r : Answer) (a : Accepted f t u r) where
       let w = constraint-is ds t.constraints a.long.constraints-long formed.constraints.few k l in
       ap₂ body_size w.plain-is w.negated-is)))
 
-  pub read-few : AllFew (body_sizes r.found u)
+  pub read-few : AllFew (body_sizes (case_in r) u)
   read-few =
       subst AllFew (sym read_bodies)
       (λ k h. each_at (λ n. n ≤ 11) (said_bodies a.said) k 0 (accepted_bodies f a.said a.file-is) h)

@@ -9,11 +9,12 @@
 --                        what reading its text gives
 --   LongBodyRefused      with a longer body, reading the text is refused with 20
 --   AcceptedBack         a case that was read has no longer body, and so its way back
-use Rattle.std.specs.Prelude.{◌≡◌, true, List, ℕ, suc, ◌+◌, ◌*◌, ◌<◌, length, get_or, take}
+use Rattle.std.specs.Prelude.{◌≡◌, true, List, ℕ, suc, ◌+◌, ◌*◌, ◌<◌, length, get_or, take, Result}
 use Rattle.program.specs.declared.case.Case.{Case}
 use Rattle.program.specs.Case.{nodes_of}
 use Rattle.store.specs.Lent.{Lent}
-use Rattle.reader.specs.declared.read.Answer.{Answer}
+use Rattle.reader.specs.declared.read.Refused.{Refused}
+use Rattle.reader.specs.Answers.{refusal_in, line_in, case_in}
 use Rattle.reader.specs.Operation.{tables_fit, ReadAs}
 use Rattle.writing.specs.Used.{editions_in}
 use Rattle.writing.specs.Operation.{case_text, write_refusal}
@@ -39,18 +40,19 @@ pub record SameUsed (c : Case) (t : Lent) (d : Case) (u : Lent) : Type 0 where
 -- where writing the case c with the tables t to an output of n bytes is not refused, and each body holds at most 11
 -- literals, reading its text into any tables v that fit is not refused either, and gives c and t back
 abbrev pub WayBack : Type 0
-WayBack = (c : Case) (t v u : Lent) (n : ℕ) (r : Answer) → write_refusal c t n ≡ 0 → tables_fit v ≡ true
-    → AllFew (body_sizes c t) → ReadAs (case_text c t) v u r → (r.refusal ≡ 0) × SameUsed c t r.found u
+WayBack = (c : Case) (t v u : Lent) (n : ℕ) (r : Result Case Refused) → write_refusal c t n ≡ 0
+    → tables_fit v ≡ true → AllFew (body_sizes c t) → ReadAs (case_text c t) v u r
+    → (refusal_in r ≡ 0) × SameUsed c t (case_in r) u
 
 -- where body k is the first that holds more, reading is refused with 20 at its line, which stands behind those of the
 -- atoms, that of edition 2 and those of the bodies before it
 abbrev pub LongBodyRefused : Type 0
-LongBodyRefused = (c : Case) (t v u : Lent) (n k : ℕ) (r : Answer) → write_refusal c t n ≡ 0 → tables_fit v ≡ true
-    → FirstLong (body_sizes c t) k → ReadAs (case_text c t) v u r
-    → (r.refusal ≡ 20) × (r.line ≡ suc (c.atoms + length (editions_in c.edition) + k))
+LongBodyRefused = (c : Case) (t v u : Lent) (n k : ℕ) (r : Result Case Refused) → write_refusal c t n ≡ 0
+    → tables_fit v ≡ true → FirstLong (body_sizes c t) k → ReadAs (case_text c t) v u r
+    → (refusal_in r ≡ 20) × (line_in r ≡ suc (c.atoms + length (editions_in c.edition) + k))
 
 -- what reading a file f gives, where it accepts f, has its way back with no condition on bodies
 abbrev pub AcceptedBack : Type 0
-AcceptedBack = (f : List ℕ) (t u v w : Lent) (n : ℕ) (r a : Answer) → ReadAs f t u r → r.refusal ≡ 0
-    → write_refusal r.found u n ≡ 0 → tables_fit v ≡ true → ReadAs (case_text r.found u) v w a
-    → (a.refusal ≡ 0) × SameUsed r.found u a.found w
+AcceptedBack = (f : List ℕ) (t u v w : Lent) (n : ℕ) (r a : Result Case Refused) → ReadAs f t u r → refusal_in r ≡ 0
+    → write_refusal (case_in r) u n ≡ 0 → tables_fit v ≡ true → ReadAs (case_text (case_in r) u) v w a
+    → (refusal_in a ≡ 0) × SameUsed (case_in r) u (case_in a) w

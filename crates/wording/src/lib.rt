@@ -15,6 +15,7 @@ ghost use Rattle.output.specs.Writing.{Writes, Room};
 
 use output::{put, put_decimal, put_name, put_text};
 use program::cause::{Causes, choice};
+use words::walk::bits_of;
 
 // The numbers of an answer that its text shows: the rounds and the decided atoms over all settings, the minimal
 // explanations, and the lowest cost among them.
@@ -45,10 +46,8 @@ fn verdict_lines(out: &mut [u8], at: usize, verdicts: &[u64]) -> usize
     ensures { Writes (verdict_lines verdicts.now) out.old at result out.new }
 {
     let mut place = at;
-    let mut k: usize = 0;
-    while k < verdicts.len() {
-        place = verdict_line(out, place, verdicts[k]);
-        k += 1;
+    for verdict in verdicts {
+        place = verdict_line(out, place, *verdict);
     }
     place
 }
@@ -98,13 +97,11 @@ fn put_abducible(out: &mut [u8], at: usize, names: &[u8], atom: usize, digit: u6
     ensures { Writes (spaced (with_abducible digit (name_in names.now atom) [])) out.old at result
         out.new }
 {
-    if digit == 0 {
-        return at;
+    match digit {
+        0 => at,
+        1 => put_form(out, at, b" (true ", names, atom),
+        _ => put_form(out, at, b" (false ", names, atom),
     }
-    if digit == 1 {
-        return put_form(out, at, b" (true ", names, atom);
-    }
-    put_form(out, at, b" (false ", names, atom)
 }
 
 // Writes what a setting adds, digit by digit, lowest first, a digit for each cause in atom order.
@@ -117,13 +114,10 @@ fn put_abducibles(out: &mut [u8], at: usize, names: &[u8], causes: Causes, setti
 {
     let mut place = at;
     let mut rest = setting;
-    let mut left = causes.all;
-    while left != 0 {
-        let atom = words::lowest_bit(left);
+    for atom in bits_of(causes.all) {
         let base = choice(causes.twofold, atom);
         place = put_abducible(out, place, names, atom as usize, rest % base);
-        rest = rest / base;
-        left = words::without_lowest(left);
+        rest /= base;
     }
     place
 }
@@ -146,10 +140,8 @@ fn cause_lines(out: &mut [u8], at: usize, names: &[u8], causes: Causes, list: &[
         out.old at result out.new }
 {
     let mut place = at;
-    let mut k: usize = 0;
-    while k < list.len() {
-        place = cause_line(out, place, names, causes, list[k] as u64);
-        k += 1;
+    for setting in list {
+        place = cause_line(out, place, names, causes, *setting as u64);
     }
     place
 }

@@ -10,9 +10,10 @@ use native.Mathlib.Numerals.{add-one}
 use native.Mathlib.Omega.{arith}
 use lib.Dec.{eqb, eqb-zero-suc, eqb-suc-zero, eqb-suc-suc}
 use lib.Arith.{lt-one}
-use lib.Pow.{shr-shr, shl_exact, pow_mono}
+use lib.Pow.{shr-shr, shl_exact, pow_mono, pow_pos}
 use lib.Bits.{bit_and, bit_or, bit_xor, and_shr, or_shr, xor_shr, and_mod, or_mod, xor_mod}
 use borrow.Author.Tests.{eqb-true, eqb-false, eq-eqb, ne_eqb}
+use Rattle.std.proofs.lemmas.Nat.{pow-add, div-mul-add}
 use Rattle.words.specs.Bits.{odd, has}
 use Rattle.words.proofs.Tests.{lt-or-le}
 
@@ -109,9 +110,18 @@ has-single (suc j) (suc i) =
     let q : 2 ^ suc j / 2 ≡ 2 ^ j = omega arith in
     has-half _ i ∙ ap (λ (x : ℕ). has x i) q ∙ has-single j i ∙ sym (eqb-suc-suc i j)
 
-pub pow_pred : (n : ℕ) → 1 ≤ n → 2 ^ n ≡ 2 ^ (n - 1) * 2
-pow_pred zero h = absurd (omega arith)
-pow_pred (suc n) h = let e : suc n - 1 ≡ n = omega arith in rw e (pow-suc 2 n)
+-- the highest number of 64 bits, shifted to n bits
+pub top_shifted : (n : ℕ) → n ≤ 64 → (2 ^ 64 - 1) / 2 ^ (64 - n) + 1 ≡ 2 ^ n
+top_shifted n h =
+    let w = 2 ^ (64 - n) in
+    let m = 2 ^ n - 1 in
+    let k : 2 ^ n ≡ m + 1 = omega (arith, pow_pos n) in
+    let s : 64 ≡ n + (64 - n) = omega arith in
+    let p : 2 ^ 64 ≡ 2 ^ n * w = ap (λ (j : ℕ). 2 ^ j) s ∙ pow-add 2 n (64 - n) in
+    let q : 2 ^ 64 ≡ m * w + w = p ∙ ap (λ (j : ℕ). j * w) k ∙ omega arith in
+    let e : 2 ^ 64 - 1 ≡ m * w + (w - 1) = omega (arith, q, pow_pos (64 - n)) in
+    let d = div-mul-add m w (w - 1) (omega (arith, pow_pos (64 - n))) in
+    ap (λ (j : ℕ). j / w + 1) e ∙ ap (λ (j : ℕ). j + 1) d ∙ sym k
 
 -- ---- two numbers of k bits with the same bits are the same
 odd_inj : (a b : ℕ) → odd a ≡ odd b → a % 2 ≡ b % 2

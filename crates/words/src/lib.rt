@@ -2,6 +2,8 @@
 // a walk over the bits.
 #![tactic(auto)]
 
+pub mod walk;
+
 ghost use Rattle.std.specs.Prelude.{◌≡◌, ℕ, ◌+◌, ◌^◌, ◌≤◌, ◌<◌};
 ghost use Rattle.std.specs.Int.Count.{ones};
 ghost use Rattle.words.specs.Bits.{has};
@@ -20,8 +22,7 @@ pub fn lowest(n: u32) -> u64
     requires { (1 ≤ n) × (n ≤ 64) }
     ensures { result + 1 ≡ 2 ^ n }
 {
-    let top = 1u64 << (n - 1);
-    top - 1 + top
+    u64::MAX >> (64 - n)
 }
 
 // Whether w has bit i.
@@ -37,17 +38,14 @@ pub fn with_bit(w: u64, on: bool, i: u32) -> u64
     requires { i < 64 }
     ensures { result ≡ with_bit on w i }
 {
-    if on {
-        return w | single(i);
-    }
-    w
+    if on { w | single(i) } else { w }
 }
 
 // How many bits w has.
 pub fn count(w: u64) -> u32
     ensures { result ≡ ones w }
 {
-    u64::count_ones(w)
+    w.count_ones()
 }
 
 // The number of the lowest bit of w.
@@ -55,7 +53,7 @@ pub fn lowest_bit(w: u64) -> u32
     requires { w ≡ 0 → ⊥ }
     ensures { LowestOf w result }
 {
-    u64::trailing_zeros(w)
+    w.trailing_zeros()
 }
 
 // The word w without bit i.

@@ -30,7 +30,7 @@ module _ (name : ℕ → List ℕ) (b : Bool) where
   on_none = ap (λ (l : List ℕ). body_tokens (literals_on name b l)) atoms-zero ∙ body-none
 
   on_lowest : (w a : ℕ) → LowestOf w a
-      → on_tokens name b w ≡ literal_tokens name b a ++ on_tokens name b (without_bit w a)
+      → on_tokens name b w ≡ literal_tokens b (name a) ++ on_tokens name b (without_bit w a)
   on_lowest w a h =
       ap (λ (l : List ℕ). body_tokens (literals_on name b l)) (atoms_lowest w a h)
       ∙ body-first (Literal.literal b (name a)) (literals_on name b (atoms_in (without_bit w a)))
@@ -44,13 +44,14 @@ module _ (name : ℕ → List ℕ) (b : Bool) where
 
   module _ (w left : ℕ) {out out₁ : List ℕ} {p q : Pen} (h : AtLiteral w out p left q out₁) where
     module _ {a : ℕ} (l : LowestOf left a) where
-      pub literal-room : Room (inked p (on_tokens name b w)) p.at → Room (inked q (literal_tokens name b a)) q.at
-      literal-room r = tokens-room h (literal_tokens name b a) _ (on_lowest left a l) r
+      pub literal-room : Room (inked p (on_tokens name b w)) p.at → Room (inked q (literal_tokens b (name a))) q.at
+      literal-room r = tokens-room h (literal_tokens b (name a)) _ (on_lowest left a l) r
 
-      pub literal-more : {r : Pen} {out₂ : List ℕ} {next : ℕ} → Spells (literal_tokens name b a) out₁ q r out₂
+      pub literal-more : {r : Pen} {out₂ : List ℕ} {next : ℕ} → Spells (literal_tokens b (name a)) out₁ q r out₂
           → next ≡ without_bit left a → AtLiteral w out p next r out₂
       literal-more {r} {out₂} k e =
-          rw e (tokens-more h (literal_tokens name b a) (on_tokens name b (without_bit left a)) (on_lowest left a l) k)
+          rw e (tokens-more h (literal_tokens b (name a)) (on_tokens name b (without_bit left a))
+          (on_lowest left a l) k)
 
     pub literal-end : left ≡ 0 → Spells (on_tokens name b w) out p q out₁
     literal-end e = tokens-end h (ap (on_tokens name b) e ∙ on_none)

@@ -122,8 +122,45 @@ module _ (c : Case) (t : Lent) where
     pub case-room_for : Room (text_of (case_lines c t)) 0 → Room (text_of piece) q.at
     case-room_for r = lines-room h piece later refl r
 
-    pub case-more : {r : Page} {out₂ : List ℕ} → Sets piece out₁ q r out₂ → CaseLeft out later r out₂
+    case-more : {r : Page} {out₂ : List ℕ} → Sets piece out₁ q r out₂ → CaseLeft out later r out₂
     case-more k = lines_more h piece later refl k
+
+  -- what is left behind the lines of each kind
+  module _ {out out₁ : List ℕ} {g₁ : Page} (h₁ : Sets (atom_texts t.names c.atoms) out first_page g₁ out₁) where
+    pub behind-atom : CaseLeft out from_editions g₁ out₁
+    behind-atom = case-more _ _ (case-start out) h₁
+
+    module _ {out₂ : List ℕ} {g₂ : Page} (h₂ : Sets (edition_texts c.edition) out₁ g₁ g₂ out₂)
+      where
+        pub behind-edition : CaseLeft out from_clauses g₂ out₂
+        behind-edition = case-more _ _ (behind-atom) h₂
+
+        module _ {out₃ : List ℕ} {g₃ : Page} (h₃ : Sets (clause_texts t.names t.clauses c.clauses) out₂ g₂ g₃ out₃)
+          where
+            pub behind-clause : CaseLeft out from_constraints g₃ out₃
+            behind-clause = case-more _ _ (behind-edition) h₃
+
+            module _ {out₄ : List ℕ} {g₄ : Page}
+                (h₄ : Sets (constraint_texts t.names t.constraints c.constraints) out₃ g₃ g₄ out₄)
+              where
+                pub behind-constraint : CaseLeft out from_seen g₄ out₄
+                behind-constraint = case-more _ _ (behind-clause) h₄
+
+                module _ {out₅ : List ℕ} {g₅ : Page} (h₅ : Sets (seen_texts t.names false c.plain) out₄ g₄ g₅ out₅)
+                  where
+                    pub behind-seen : CaseLeft out from_negated g₅ out₅
+                    behind-seen = case-more _ _ (behind-constraint) h₅
+
+                    module _ {out₆ : List ℕ} {g₆ : Page} (h₆ : Sets (seen_texts t.names true c.negated) out₅ g₅ g₆ out₆)
+                      where
+                        pub behind-negated : CaseLeft out from_queries g₆ out₆
+                        behind-negated = case-more _ _ (behind-seen) h₆
+
+                        module _ {out₇ : List ℕ} {g₇ : Page}
+                            (h₇ : Sets (query_texts t.names c.nodes t.formula c.formulas) out₆ g₆ g₇ out₇)
+                          where
+                            pub behind-query : CaseLeft out from_costs g₇ out₇
+                            behind-query = case-more _ _ (behind-negated) h₇
 
   pub case-room-last : {out out₁ : List ℕ} {q : Page} → CaseLeft out from_costs q out₁
       → Room (text_of (case_lines c t)) 0

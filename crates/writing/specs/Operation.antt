@@ -9,7 +9,8 @@
 --   write_refusal c t n   0, or 1 a lent table too short, 13 the case isn't writable, 18 a line of its text over 200
 --                         bytes or the text over 32,768, 19 the output, n bytes long, shorter than the text
 --   WrittenAs ..          the answer and the output at exit
-use Rattle.std.specs.Prelude.{Bool, not, ◌&&◌, List, [], ◌∷◌, map, ℕ, leb, length, get_or}
+use Rattle.std.specs.Prelude.{Bool, not, ◌&&◌, List, [], ◌∷◌, map, ℕ, Result, leb, length, get_or}
+use Rattle.refusals.specs.declared.Refusal.{Refusal}
 use Rattle.words.specs.Below.{any, every}
 use Rattle.words.specs.Choice.{check, first_failed}
 use Rattle.program.specs.declared.case.Case.{Case}
@@ -21,7 +22,6 @@ use Rattle.names.specs.Row.{row_at, name_in}
 use Rattle.store.specs.Lent.{Lent}
 use Rattle.checks.specs.Naming.{is_name}
 use Rattle.reader.specs.Operation.{tables_fit}
-use Rattle.output.specs.declared.Answer.{Answer}
 use Rattle.output.specs.Showing.{Shown}
 use Rattle.spelling.specs.Page.{some_long_line}
 use Rattle.writing.specs.Lines.{lines_of, line_text}
@@ -57,5 +57,5 @@ write_refusal c t n =
     ∷ [])
 
 -- the output at entry and at exit
-abbrev pub WrittenAs : Case → Lent → List ℕ → Answer → List ℕ → Type 0
+abbrev pub WrittenAs : Case → Lent → List ℕ → Result ℕ Refusal → List ℕ → Type 0
 WrittenAs c t out r outAfter = Shown (write_refusal c t (length out)) (case_text c t) out r outAfter

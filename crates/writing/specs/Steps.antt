@@ -3,19 +3,17 @@
 --   atom_texts, ..            the texts of the lines of each kind, by the names table na
 --   edition_texts e           the text of the edition line of a case of edition e, where it has one
 --   priced_text na pr a       the text of the line of atom a's price, where it is above 0
---   literal_tokens name b a   the tokens of the literal on atom a, negated where b holds
+--   literal_tokens b w        the tokens of the literal on the atom named w, negated where b holds
 --   opened_by w               the tokens that a form with the word w begins with
 --   Closes g p ..             the line that started at the page g was closed and ended at the pen p
 --   FormulaRoom ..            a formula begins at a place of the nodes, and there is room for its text
 --   FormulaWritten ..         the formula that begins there was written; next is the place behind it
 --   KindsSound cl n           the first n clauses are of a kind there is; BarsSound so of constraints
 --   QueriesSound ..           the nodes of each of the first n formulas, at most 128, are one formula
---   EndsName na a r           r is the place behind the name in row a
 --   Fit c t                   the tables t fit, and the case c with them is writable
 --   first_page                the page at the output's first byte
-use Rattle.std.specs.Prelude.{◌≡◌, Bool, true, false, List, [], ◌∷◌, ◌++◌, map, ℕ, zero, suc, ◌+◌, ◌*◌, ◌≤◌, ◌<◌, eqb}
+use Rattle.std.specs.Prelude.{◌≡◌, Bool, true, false, List, [], ◌∷◌, ◌++◌, map, ℕ, zero, suc, ◌≤◌, ◌<◌, eqb}
 use Rattle.std.specs.Prelude.{ltb, length, get_or, drop}
-use Rattle.std.proofs.Math.Seq.{slice}
 use Rattle.words.specs.Choice.{cons_if}
 use Rattle.words.specs.Lists.{list_of}
 use Rattle.logic.specs.Formula.{Formula}
@@ -70,8 +68,8 @@ unfoldable pub cost_texts : List ℕ → List ℕ → ℕ → List (List ℕ)
 cost_texts na pr zero = []
 cost_texts na pr (suc a) = cost_texts na pr a ++ priced_text na pr a
 
-abbrev pub literal_tokens : (ℕ → List ℕ) → Bool → ℕ → List Token
-literal_tokens name b a = tokens_of (of_literal (Literal.literal b (name a)))
+abbrev pub literal_tokens : Bool → List ℕ → List Token
+literal_tokens b w = tokens_of (of_literal (Literal.literal b w))
 
 abbrev pub opened_by : List ℕ → List Token
 opened_by w = Token.opening ∷ (Token.word w ∷ [])
@@ -106,9 +104,6 @@ BarsSound co n = (k : ℕ) → k < n → constraint_kind co k < 2
 abbrev pub QueriesSound : List ℕ → List ℕ → ℕ → Type 0
 QueriesSound ns fo n = (q : ℕ) → q < n → (get_or ns q 0 ≤ part_size)
     × (nodes.spelled (nodes_of ns fo q) ≡ Spelling.formulas (nodes.formula_of (nodes_of ns fo q) ∷ []))
-
-abbrev pub EndsName : List ℕ → ℕ → ℕ → Type 0
-EndsName na a r = (16 * a ≤ r) × (r ≤ 16 * a + 16) × (slice (16 * a) r na ≡ name_in na a)
 
 pub record Fit (c : Case) (t : Lent) : Type 0 where
   pub tables-fit : tables_fit t ≡ true

@@ -1,5 +1,5 @@
 // Writing literals.
-ghost use Rattle.std.specs.Prelude.{[], ◌∷◌, ◌+◌, ◌*◌, ◌≤◌, length};
+ghost use Rattle.std.specs.Prelude.{[], ◌∷◌, ◌≤◌, length};
 ghost use Rattle.program.specs.Case.{name_size};
 ghost use Rattle.program.specs.Cause.{atoms_in};
 ghost use Rattle.text.specs.Tokens.{Token};
@@ -10,7 +10,9 @@ ghost use Rattle.spelling.specs.Pen.{inked, Spells};
 ghost use Rattle.writing.specs.Lines.{literals_on, literals_for};
 ghost use Rattle.writing.specs.Steps.{literal_tokens};
 
-use spelling::{Pen, closing, name, opening, word};
+use output::name_of;
+use spelling::{Pen, closing, opening, word};
+use words::walk::bits_of;
 
 // Writes an opening bracket and the word behind it.
 pub fn open_word(out: &mut [u8], p: Pen, text: &[u8]) -> Pen
@@ -22,19 +24,17 @@ pub fn open_word(out: &mut [u8], p: Pen, text: &[u8]) -> Pen
     word(out, q, text)
 }
 
-// Writes the literal on an atom.
-pub fn literal(out: &mut [u8], p: Pen, names: &[u8], atom: usize, negated: bool) -> Pen
-    requires { (16 * atom + 16 ≤ length names.now)
-        × Room (inked p (literal_tokens (name_in names.now) negated atom)) p.at }
-    ensures { Spells (literal_tokens (name_in names.now) negated atom) out.old p result
-        out.new }
+// Writes the literal on the atom with a name.
+pub fn literal(out: &mut [u8], p: Pen, name: &[u8], negated: bool) -> Pen
+    requires { Room (inked p (literal_tokens negated name.now)) p.at }
+    ensures { Spells (literal_tokens negated name.now) out.old p result out.new }
 {
     if negated {
         let q = open_word(out, p, b"not");
-        let s = name(out, q, names, atom);
+        let s = word(out, q, name);
         return closing(out, s);
     }
-    name(out, p, names, atom)
+    word(out, p, name)
 }
 
 // Writes the literals on the atoms of a word, in atom order.
@@ -45,11 +45,9 @@ pub fn literals(out: &mut [u8], p: Pen, names: &[u8], atoms: u64, negated: bool)
         out.old p result out.new }
 {
     let mut pen = p;
-    let mut left = atoms;
-    while left != 0 {
-        let a = words::lowest_bit(left);
-        pen = literal(out, pen, names, a as usize, negated);
-        left = words::without(left, a);
+    for a in bits_of(atoms) {
+        let name = name_of(names, a as usize);
+        pen = literal(out, pen, name, negated);
     }
     pen
 }

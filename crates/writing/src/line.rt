@@ -1,5 +1,5 @@
 // Writing a line of each kind.
-ghost use Rattle.std.specs.Prelude.{◌≡◌, [], ◌∷◌, ◌+◌, ◌*◌, ◌/◌, ◌%◌, ◌≤◌, ◌<◌, length, get_or};
+ghost use Rattle.std.specs.Prelude.{◌≡◌, [], ◌∷◌, ◌+◌, ◌/◌, ◌%◌, ◌≤◌, ◌<◌, length, get_or};
 ghost use Rattle.logic.specs.Nodes.{Spelling, spelled, formula_of};
 ghost use Rattle.program.specs.Case.{name_size};
 ghost use Rattle.text.specs.Spelled.{text_of};
@@ -14,18 +14,18 @@ ghost use Rattle.writing.specs.Steps.{opened_by, Closes};
 
 use crate::body::{body, literal, open_word};
 use crate::formula::formula;
-use spelling::{Page, Pen, closing, end_line, name, number};
+use spelling::{Page, Pen, closing, end_line, name, number, word};
 
 // Writes what a line begins with: an opening bracket and its word.
 pub fn begin(out: &mut [u8], g: Page, text: &[u8]) -> Pen
     requires { Room (inked (start_of g) (opened_by text.now)) g.at }
     ensures { Spells (opened_by text.now) out.old (start_of g) result out.new }
 {
-    let p = Pen {
+    let start = Pen {
         at: g.at,
         behind: false,
     };
-    open_word(out, p, text)
+    open_word(out, start, text)
 }
 
 // Writes what a clause of a kind begins with.
@@ -46,10 +46,10 @@ fn begin_constraint(out: &mut [u8], g: Page, kind: u64) -> Pen
     ensures { Spells (opened_by (get_or line_words (3 + kind) [])) out.old (start_of g) result
         out.new }
 {
-    if kind == 0 {
-        return begin(out, g, b"never");
+    match kind {
+        0 => begin(out, g, b"never"),
+        _ => begin(out, g, b"avoid"),
     }
-    begin(out, g, b"avoid")
 }
 
 // Writes what the line that started at a page ends with: a closing bracket and LF.
@@ -62,14 +62,12 @@ pub fn close(out: &mut [u8], g: Page, p: Pen) -> Page
 }
 
 // Writes the line that names an atom.
-pub fn atom_line(out: &mut [u8], g: Page, names: &[u8], atom: usize) -> Page
-    requires { (16 * atom + 16 ≤ length names.now)
-        × Room (text_of (line_text (Line.atom (name_in names.now atom)) ∷ [])) g.at }
-    ensures { Sets (line_text (Line.atom (name_in names.now atom)) ∷ []) out.old g result
-        out.new }
+pub fn atom_line(out: &mut [u8], g: Page, name: &[u8]) -> Page
+    requires { Room (text_of (line_text (Line.atom name.now) ∷ [])) g.at }
+    ensures { Sets (line_text (Line.atom name.now) ∷ []) out.old g result out.new }
 {
     let p = begin(out, g, b"atom");
-    let q = name(out, p, names, atom);
+    let q = word(out, p, name);
     close(out, g, q)
 }
 
@@ -126,15 +124,14 @@ pub fn constraint_line(
     close(out, g, q)
 }
 
-// Writes the line of an observed literal.
-pub fn seen_line(out: &mut [u8], g: Page, names: &[u8], atom: usize, negated: bool) -> Page
-    requires { (16 * atom + 16 ≤ length names.now)
-        × Room (text_of (line_text (Line.seen (Literal.literal negated (name_in names.now atom))) ∷ [])) g.at }
-    ensures { Sets (line_text (Line.seen (Literal.literal negated (name_in names.now atom))) ∷ [])
-        out.old g result out.new }
+// Writes the line of an observed literal, on the atom with a name.
+pub fn seen_line(out: &mut [u8], g: Page, name: &[u8], negated: bool) -> Page
+    requires { Room (text_of (line_text (Line.seen (Literal.literal negated name.now)) ∷ [])) g.at }
+    ensures { Sets (line_text (Line.seen (Literal.literal negated name.now)) ∷ []) out.old g result
+        out.new }
 {
     let p = begin(out, g, b"seen");
-    let q = literal(out, p, names, atom, negated);
+    let q = literal(out, p, name, negated);
     close(out, g, q)
 }
 
@@ -151,15 +148,14 @@ pub fn query_line(out: &mut [u8], g: Page, names: &[u8], nodes: &[u8]) -> Page
     close(out, g, s.pen)
 }
 
-// Writes the line of an atom's price.
-pub fn cost_line(out: &mut [u8], g: Page, names: &[u8], atom: usize, price: u32) -> Page
-    requires { (16 * atom + 16 ≤ length names.now)
-        × Room (text_of (line_text (Line.cost (name_in names.now atom) (decimal price) (decimal 0)) ∷ [])) g.at }
-    ensures { Sets (line_text (Line.cost (name_in names.now atom) (decimal price) (decimal 0)) ∷ [])
-        out.old g result out.new }
+// Writes the line of the price of the atom with a name.
+pub fn cost_line(out: &mut [u8], g: Page, name: &[u8], price: u32) -> Page
+    requires { Room (text_of (line_text (Line.cost name.now (decimal price) (decimal 0)) ∷ [])) g.at }
+    ensures { Sets (line_text (Line.cost name.now (decimal price) (decimal 0)) ∷ []) out.old g
+        result out.new }
 {
     let p = begin(out, g, b"cost");
-    let q = name(out, p, names, atom);
+    let q = word(out, p, name);
     let s = number(out, q, price as u64);
     let u = number(out, s, 0);
     close(out, g, u)

@@ -2,7 +2,7 @@
 ghost use Rattle.std.specs.Prelude.{◌+◌, ◌*◌, ◌≤◌, ◌<◌, length};
 ghost use Rattle.program.specs.Case.{name_size, formula_size, price_size};
 ghost use Rattle.text.specs.Spelled.{text_of};
-ghost use Rattle.store.specs.Lent.{lent};
+ghost use Rattle.store.specs.LentTables.{lent_of};
 ghost use Rattle.output.specs.Writing.{Room};
 ghost use Rattle.spelling.specs.Page.{Sets};
 ghost use Rattle.writing.specs.Operation.{case_lines, case_text};
@@ -13,8 +13,12 @@ ghost use Rattle.writing.specs.Steps.{Fit, first_page};
 use crate::line::{
     atom_line, clause_line, constraint_line, cost_line, edition_line, query_line, seen_line,
 };
+use output::name_of;
 use program::case::Case;
+use program::clauses::Clauses;
 use spelling::Page;
+use store::lent::LentTables;
+use words::walk::bits_of;
 
 // Writes the lines that name the first n atoms.
 fn atom_lines(out: &mut [u8], g: Page, names: &[u8], n: usize) -> Page
@@ -22,10 +26,8 @@ fn atom_lines(out: &mut [u8], g: Page, names: &[u8], n: usize) -> Page
     ensures { Sets (atom_texts names.now n) out.old g result out.new }
 {
     let mut page = g;
-    let mut a = 0;
-    while a < n {
-        page = atom_line(out, page, names, a);
-        a += 1;
+    for a in 0..n {
+        page = atom_line(out, page, name_of(names, a));
     }
     page
 }
@@ -41,26 +43,18 @@ fn edition_lines(out: &mut [u8], g: Page, edition: usize) -> Page
     edition_line(out, g, edition)
 }
 
-// Writes the lines of the first n clauses.
-fn clause_lines(out: &mut [u8], g: Page, names: &[u8], clauses: &[u64], n: usize) -> Page
-    requires { (n ≤ 256) × (name_size ≤ length names.now) × (3 * n ≤ length clauses.now)
-        × KindsSound clauses.now n × Room (text_of (clause_texts names.now clauses.now n)) g.at }
-    ensures { Sets (clause_texts names.now clauses.now n) out.old g result
+// Writes the lines of the clauses.
+fn clause_lines(out: &mut [u8], g: Page, names: &[u8], clauses: Clauses) -> Page
+    requires { (name_size ≤ length names.now) × KindsSound clauses.words.now clauses.count
+        × Room (text_of (clause_texts names.now clauses.words.now clauses.count)) g.at }
+    ensures { Sets (clause_texts names.now clauses.entry.words.now clauses.entry.count) out.old g result
         out.new }
 {
+    let words = clauses.words;
     let mut page = g;
-    let mut k = 0;
-    while k < n {
+    for k in 0..clauses.count {
         let at = 3 * k;
-        page = clause_line(
-            out,
-            page,
-            names,
-            clauses[at],
-            clauses[at + 1],
-            clauses[at + 2],
-        );
-        k += 1;
+        page = clause_line(out, page, names, words[at], words[at + 1], words[at + 2]);
     }
     page
 }
@@ -73,19 +67,11 @@ fn constraint_lines(out: &mut [u8], g: Page, names: &[u8], constraints: &[u64], 
     ensures { Sets (constraint_texts names.now constraints.now n) out.old g result
         out.new }
 {
+    let words = constraints;
     let mut page = g;
-    let mut k = 0;
-    while k < n {
+    for k in 0..n {
         let at = 3 * k;
-        page = constraint_line(
-            out,
-            page,
-            names,
-            constraints[at],
-            constraints[at + 1],
-            constraints[at + 2],
-        );
-        k += 1;
+        page = constraint_line(out, page, names, words[at], words[at + 1], words[at + 2]);
     }
     page
 }
@@ -97,11 +83,9 @@ fn seen_lines(out: &mut [u8], g: Page, names: &[u8], atoms: u64, negated: bool) 
     ensures { Sets (seen_texts names.now negated atoms) out.old g result out.new }
 {
     let mut page = g;
-    let mut left = atoms;
-    while left != 0 {
-        let a = words::lowest_bit(left);
-        page = seen_line(out, page, names, a as usize, negated);
-        left = words::without(left, a);
+    for a in bits_of(atoms) {
+        let name = name_of(names, a as usize);
+        page = seen_line(out, page, name, negated);
     }
     page
 }
@@ -122,12 +106,10 @@ fn query_lines(
         out.old g result out.new }
 {
     let mut page = g;
-    let mut q = 0;
-    while q < n {
+    for q in 0..n {
         let at = Case::NODES * q;
         let end = at + nodes[q];
         page = query_line(out, page, names, &formula[at..end]);
-        q += 1;
     }
     page
 }
@@ -143,7 +125,7 @@ fn priced_line(out: &mut [u8], g: Page, names: &[u8], prices: &[u32], atom: usiz
     if price == 0 {
         return g;
     }
-    cost_line(out, g, names, atom, price)
+    cost_line(out, g, name_of(names, atom), price)
 }
 
 // Writes the lines of the prices above 0 of the first n atoms.
@@ -154,39 +136,29 @@ fn cost_lines(out: &mut [u8], g: Page, names: &[u8], prices: &[u32], n: usize) -
         out.new }
 {
     let mut page = g;
-    let mut atom = 0;
-    while atom < n {
+    for atom in 0..n {
         page = priced_line(out, page, names, prices, atom);
-        atom += 1;
     }
     page
 }
 
 // Writes the lines of a case from the output's first byte on.
-pub fn case_lines(
-    out: &mut [u8],
-    c: Case,
-    clauses: &[u64],
-    constraints: &[u64],
-    formula: &[u8],
-    names: &[u8],
-    prices: &[u32],
-) -> Page
-    requires { Fit c (lent clauses.now constraints.now formula.now names.now prices.now)
-        × Room (case_text c (lent clauses.now constraints.now formula.now names.now prices.now)) 0 }
-    ensures { Sets
-        (case_lines c (lent clauses.now constraints.now formula.now
-        names.now prices.now))
-        out.old first_page result out.new }
+pub fn case_lines(out: &mut [u8], c: Case, t: LentTables) -> Page
+    requires { Fit c (lent_of t) × Room (case_text c (lent_of t)) 0 }
+    ensures { Sets (case_lines c (lent_of t.entry)) out.old first_page result out.new }
 {
-    let first = Page { at: 0, long: false };
-    let named = atom_lines(out, first, names, c.atoms);
-    let edited = edition_lines(out, named, c.edition);
-    let ruled = clause_lines(out, edited, names, clauses, c.clauses);
-    let bounded = constraint_lines(out, ruled, names, constraints, c.constraints);
-    let seen = seen_lines(out, bounded, names, c.plain, false);
-    let observed = seen_lines(out, seen, names, c.negated, true);
+    let clauses = Clauses {
+        words: t.clauses,
+        count: c.clauses,
+    };
     let nodes = c.nodes;
-    let asked = query_lines(out, observed, names, &nodes, formula, c.formulas);
-    cost_lines(out, asked, names, prices, c.atoms)
+    let first = Page { at: 0, long: false };
+    let named = atom_lines(out, first, t.names, c.atoms);
+    let edited = edition_lines(out, named, c.edition);
+    let ruled = clause_lines(out, edited, t.names, clauses);
+    let bounded = constraint_lines(out, ruled, t.names, t.constraints, c.constraints);
+    let seen = seen_lines(out, bounded, t.names, c.plain, false);
+    let observed = seen_lines(out, seen, t.names, c.negated, true);
+    let asked = query_lines(out, observed, t.names, &nodes, t.formula, c.formulas);
+    cost_lines(out, asked, t.names, t.prices, c.atoms)
 }

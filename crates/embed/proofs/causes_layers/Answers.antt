@@ -5,4 +5,6 @@ use Rattle.embed.proofs.Exports.{layers_done}
 use Rattle.embed.proofs.causes_layers.Goals as goal
 
 pub returns : goal.returns
-returns c = layers_done c.case_in-c.ensures (omega arith) (omega arith) c.layers-a.ensures c.put_layers.ensures
+returns c =
+    layers_done c.case_in.ensures (omega arith) (omega arith) c.layers-layers.ensures
+    c.number.ensures c.put_layers.ensures

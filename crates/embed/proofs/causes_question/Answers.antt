@@ -5,4 +5,6 @@ use Rattle.embed.proofs.Exports.{question_done}
 use Rattle.embed.proofs.causes_question.Goals as goal
 
 pub returns : goal.returns
-returns c = question_done c.case_in-c.ensures (omega arith) (omega arith) c.ask-a.ensures c.put_asked.ensures
+returns c =
+    question_done c.case_in.ensures (omega arith) (omega arith) c.ask-asked.ensures
+    c.number.ensures c.put_asked.ensures

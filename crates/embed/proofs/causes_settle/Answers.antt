@@ -5,4 +5,6 @@ use Rattle.embed.proofs.Exports.{settle_done}
 use Rattle.embed.proofs.causes_settle.Goals as goal
 
 pub returns : goal.returns
-returns c = settle_done c.case_in-c.ensures (omega arith) (omega arith) c.settle_one-a.ensures c.put_settled.ensures
+returns c =
+    settle_done c.case_in.ensures (omega arith) (omega arith) c.settle_one-settled.ensures
+    c.number.ensures c.put_settled.ensures

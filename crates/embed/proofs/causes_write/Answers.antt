@@ -5,4 +5,6 @@ use Rattle.embed.proofs.Exports.{write_done}
 use Rattle.embed.proofs.causes_write.Goals as goal
 
 pub returns : goal.returns
-returns c = write_done c.case_in-c.ensures (omega arith) (omega arith) c.write-a.ensures c.put_length.ensures
+returns c =
+    write_done c.case_in.ensures (omega arith) (omega arith) c.write-written.ensures
+    c.number.ensures c.put_length.ensures

@@ -3,5 +3,6 @@ use native.Mathlib.Omega.{arith}
 use Rattle.embed.proofs.Exports.{asked_put}
 use Rattle.embed.proofs.put_asked.Goals as goal
 
-pub returns : goal.returns
-returns c = asked_put c.args.a c.args.answer.now (omega arith) c.put_words.ensures c.put_words-2.ensures
+pub returns-in-Ok : goal.returns-in-Ok
+returns-in-Ok c =
+    rw c.in-Ok.is (asked_put c.in-Ok.a c.args.answer.now (omega arith) c.put.ensures c.put-in-Ok.ensures)

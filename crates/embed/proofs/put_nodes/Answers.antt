@@ -4,4 +4,5 @@ use Rattle.embed.proofs.Exports.{nodes_put}
 use Rattle.embed.proofs.put_nodes.Goals as goal
 
 pub returns : goal.returns
-returns c = nodes_put c.args.c c.args.answer.now (omega arith) c.put_counts.ensures c.put_words.ensures
+returns c =
+    nodes_put c.args.c c.args.answer.now (omega arith) (rw c.words_of-nodes.ensures at c.put.ensures) c.put-2.ensures

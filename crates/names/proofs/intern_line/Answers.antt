@@ -1,24 +1,21 @@
 -- The goals of `names::intern_line`: its loop keeps the invariant, and each way out gives what is promised.
 -- Assumes nothing.
-use borrow.Author.Rules.{rules}
-use Rattle.text.proofs.Names.{name-onward, name-within, name-less}
-use Rattle.names.proofs.LineNames.{adding_all, adding_none, adding_more, adding_full}
+use native.Mathlib.Omega.{arith}
+use Rattle.names.proofs.LineNames.{adding_none, adding_more, adding_full}
 use Rattle.names.proofs.intern_line.Goals as goal
 
-pub loop-a-init : goal.loop-a-init
-loop-a-init c = search (rules, adding_all)
-
-pub returns-in_default : goal.returns-in_default
-returns-in_default c = search (rules, adding_none)
-
-pub intern-n-requires : goal.intern-n-requires
-intern-n-requires c = search (rules, name-onward, name-within)
-
-pub returns-then-n-gt64 : goal.returns-then-n-gt64
-returns-then-n-gt64 c = search (rules, adding_full)
-
-pub loop-a-smaller : goal.loop-a-smaller
-loop-a-smaller c = search (rules, name-less)
+pub returns-in_err-n-clause-stored : goal.returns-in_err-n-clause-stored
+returns-in_err-n-clause-stored c =
+    let full = adding_full c.loop-a.invariant.adding c.next_name.ensures c.in-Some.is c.in_err-n.ensures.stored in
+    rw c.from_residual.ensures (full (omega arith))
 
 pub loop-a-preserved : goal.loop-a-preserved
-loop-a-preserved c = search (rules, adding_more)
+loop-a-preserved c = record {
+  few = c.in_ok-n.ensures.few;
+  same-length = omega arith;
+  adding = adding_more c.loop-a.invariant.adding c.next_name.ensures c.in-Some.is c.in_ok-n.ensures.stored
+      c.in_ok-n.ensures.few;
+}
+
+pub returns-clause-stored : goal.returns-clause-stored
+returns-clause-stored c = adding_none c.loop-a.invariant.adding c.next_name.ensures c.in_default.is

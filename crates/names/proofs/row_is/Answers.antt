@@ -7,8 +7,8 @@ use Rattle.names.proofs.row_is.Goals as goal
 pub loop-j-init : goal.loop-j-init
 loop-j-init c = search (rules, row-from-none)
 
-pub returns-then-names-base : goal.returns-then-names-base
-returns-then-names-base c = search (rules, row-from-stops, c.if-names-base.true)
+pub returns-then-names-row : goal.returns-then-names-row
+returns-then-names-row c = search (rules, row-from-stops, c.if-names-row.true)
 
 pub loop-j-preserved : goal.loop-j-preserved
 loop-j-preserved c = search (rules, row-from-more)

@@ -1,28 +1,17 @@
 -- The goals of `names::some_long`: its loop keeps the invariant, and each way out gives what is promised.
 -- Assumes nothing.
-use borrow.Author.Rules.{rules}
-use Rattle.text.proofs.Names.{name-onward, name-less}
-use Rattle.names.proofs.LineNames.{long-from-none, long-short, long-none, long-here}
-use Rattle.names.proofs.LineNames.{long-later}
+use native.Mathlib.Omega.{arith}
+use Rattle.names.proofs.LineNames.{long-short, long-none, long-here, long-later}
 use Rattle.names.proofs.some_long.Goals as goal
 
-pub loop-at-init : goal.loop-at-init
-loop-at-init c = search (rules, long-from-none)
-
 pub returns-in_default : goal.returns-in_default
-returns-in_default c = search (rules, long-none)
-
-pub overflow_sub-e : goal.overflow_sub-e
-overflow_sub-e c = search (rules, name-onward)
+returns-in_default c = long-none c.loop-at.invariant c.next_name.ensures c.in_default.is
 
 pub returns-then-e-a-gt16 : goal.returns-then-e-a-gt16
-returns-then-e-a-gt16 c = search (rules, long-here)
-
-pub loop-at-smaller : goal.loop-at-smaller
-loop-at-smaller c = search (rules, name-less)
+returns-then-e-a-gt16 c = long-here c.loop-at.invariant c.next_name.ensures c.in-Some.is (omega arith)
 
 pub loop-at-preserved : goal.loop-at-preserved
-loop-at-preserved c = search (rules, long-later)
+loop-at-preserved c = long-later c.loop-at.invariant c.next_name.ensures c.in-Some.is (omega arith)
 
 pub returns : goal.returns
-returns c = search (rules, long-short)
+returns c = long-short c.loop-at.invariant (omega arith)

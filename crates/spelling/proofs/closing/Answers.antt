@@ -2,8 +2,8 @@
 use Rattle.spelling.proofs.Pens.{closing-room, closing-written}
 use Rattle.spelling.proofs.closing.Goals as goal
 
-pub put-end-requires : goal.put-end-requires
-put-end-requires c = search closing-room
+pub put-requires : goal.put-requires
+put-requires c = search closing-room
 
 pub returns : goal.returns
 returns c = search closing-written

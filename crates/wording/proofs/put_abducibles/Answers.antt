@@ -2,14 +2,13 @@
 -- Assumes nothing.
 use native.Mathlib.Omega.{arith}
 use Prim.Native.Nat.{◌≤◌}
-use Rattle.words.proofs.BitWalks.{without_less}
 use Rattle.program.proofs.Settings.{choice_some}
-use Rattle.output.proofs.Laying.{writes-length}
 use Rattle.wording.proofs.Abducibles.{cause_start, cause_room, cause_next, cause_end}
 use Rattle.wording.proofs.put_abducibles.Goals as goal
 
-pub loop-left-init : goal.loop-left-init
-loop-left-init c = cause_start _ _ _ _ _ _
+pub loop-atom-init : goal.loop-atom-init
+loop-atom-init c =
+    rw (c.into_iter-atom-iterator.ensures.into_iter_gives, c.bits_of-atom-items.ensures) (cause_start _ _ _ _ _ _)
 
 pub nonzero_rem-rest : goal.nonzero_rem-rest
 nonzero_rem-rest c =
@@ -19,9 +18,9 @@ nonzero_rem-rest c =
 
 pub put_abducible-place-requires : goal.put_abducible-place-requires
 put_abducible-place-requires c =
-    let l = c.lowest_bit-atom.ensures in
+    let l = c.in-Some.ensures.steps.0 in
     let p = c.requires in
-    (omega (arith, l.bit.small, p.0), cause_room c.loop-left.invariant l c.choice-base.ensures p.1)
+    (omega (arith, l.bit.small, p.0), cause_room c.loop-atom.invariant l c.choice-base.ensures p.1)
 
 pub nonzero_div-rest : goal.nonzero_div-rest
 nonzero_div-rest c =
@@ -29,19 +28,10 @@ nonzero_div-rest c =
     rw c.choice-base.ensures (choice_some _ _) in
     the_base_some
 
-pub loop-left-smaller : goal.loop-left-smaller
-loop-left-smaller c =
-    let l = c.lowest_bit-atom.ensures in
-    rw (c.without_lowest-left.ensures _ l) (without_less _ _ l.bit)
-
-pub loop-left-preserved : goal.loop-left-preserved
-loop-left-preserved c =
-    let l = c.lowest_bit-atom.ensures in
-    rw (c.without_lowest-left.ensures _ l)
-    (cause_next c.loop-left.invariant l c.choice-base.ensures c.put_abducible-place.ensures)
-
-pub shape_of-out : goal.shape_of-out
-shape_of-out c = search writes-length
+pub loop-atom-preserved : goal.loop-atom-preserved
+loop-atom-preserved c =
+    rw c.in-Some.ensures.steps.1
+    (cause_next c.loop-atom.invariant c.in-Some.ensures.steps.0 c.choice-base.ensures c.put_abducible-place.ensures)
 
 pub returns : goal.returns
-returns c = cause_end c.loop-left.invariant c.loop-left-test.false
+returns c = cause_end c.loop-atom.invariant c.in-None.ensures.steps.0

@@ -1,12 +1,10 @@
 -- `wording::put_abducibles` meets its contract. The loop's invariant: what is written so far, and what is left of
--- the setting for the causes left, make up the whole. The measure is the word of the causes left. Assumes nothing.
+-- the setting for the causes left, make up the whole. Assumes nothing.
 use Rattle.names.specs.Row.{name_in}
 use Rattle.wording.proofs.Abducibles.{AtCause}
 use Rattle.wording.proofs.put_abducibles.Given as goal
 
-abbrev pub invariant-loop-left : goal.invariant-loop-left
-invariant-loop-left l =
-    AtCause (name_in l.names) l.causes.twofold l.causes.all l.setting l.initial.out l.at l.left l.rest l.place l.out
-
-abbrev pub decreases-loop-left : goal.decreases-loop-left
-decreases-loop-left l = l.left
+abbrev pub invariant-loop-atom : goal.invariant-loop-atom
+invariant-loop-atom l =
+    AtCause (name_in l.names) l.causes.twofold l.causes.all l.setting l.initial.out l.at l.atom-iterator.left l.rest
+    l.place l.out

@@ -1,10 +1,6 @@
 -- `words::without_lowest` meets its contract. Assumes nothing.
-use native.Mathlib.Omega.{arith}
 use Rattle.words.proofs.LowestBit.{and-one-less}
 use Rattle.words.proofs.without_lowest.Goals as goal
-
-pub overflow_sub-result : goal.overflow_sub-result
-overflow_sub-result c = omega (arith, c.requires)
 
 pub returns : goal.returns
 returns c = λ i l. and-one-less c.args.w i c.ranges.w.fits l

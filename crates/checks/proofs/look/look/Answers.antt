@@ -1,6 +1,7 @@
 -- `look::look` meets its contract: a law for each way out. Assumes nothing.
 use borrow.Author.Rules.{rules}
-use Rattle.words.proofs.Tests.{failed, passed}
+use mathlib.Core.Path.{sym, ◌∙◌}
+use Rattle.words.proofs.Tests.{failed}
 use Rattle.checks.proofs.Looking.{looked_comment, looked-long, looked-bytes, looked_no_form, looked-form}
 use Rattle.checks.proofs.look.look.Goals as goal
 
@@ -13,8 +14,12 @@ returns-then-l-gt200 c = search (rules, looked-long)
 pub returns-then-not-all_allowed : goal.returns-then-not-all_allowed
 returns-then-not-all_allowed c = search (rules, looked-bytes, failed)
 
-pub returns-in_default : goal.returns-in_default
-returns-in_default c = search (rules, looked-form, passed)
+pub returns-in-Some : goal.returns-in-Some
+returns-in-Some c =
+    looked-form c.is_comment.ensures c.if-is_comment.false c.if-l-gt200.false
+    (sym c.all_allowed.ensures ∙ c.if-not-all_allowed.false) c.in-Some.ensures
 
-pub returns : goal.returns
-returns c = search (rules, looked_no_form, passed)
+pub returns-in-None : goal.returns-in-None
+returns-in-None c =
+    looked_no_form c.is_comment.ensures c.if-is_comment.false c.if-l-gt200.false
+    (sym c.all_allowed.ensures ∙ c.if-not-all_allowed.false) c.in-None.ensures

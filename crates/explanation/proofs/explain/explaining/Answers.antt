@@ -5,4 +5,4 @@ use Rattle.explanation.proofs.explain.explaining.Goals as goal
 pub returns : goal.returns
 returns c =
     let a = c.args in
-    explaining_is _ _ a.t.now a.f.now _ _ c.body-seen.ensures c.all_met.ensures
+    explaining_is _ _ a.p.now.trues a.p.now.falses _ _ c.body-seen.ensures c.all_met.ensures

@@ -1,30 +1,24 @@
 -- `formula::head_at` meets its contract, by a law for each way out. Assumes nothing.
-use borrow.Author.Rules.{rules}
+use Rattle.std.proofs.Common.{rules}
 use Rattle.formulas.proofs.FirstItem.{found_begins}
-use Rattle.formulas.proofs.Formulas.{word-filled, word-onward, word-within}
-use Rattle.formulas.proofs.Formulas.{name-head, word-head, opening-head, other-head, form-head}
+use Rattle.formulas.proofs.Formulas.{name_found, opening-head, other-head, form-head}
 use Rattle.formulas.proofs.formula.head_at.Goals as goal
 
-pub is_name-requires : goal.is_name-requires
-is_name-requires c = search (rules, word-filled, word-within)
+pub returns-in-Word : goal.returns-in-Word
+returns-in-Word c = rw c.then_some.ensures (name_found c.token.ensures c.in-Word.is c.is_name.ensures)
 
-pub returns-then-is_name : goal.returns-then-is_name
-returns-then-is_name c = search (rules, name-head)
+pub returns-in_err-a-in-Open : goal.returns-in_err-a-in-Open
+returns-in_err-a-in-Open c =
+    rw c.from_residual.ensures (opening-head c.token.ensures c.in-Open.is c.in_err-a-in-Open.ensures)
 
-pub returns-in_default-token : goal.returns-in_default-token
-returns-in_default-token c = search (rules, opening-head)
+pub returns-in_err-node-in-Open : goal.returns-in_err-node-in-Open
+returns-in_err-node-in-Open c =
+    rw c.from_residual-in_err-node-in-Open.ensures
+    (other-head c.token.ensures c.in-Open.is c.in_ok-a-in-Open.ensures c.node_of.ensures c.in_err-node-in-Open.was)
 
-pub node_of-node-requires : goal.node_of-node-requires
-node_of-node-requires c = search (rules, word-onward, word-within)
-
-pub returns-then-node-gt68 : goal.returns-then-node-gt68
-returns-then-node-gt68 c = search (rules, other-head)
-
-pub returns-else-is_name : goal.returns-else-is_name
-returns-else-is_name c = search (rules, word-head)
-
-pub returns-else-node-gt68 : goal.returns-else-node-gt68
-returns-else-node-gt68 c = search (rules, form-head)
+pub returns-in_ok-node-in-Open : goal.returns-in_ok-node-in-Open
+returns-in_ok-node-in-Open c =
+    form-head c.token.ensures c.in-Open.is c.in_ok-a-in-Open.ensures c.node_of.ensures c.in_ok-node-in-Open.was
 
 pub returns-in_default : goal.returns-in_default
 returns-in_default c = search (rules, found_begins)

@@ -1,23 +1,12 @@
--- Answers to the goals of this function. Assumes nothing.
-use borrow.Author.Rules.{rules}
-use Rattle.formulas.proofs.WordTables.{all_ahead, none_ahead}
-use Rattle.formulas.proofs.WordTables.{word-there, word_fits, word-found, word-passed}
+-- `keyword::place_of` meets its contract, by what `position` says of a list. Assumes nothing.
+use Rattle.std.proofs.Common.{rules}
+use Rattle.std.proofs.lemmas.Iterator.{YieldsList-from_slice}
+use Rattle.std.proofs.lemmas.Iterator.Search.{position_from_yields_List}
+use Rattle.formulas.proofs.Keywords.{is, place-found}
 use Rattle.formulas.proofs.keyword.place_of.Goals as goal
 
-pub loop-i-init : goal.loop-i-init
-loop-i-init c = search (rules, all_ahead)
-
-pub bounds-t-0 : goal.bounds-t-0
-bounds-t-0 c = search (rules, word-there)
-
-pub returns-then-is_same : goal.returns-then-is_same
-returns-then-is_same c = search (rules, word-found)
-
-pub slice_bounds-t-count : goal.slice_bounds-t-count
-slice_bounds-t-count c = search (rules, word_fits)
-
-pub loop-i-preserved : goal.loop-i-preserved
-loop-i-preserved c = search (rules, word-passed)
-
 pub returns : goal.returns
-returns c = search (rules, none_ahead)
+returns c =
+    let e = position_from_yields_List (is c.args.w.now) _ _ _ c.position.ensures.ran
+    (YieldsList-from_slice c.args.words.now cc) (λ v b q k. (search rules, search rules)) in
+    place-found c.args.words.now c.args.w.now e

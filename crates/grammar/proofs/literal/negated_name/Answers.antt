@@ -1,31 +1,30 @@
 -- `literal::negated_name` meets its contract: each return is one law of the tokens behind the bracket. Assumes nothing.
-use borrow.Author.Rules.{rules}
-use Rattle.words.proofs.Tests.{failed, passed}
-use Rattle.text.proofs.TokenLaws.{word-filled, word-le, word-within}
-use Rattle.grammar.proofs.Literals.{opened_wordless, opened-other, negation_wordless, negation-word}
-use Rattle.grammar.proofs.Literals.{negation-unclosed, negation-found}
+use Rattle.grammar.proofs.Literals.{opened_wordless, opened-none, opened-other, negation_unnamed, negation-unclosed}
+use Rattle.grammar.proofs.Literals.{negation-closed}
 use Rattle.grammar.proofs.literal.negated_name.Goals as goal
 
-pub returns-in_default : goal.returns-in_default
-returns-in_default c = search (rules, opened_wordless)
+pub returns-in_err-a : goal.returns-in_err-a
+returns-in_err-a c = rw c.from_residual.ensures (opened_wordless c.args.l.now c.args.at c.in_err-a.ensures)
 
-pub node_of-requires : goal.node_of-requires
-node_of-requires c = search (rules, word-le, word-within)
+pub returns-in_err-node_of : goal.returns-in_err-node_of
+returns-in_err-node_of c =
+    rw c.from_residual-in_err-node_of.ensures (opened-none c.in_ok-a.ensures c.in_err-node_of.ensures)
 
-pub returns-then-node_of-ne64 : goal.returns-then-node_of-ne64
-returns-then-node_of-ne64 c = search (rules, opened-other)
+pub returns-then-branch-ne-NOT : goal.returns-then-branch-ne-NOT
+returns-then-branch-ne-NOT c = opened-other c.in_ok-a.ensures c.in_ok-node_of.ensures c.if-branch-ne-NOT.true
 
-pub returns-in_default-token : goal.returns-in_default-token
-returns-in_default-token c = search (rules, negation_wordless)
+pub returns-in_err-b : goal.returns-in_err-b
+returns-in_err-b c =
+    rw c.from_residual-in_err-b.ensures
+    (negation_unnamed c.in_ok-a.ensures c.in_ok-node_of.ensures c.if-branch-ne-NOT.false c.in_err-b.ensures)
 
-pub is_name-requires : goal.is_name-requires
-is_name-requires c = search (rules, word-filled, word-within)
-
-pub returns-then-not-is_name : goal.returns-then-not-is_name
-returns-then-not-is_name c = search (rules, negation-word, failed)
-
-pub returns-in_default-token-2 : goal.returns-in_default-token-2
-returns-in_default-token-2 c = search (rules, negation-unclosed, passed)
+pub returns-in_err-next : goal.returns-in_err-next
+returns-in_err-next c =
+    rw c.from_residual-in_err-next.ensures
+    (negation-unclosed c.in_ok-a.ensures c.in_ok-node_of.ensures c.if-branch-ne-NOT.false c.in_ok-b.ensures
+    c.in_err-next.ensures)
 
 pub returns : goal.returns
-returns c = search (rules, negation-found, passed)
+returns c =
+    negation-closed c.in_ok-a.ensures c.in_ok-node_of.ensures c.if-branch-ne-NOT.false c.in_ok-b.ensures
+    c.in_ok-next.ensures

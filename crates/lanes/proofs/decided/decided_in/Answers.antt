@@ -16,4 +16,4 @@ loop-a-preserved c = counting_next _ _ _ c.loop-a.invariant c.count-total.ensure
 pub returns : goal.returns
 returns c =
     let p = c.requires in
-    counting_end _ _ _ c.loop-a.invariant _ p.1 (omega arith) c.lowest-valid.ensures p.2 c.loop-a-test.false
+    counting_end _ _ _ c.loop-a.invariant _ p.1 (omega arith) c.lowest-valid.ensures p.2 (omega arith)

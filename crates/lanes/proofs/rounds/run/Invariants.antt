@@ -8,7 +8,9 @@ use Rattle.lanes.proofs.rounds.run.Given as goal
 
 abbrev pub invariant-loop-c : goal.invariant-loop-c
 invariant-loop-c l =
-    Settling l.clauses l.n (added_in l.x l.y) l.m l.t l.f l.c l.k l.total × Sizes l.ut l.uf
+    Settling l.clauses.words.now l.clauses.count (added_in l.added.facts l.added.assumptions) l.m l.p.trues l.p.falses
+    l.c l.k l.total
+    × Sizes l.noted.trues l.noted.falses
 
 abbrev pub decreases-loop-c : goal.decreases-loop-c
 decreases-loop-c l = 64 - l.k

@@ -1,12 +1,7 @@
 -- The loop's invariant: what is written so far, and the lines from the next atom on, make up the whole.
-use Prim.Native.Nat.{◌-◌}
-use lib.ListN.{length}
 use Rattle.names.specs.Row.{name_in}
 use Rattle.layer_report.proofs.Texts.{AtAtom}
 use Rattle.layer_report.proofs.lines.layer_lines.Given as goal
 
 abbrev pub invariant-loop-atom : goal.invariant-loop-atom
 invariant-loop-atom l = AtAtom (name_in l.names) l.numbers l.initial.out l.at l.atom l.place l.out
-
-abbrev pub decreases-loop-atom : goal.decreases-loop-atom
-decreases-loop-atom l = length l.numbers - l.atom

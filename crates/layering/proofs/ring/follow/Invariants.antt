@@ -4,8 +4,8 @@ use Prim.Native.Nat.{◌-◌}
 use Rattle.layering.specs.Path.{Followed}
 use Rattle.layering.proofs.ring.follow.Given as goal
 
-abbrev pub invariant-loop-path : goal.invariant-loop-path
-invariant-loop-path l = Followed l.dependents l.stuck l.path l.len l.seen l.at
+abbrev pub invariant-loop-atoms : goal.invariant-loop-atoms
+invariant-loop-atoms l = Followed l.dependents l.stuck l.atoms l.len l.seen l.at
 
-abbrev pub decreases-loop-path : goal.decreases-loop-path
-decreases-loop-path l = 64 - l.len
+abbrev pub decreases-loop-atoms : goal.decreases-loop-atoms
+decreases-loop-atoms l = 64 - l.len

@@ -1,15 +1,12 @@
--- `clause::load_name` meets its contract: the gap, the letter, and the number behind it. Assumes nothing.
-use Rattle.loading.proofs.NameTexts.{name_gap_room, letter_room, digits-room, name-written}
+-- `clause::load_name` meets its contract: the letter, and the number behind it. Assumes nothing.
+use Rattle.loading.proofs.NameTexts.{digits-room, name-short, name-spelled}
 use Rattle.loading.proofs.clause.load_name.Goals as goal
 
-pub gap-first-requires : goal.gap-first-requires
-gap-first-requires c = search name_gap_room
+pub put_decimal-end-requires : goal.put_decimal-end-requires
+put_decimal-end-requires c = digits-room _ _ c.put-number.ensures
 
-pub put-number-requires : goal.put-number-requires
-put-number-requires c = search letter_room
-
-pub put_decimal-at-requires : goal.put_decimal-at-requires
-put_decimal-at-requires c = search digits-room
+pub shared_ref_as_front-result : goal.shared_ref_as_front-result
+shared_ref_as_front-result c = name-short _ _ c.put-number.ensures c.put_decimal-end.ensures
 
 pub returns : goal.returns
-returns c = search name-written
+returns c = name-spelled _ _ c.put-number.ensures c.put_decimal-end.ensures c.told-spelled

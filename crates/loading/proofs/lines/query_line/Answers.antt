@@ -6,13 +6,14 @@ use Rattle.loading.proofs.lines.query_line.Goals as goal
 pub begin-p-requires : goal.begin-p-requires
 begin-p-requires c = begin_room first-query-form c.args.g c.requires
 
-pub load_name-q-requires : goal.load_name-q-requires
-load_name-q-requires c = part_room first-query-form c.args.g c.begin-p.ensures c.requires
+pub word-q-requires : goal.word-q-requires
+word-q-requires c = rw c.load_name.ensures (part_room first-query-form c.args.g c.begin-p.ensures c.requires)
 
 pub close-requires : goal.close-requires
 close-requires c =
-    close_room first-query-form c.args.g c.begin-p.ensures c.load_name-q.ensures c.requires
+    close_room first-query-form c.args.g c.begin-p.ensures (rw c.load_name.ensures at c.word-q.ensures) c.requires
 
 pub returns : goal.returns
 returns c =
-    line-written first-query-form c.args.g c.begin-p.ensures c.load_name-q.ensures c.close.ensures
+    line-written first-query-form c.args.g c.begin-p.ensures
+    (rw c.load_name.ensures at c.word-q.ensures) c.close.ensures

@@ -1,11 +1,9 @@
--- `formula::one_formula` meets its contract: the formula read from place 0 is shallow and ends where the nodes end.
--- Assumes nothing.
-use native.Mathlib.Omega.{arith}
-use Rattle.logic.proofs.Reading.{deep_none, whole_one}
+-- `formula::one_formula` meets its contract: a formula stands at place 0 and ends where the nodes end. Assumes nothing.
+use Rattle.logic.proofs.Reading.{unmeasured_none, whole_one}
 use Rattle.nodes.proofs.formula.one_formula.Goals as goal
 
-pub returns-then-e-gt16 : goal.returns-then-e-gt16
-returns-then-e-gt16 c = deep_none _ _ _ _ c.measure-e.ensures (omega arith)
+pub returns-in-Some : goal.returns-in-Some
+returns-in-Some c = whole_one _ _ _ _ c.in-Some.ensures
 
-pub returns : goal.returns
-returns c = whole_one _ _ _ _ c.measure-e.ensures (omega arith)
+pub returns-in-None : goal.returns-in-None
+returns-in-None c = unmeasured_none _ _ c.in-None.ensures

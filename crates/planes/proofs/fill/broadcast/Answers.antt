@@ -1,11 +1,11 @@
 -- The goals of `broadcast`: its loop keeps the invariant, and each way out gives what is promised. Assumes nothing.
-use mathlib.Core.Path.{◌∙◌}
+use mathlib.Core.Path.{refl, ◌∙◌}
 use native.Mathlib.Omega.{arith}
 use Rattle.planes.proofs.Filling.{even_start, even_next}
 use Rattle.planes.proofs.fill.broadcast.Goals as goal
 
 pub loop-i-init : goal.loop-i-init
-loop-i-init c = even_start _ _ c.requires
+loop-i-init c = even_start _ _ refl
 
 pub loop-i-preserved : goal.loop-i-preserved
 loop-i-preserved c =

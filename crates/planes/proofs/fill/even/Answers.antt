@@ -7,5 +7,5 @@ use Rattle.planes.proofs.fill.even.Goals as goal
 pub returns-then-on : goal.returns-then-on
 returns-then-on c = λ j l. all_lanes j l ∙ sym c.if-on.true
 
-pub returns : goal.returns
-returns c = λ j l. has-zero j ∙ sym c.if-on.false
+pub returns-else-on : goal.returns-else-on
+returns-else-on c = λ j l. has-zero j ∙ sym c.if-on.false

@@ -1,20 +1,13 @@
 -- The goals of `fill`: its loop keeps the invariant, and each way out gives what is promised. Assumes nothing.
-use native.Mathlib.Omega.{arith}
-use Rattle.planes.proofs.Filling.{filling_start, filling_next, filling_end}
+use lib.ListN.{get_or-replicate}
+use Rattle.planes.proofs.Filling.{filling_start, filling_next}
 use Rattle.planes.proofs.fill.fill.Goals as goal
 
 pub loop-j-init : goal.loop-j-init
-loop-j-init c = (omega arith, c.requires.0, λ s e p q. filling_start _ s _ _ _ e p q)
+loop-j-init c =
+    λ s e. filling_start _ s _ _ _ e (λ i l. get_or-replicate 64 i 0 0 l) (λ i l. get_or-replicate 64 i 0 0 l)
 
 pub loop-j-preserved : goal.loop-j-preserved
 loop-j-preserved c =
-    let x = c.spread.ensures in
-    let y = c.spread-in-loop-j.ensures in (
-      omega arith,
-      record { first-size = x.size_is; second-size = y.size_is },
-      λ s e p q. filling_next _ s _ _ _ _ _ _ _ (c.loop-j.invariant.2 s e p q) x y c.next-next.ensures,
-    )
-
-pub returns : goal.returns
-returns c =
-    λ s e. filling_end _ s _ _ _ _ (c.loop-j.invariant.2 s e c.requires.1 c.requires.2) (omega arith)
+    λ s e. filling_next _ s _ _ _ _ _ _ _ (c.loop-j.invariant s e) c.spread.ensures c.spread-in-loop-j.ensures
+    c.next-next.ensures

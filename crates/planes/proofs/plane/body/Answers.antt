@@ -6,4 +6,4 @@ use Rattle.planes.proofs.plane.body.Goals as goal
 
 pub returns : goal.returns
 returns c =
-    λ j l. body_is _ _ _ _ c.requires _ _ _ refl c.join.ensures c.join-2.ensures j l
+    λ j l. body_is _ _ _ _ c.requires _ _ _ refl c.join-plains.ensures c.join.ensures j l

@@ -7,23 +7,22 @@ use Rattle.planes.proofs.Ruling.{ruling_start, ruling_next, ruling_end}
 use Rattle.planes.proofs.plane.rules.Goals as goal
 
 pub loop-k-init : goal.loop-k-init
-loop-k-init c = ruling_start _ _ _ _ _ _ c.requires.2
-
-pub body-v-requires : goal.body-v-requires
-body-v-requires c = c.requires.4
+loop-k-init c = ruling_start _ _ _ _ _ _ c.requires.0
 
 pub loop-k-smaller : goal.loop-k-smaller
 loop-k-smaller c =
-    let cl = c.args.clauses.now in
+    let cl = c.args.clauses.words.now in
     let k = c.loop-k.k - 1 in
-    let link = c.requires.3 k (omega arith) in
+    let link = c.requires.1 k (omega arith) in
     omega (arith, last-le cl (head_at cl k) k, link)
 
 pub loop-k-preserved : goal.loop-k-preserved
 loop-k-preserved c =
     let k = c.loop-k.k - 1 in
-    let link = c.requires.3 k (omega arith) in
-    ruling_next _ _ _ _ _ _ _ _ _ _ c.loop-k.invariant k (omega arith) c.body-v.ensures link
+    let link = c.requires.1 k (omega arith) in
+    let e = c.at-clause.ensures in
+    let v = rw (e.plain-is, e.negated-is) at c.body-v.ensures in
+    ruling_next _ _ _ _ _ _ _ _ _ _ c.loop-k.invariant k (omega arith) v link
 
 pub returns : goal.returns
 returns c = ruling_end _ _ _ _ _ _ _ _ c.loop-k.invariant c.loop-k-test.false

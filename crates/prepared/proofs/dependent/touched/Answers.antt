@@ -1,22 +1,16 @@
--- The goals of `touched`: its loop keeps the invariant, and each way out gives what is promised. Assumes nothing.
-use Rattle.words.proofs.BitWalks.{without_less}
+-- The goals of `touched`: its loop keeps the invariant, and the end gives what is promised. Assumes nothing.
+use borrow.Author.Rules.{rules}
 use Rattle.prepared.proofs.Touching.{gathered_start, gathered_next, gathered_end}
 use Rattle.prepared.proofs.dependent.touched.Goals as goal
 
-pub loop-left-init : goal.loop-left-init
-loop-left-init c = gathered_start _ _
+pub loop-i-init : goal.loop-i-init
+loop-i-init c =
+    rw (c.into_iter-i-iterator.ensures.into_iter_gives, c.bits_of-i-items.ensures) (gathered_start _ _)
 
-pub loop-left-smaller : goal.loop-left-smaller
-loop-left-smaller c =
-    let b = c.lowest_bit-i.ensures in
-    rw (c.without_lowest-left.ensures _ b) (without_less _ _ b.bit)
-
-pub loop-left-preserved : goal.loop-left-preserved
-loop-left-preserved c =
-    let b = c.lowest_bit-i.ensures in
-    rw (c.without_lowest-left.ensures _ b)
-    (gathered_next _ _ _ _ _ c.loop-left.invariant b.bit
-    (c.requires _ b.bit.small))
+pub loop-i-preserved : goal.loop-i-preserved
+loop-i-preserved c =
+    let s = c.in-Some.ensures.steps in
+    rw s.1 (gathered_next _ _ _ _ _ c.loop-i.invariant s.0.bit (search rules))
 
 pub returns : goal.returns
-returns c = gathered_end _ _ _ _ c.loop-left.invariant c.loop-left-test.false
+returns c = gathered_end _ _ _ _ c.loop-i.invariant c.in-None.ensures.steps.0

@@ -1,13 +1,8 @@
 -- `first_round` meets its contract: it is the step from nothing with nothing added, beside the heads.
 -- Assumes nothing.
-use mathlib.Core.Path.{refl}
-use borrow.Author.Rules.{rules}
 use Rattle.prepared.proofs.Openings.{opening-is}
 use Rattle.prepared.proofs.opening.first_round.Goals as goal
 
-pub apply-round-requires : goal.apply-round-requires
-apply-round-requires c = rw c.nothing.ensures (refl, search rules, search rules, search rules)
-
 pub returns : goal.returns
 returns c =
-    opening-is _ _ c.apply-round.result _ (rw c.nothing.ensures at c.apply-round.ensures) c.requires.2
+    opening-is _ _ c.apply.result _ (rw c.nothing.ensures at c.apply.ensures) c.requires

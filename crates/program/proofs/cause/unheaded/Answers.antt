@@ -4,5 +4,5 @@ use Rattle.program.proofs.cause.unheaded.Goals as goal
 
 pub returns : goal.returns
 returns c =
-    causes_masked c.args.atoms c.lowest.result c.args.heads c.requires.1
-    c.lowest.ensures c.ranges.heads.fits
+    let a = c.args.atoms in
+    causes_masked a.count a.all c.args.heads a.few a.each c.ranges.heads.fits

@@ -1,13 +1,10 @@
 -- `program::sound::constraints_sound` meets its contract. The loop's invariant: every constraint passed is sound
--- (`Tested`). Assumes nothing.
+-- (`every`). Assumes nothing.
 use mathlib.Core.Path.{◌≡◌}
-use Prim.Native.Nat.{◌+◌, ◌^◌, ◌-◌}
-use Rattle.program.proofs.Entries.{Tested}
+use mathlib.Core.Bool.{true}
+use Rattle.words.specs.Below.{every}
 use Rattle.program.proofs.Soundness.{constraint_test}
 use Rattle.program.proofs.sound.constraints_sound.Given as goal
 
 abbrev pub invariant-loop-k : goal.invariant-loop-k
-invariant-loop-k l = (l.top + 1 ≡ 2 ^ l.atoms) × Tested (constraint_test l.atoms l.constraints) l.n l.k
-
-abbrev pub decreases-loop-k : goal.decreases-loop-k
-decreases-loop-k l = l.n - l.k
+invariant-loop-k l = every l.k (constraint_test l.atoms.count l.constraints) ≡ true

@@ -2,14 +2,11 @@
 use mathlib.Core.Path.{ap, ◌∙◌}
 use native.Mathlib.Omega.{arith}
 use Rattle.logic.specs.Nodes.{one_formula}
-use Rattle.program.proofs.Soundness.{formula-long, formula-fits, nodes-lent}
+use Rattle.program.proofs.Soundness.{formula-fits, nodes-lent}
 use Rattle.program.proofs.sound.formula_sound.Goals as goal
 
-pub returns-then-n-gt-NODES : goal.returns-then-n-gt-NODES
-returns-then-n-gt-NODES c = formula-long _ _ _ _ c.if-n-gt-NODES.true
-
-pub returns : goal.returns
-returns c =
+pub returns-then-n-le-NODES : goal.returns-then-n-le-NODES
+returns-then-n-le-NODES c =
     let a = c.args in
     c.one_formula.ensures
     ∙ ap (one_formula a.atoms) (nodes-lent a.nodes.now a.formula.now a.q)

@@ -1,20 +1,10 @@
--- The goals of `program::sound::formulas_sound`: its loop keeps the invariant, and each way out gives what is promised.
--- Assumes nothing.
-use borrow.Author.Rules.{rules}
+-- `program::sound::formulas_sound` meets its contract: one that fails decides. Assumes nothing.
+use mathlib.Core.Path.{sym, ◌∙◌}
+use Rattle.words.proofs.Below.{every_false}
 use Rattle.program.specs.Sound.{sound_formulas}
-use Rattle.program.proofs.Entries.{tested-none, tested-more, tested-failed, tested-all}
 use Rattle.program.proofs.sound.formulas_sound.Goals as goal
-
-pub loop-q-init : goal.loop-q-init
-loop-q-init c = tested-none _ _
 
 pub returns-then-not-formula_sound : goal.returns-then-not-formula_sound
 unfolding sound_formulas
-returns-then-not-formula_sound c = search (rules, tested-failed)
-
-pub loop-q-preserved : goal.loop-q-preserved
-loop-q-preserved c = search (rules, tested-more)
-
-pub returns : goal.returns
-unfolding sound_formulas
-returns c = search (rules, tested-all)
+returns-then-not-formula_sound c =
+    sym (every_false _ _ _ c.loop-q-test.true (sym c.formula_sound.ensures ∙ c.if-not-formula_sound.true))

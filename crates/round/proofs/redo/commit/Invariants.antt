@@ -1,10 +1,8 @@
 -- `commit` meets its contract: for either plane, the atoms left bring it to what the whole word makes of it
--- (`Committing`). The measure is the word that is left. Assumes nothing.
+-- (`Committing`). Assumes nothing.
 use Rattle.round.proofs.Committing.{Committing}
 use Rattle.round.proofs.redo.commit.Given as goal
 
-abbrev pub invariant-loop-left : goal.invariant-loop-left
-invariant-loop-left l = Committing l.w l.ut l.initial.t l.t l.left × Committing l.w l.uf l.initial.f l.f l.left
-
-abbrev pub decreases-loop-left : goal.decreases-loop-left
-decreases-loop-left l = l.left
+abbrev pub invariant-loop-i : goal.invariant-loop-i
+invariant-loop-i l = Committing l.w l.noted.trues l.initial.p.trues l.p.trues l.i-iterator.left
+    × Committing l.w l.noted.falses l.initial.p.falses l.p.falses l.i-iterator.left

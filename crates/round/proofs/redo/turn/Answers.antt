@@ -6,15 +6,10 @@ use Rattle.round.proofs.redo.turn.Goals as goal
 pub returns-then-free-eq0 : goal.returns-then-free-eq0
 returns-then-free-eq0 c =
     let p = c.requires in
-    taken_none _ _ _ _ _ _ _ _ _ p.6 p.7 c.undecided-free.ensures c.if-free-eq0.true
-
-pub rules-v-requires : goal.rules-v-requires
-rules-v-requires c =
-    let p = c.requires in
-    (p.1, p.2, p.3 _ p.0, p.4, p.5)
+    taken_none _ _ _ _ _ _ _ _ _ p.4 p.5 c.undecided-free.ensures c.if-free-eq0.true
 
 pub returns : goal.returns
 returns c =
     let p = c.requires in
-    taken-some _ _ _ _ _ _ _ _ _ _ _ _ _ p.0 p.6 p.7 c.undecided-free.ensures c.rules-v.ensures
+    taken-some _ _ _ _ _ _ _ _ _ _ _ _ _ p.0 p.4 p.5 c.undecided-free.ensures c.rules-v.ensures
     c.note.ensures

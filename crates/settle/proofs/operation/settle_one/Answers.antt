@@ -1,78 +1,57 @@
 -- `settle_one` meets its contract: each refusal is the one that is due, and without one the callees' contracts compose.
 -- Assumes nothing.
 use mathlib.Core.Path.{sym, ap, ◌∙◌}
-use Prim.Native.Nat.{◌≤◌, ◌<◌, min}
+use Prim.Native.Nat.{◌≤◌, ◌<◌}
 use native.Mathlib.Omega.{arith}
+use Rattle.std.proofs.lemmas.Result.{err_from_is_err_and}
 use Rattle.program.specs.declared.cause.Additions.{Additions}
 use Rattle.program.specs.Program.{program_with}
 use Rattle.program.specs.declared.cause.Causes.{Causes}
 use Rattle.program.specs.Cause.{causes_of}
 use Rattle.program.specs.Setting.{settings_of, additions_of}
 use Rattle.program.proofs.Causes.{causes-of}
-use Rattle.program.proofs.Counting.{capped_is}
-use Rattle.program.proofs.Soundness.{clauses-held, sound-limits, sound-settings}
+use Rattle.program.proofs.Soundness.{clauses-held, sound-limits}
 use Rattle.settle.specs.Rounds.{settled}
-use Rattle.settle.proofs.Answers.{refusal-short, refusal_unsound, refusal-past, refusal-none}
-use Rattle.settle.proofs.Answers.{answer-refused, answer-settled}
+use Rattle.settle.proofs.Asking.{accepted}
+use Rattle.settle.proofs.Answers.{refusal_first, refusal-past, refusal-none, settings_counted}
 use Rattle.settle.proofs.operation.settle_one.Goals as goal
 
-pub returns-then-not-full : goal.returns-then-not-full
-returns-then-not-full c =
-    let short = sym c.tables_full-full.ensures ∙ c.if-not-full.true in
-    answer-refused _ _ _ _ _ 0 c.refused.result (refusal-short _ _ _ _ _ short) c.refused.ensures
+pub returns-in_err-check_case : goal.returns-in_err-check_case
+returns-in_err-check_case c =
+    let p = err_from_is_err_and c.from_residual.result c.from_residual.ensures.1 in
+    let due = refusal_first _ _ _ _ _ _ (sym c.check_case.ensures ∙ c.in_err-check_case.was) in
+    rw (p.1, p.2) record { refusal_is = due; settled_is = tt }
 
-pub is_sound-sound-requires : goal.is_sound-sound-requires
-is_sound-sound-requires c = sym c.tables_full-full.ensures ∙ c.if-not-full.false
-
-pub returns-then-not-sound : goal.returns-then-not-sound
-returns-then-not-sound c =
-    let full = sym c.tables_full-full.ensures ∙ c.if-not-full.false in
-    let unsound = sym c.is_sound-sound.ensures ∙ c.if-not-sound.true in
-    answer-refused _ _ _ _ _ 12 c.refused-then-not-sound.result
-    (refusal_unsound _ _ _ _ _ full unsound) c.refused-then-not-sound.ensures
-
-pub heads-heads-requires : goal.heads-heads-requires
-heads-heads-requires c =
-    let full = sym c.tables_full-full.ensures ∙ c.if-not-full.false in
-    let is_sound = sym c.is_sound-sound.ensures ∙ c.if-not-sound.false in
-    let held = clauses-held _ _ _ _ full (sound-limits _ _ _ _ is_sound) in
-    (held.2, held.3)
+pub invariant_of-clauses : goal.invariant_of-clauses
+invariant_of-clauses c =
+    let e = accepted _ _ _ (sym c.check_case.ensures ∙ c.in_ok-check_case.was) in
+    let held = clauses-held _ _ _ _ e.0 (sound-limits _ _ _ _ e.1) in
+    record { few = held.2; held = held.3 }
 
 pub causes_in-causes-requires : goal.causes_in-causes-requires
 causes_in-causes-requires c =
-    let full = sym c.tables_full-full.ensures ∙ c.if-not-full.false in
-    let is_sound = sym c.is_sound-sound.ensures ∙ c.if-not-sound.false in
-    let held = clauses-held _ _ _ _ full (sound-limits _ _ _ _ is_sound) in
-    (held.0, held.1, held.2, held.3, c.heads-heads.ensures)
+    let e = accepted _ _ _ (sym c.check_case.ensures ∙ c.in_ok-check_case.was) in
+    let held = clauses-held _ _ _ _ e.0 (sound-limits _ _ _ _ e.1) in
+    (held.0, held.1, c.heads-heads.ensures)
 
 pub returns-then-settings-setting : goal.returns-then-settings-setting
 returns-then-settings-setting c =
     let a = c.args in
-    let full = sym c.tables_full-full.ensures ∙ c.if-not-full.false in
-    let is_sound = sym c.is_sound-sound.ensures ∙ c.if-not-sound.false in
-    let causes = c.causes_in-causes.ensures ∙ sym (causes-of a.c a.clauses.now) in
-    let counted = c.settings.ensures ∙ ap (λ (w : Causes). min (settings_of w) 59050) causes in
-    let settings = capped_is _ _ (sound-settings _ _ _ _ is_sound) counted in
-    let past : settings_of (causes_of a.c a.clauses.now) ≤ a.setting = omega arith in
-    answer-refused _ _ _ _ _ 13 c.refused-then-settings-setting.result
-    (refusal-past _ _ _ _ _ full is_sound past) c.refused-then-settings-setting.ensures
-
-pub run-s-requires : goal.run-s-requires
-run-s-requires c =
-    let full = sym c.tables_full-full.ensures ∙ c.if-not-full.false in
-    let is_sound = sym c.is_sound-sound.ensures ∙ c.if-not-sound.false in
-    let held = clauses-held _ _ _ _ full (sound-limits _ _ _ _ is_sound) in
-    (held.2, held.3, c.heads-heads.ensures)
+    let e = accepted _ _ _ (sym c.check_case.ensures ∙ c.in_ok-check_case.was) in
+    let counted = settings_counted a.c _ _ _ a.setting e c.causes_in-causes.ensures c.settings.ensures in
+    let past : settings_of (causes_of a.c a.t.clauses.now) ≤ a.setting = omega (arith, counted) in
+    record { refusal_is = sym (refusal-past _ _ _ _ _ e past); settled_is = tt }
 
 pub returns : goal.returns
 returns c =
     let a = c.args in
-    let full = sym c.tables_full-full.ensures ∙ c.if-not-full.false in
-    let is_sound = sym c.is_sound-sound.ensures ∙ c.if-not-sound.false in
-    let causes = c.causes_in-causes.ensures ∙ sym (causes-of a.c a.clauses.now) in
-    let counted = c.settings.ensures ∙ ap (λ (w : Causes). min (settings_of w) 59050) causes in
-    let settings = capped_is _ _ (sound-settings _ _ _ _ is_sound) counted in
-    let below : a.setting < settings_of (causes_of a.c a.clauses.now) = omega arith in
+    let e = accepted _ _ _ (sym c.check_case.ensures ∙ c.in_ok-check_case.was) in
+    let counted = settings_counted a.c _ _ _ a.setting e c.causes_in-causes.ensures c.settings.ensures in
+    let below : a.setting < settings_of (causes_of a.c a.t.clauses.now) = omega (arith, counted) in
+    let causes = c.causes_in-causes.ensures ∙ sym (causes-of a.c a.t.clauses.now) in
     let added = c.added-added.ensures ∙ ap (λ (w : Causes). additions_of w a.setting) causes in
-    answer-settled _ _ _ _ _ c.run-s.result (refusal-none _ _ _ _ _ full is_sound below)
-    (c.run-s.ensures ∙ ap (λ (x : Additions). settled (program_with a.clauses.now a.c.clauses x)) added)
+    record {
+      refusal_is = sym (refusal-none _ _ _ _ _ e below);
+      settled_is = c.run.ensures
+          ∙ ap (λ (x : Additions). settled (program_with a.t.clauses.now a.c.clauses x)) added;
+    }

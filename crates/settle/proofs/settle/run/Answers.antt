@@ -1,7 +1,6 @@
 -- The goals of `run`: its loop keeps the invariant, and each way out gives what is promised. Assumes nothing.
 use mathlib.Core.Path.{sym}
 use native.Mathlib.Omega.{arith}
-use borrow.Author.Rules.{rules}
 use Rattle.words.proofs.Sums.{sum-none}
 use Rattle.settle.proofs.Steady.{program-steady}
 use Rattle.settle.proofs.Reached.{good_decided, start, reached_good, newly-falls, newly-again}
@@ -17,7 +16,7 @@ pub loop-added-init : goal.loop-added-init
 loop-added-init c = (rw c.nothing-interpretation.ensures (start _), sym (sum-none _))
 
 pub apply-next-requires : goal.apply-next-requires
-apply-next-requires c = ((reached_good _ c.loop-added.invariant.0).disjoint, search rules, search rules, search rules)
+apply-next-requires c = ((reached_good _ c.loop-added.invariant.0).disjoint, c.requires)
 
 pub overflow_add-rounds : goal.overflow_add-rounds
 overflow_add-rounds c =

@@ -11,7 +11,7 @@ use Rattle.settle.proofs.settle.run.Given as goal
 
 abbrev pub invariant-loop-added : goal.invariant-loop-added
 invariant-loop-added l =
-    let p = program_with l.clauses l.n l.added in
+    let p = program_with l.clauses.words.now l.clauses.count l.added in
     Reached p l.interpretation l.rounds × (l.decided ≡ decided_sum p l.rounds)
 
 abbrev pub decreases-loop-added : goal.decreases-loop-added

@@ -1,9 +1,7 @@
 -- The goals of `apply`: its loop keeps the invariant, and each way out gives what is promised. Assumes nothing.
 use mathlib.Core.Path.{refl, ap, ap₂, ◌∙◌}
 use Prim.Native.Nat.{ℕ, ◌^◌, ◌<◌}
-use native.Mathlib.Nat.{le_antisymm}
 use native.Mathlib.Omega.{arith}
-use borrow.Author.Rules.{rules}
 use Rattle.logic.specs.Interpretation.{value_at}
 use Rattle.program.specs.Case.{head_at}
 use Rattle.program.specs.Program.{clause_at}
@@ -16,31 +14,28 @@ unfolding walked
 loop-k-init c =
     let a = c.args in
     let hf : a.added.facts < 2 ^ 64 = omega arith in
-    (search rules, rw (start-disjoint a.added.facts) refl, refl)
+    (rw (start-disjoint a.added.facts) refl, refl)
 
 pub loop-k-preserved : goal.loop-k-preserved
 unfolding clause_at
 loop-k-preserved c =
-    let a = c.args in
     let k = c.loop-k.k in
-    let h = head_at a.clauses.now k in (
-      search rules,
-      raised-disjoint _ c.loop-k.next h c.body_value-v.result c.raise-next.ensures,
-      c.raise-next.ensures
-          ∙ ap (raised c.loop-k.next h) c.body_value-v.ensures
-          ∙ walked_more (value_at a.i) a.clauses.now c.loop-k.next _ k c.loop-k.invariant.2,
+    let cl = c.args.clauses.words.now in
+    let e = c.at-clause.ensures in
+    let v = rw (e.kind-is, e.plain-is, e.negated-is) at c.body_value.ensures in
+    let next = rw e.head-is at c.raise-next.ensures in (
+      raised-disjoint _ c.loop-k.next (head_at cl k) c.body_value.result next,
+      next ∙ ap (raised c.loop-k.next (head_at cl k)) v
+          ∙ walked_more (value_at c.args.i) cl c.loop-k.next _ k c.loop-k.invariant.1,
     )
-
-pub newly_decided-decided-requires : goal.newly_decided-decided-requires
-newly_decided-decided-requires c = c.loop-k.invariant.1
 
 pub returns : goal.returns
 returns c =
     let a = c.args in
     let hf : a.added.facts < 2 ^ 64 = omega arith in
     let hs : a.added.assumptions < 2 ^ 64 = omega arith in
-    let last = c.loop-k.invariant.2
-    ∙ ap₂ (λ (h m : ℕ). walked (value_at a.i) a.clauses.now (start h a.added) m) c.requires.3
-    (le_antisymm c.loop-k.invariant.0 c.loop-k-test.false)
-    ∙ walked_step a.i a.clauses.now a.n a.added hf hs in
-    walked-stepped a.i a.clauses.now a.n a.added hf hs last c.newly_decided-decided.ensures
+    let last = c.loop-k.invariant.1
+    ∙ ap₂ (λ (h m : ℕ). walked (value_at a.i) a.clauses.words.now (start h a.added) m) c.requires.1
+    (omega arith)
+    ∙ walked_step a.i a.clauses.words.now a.clauses.count a.added hf hs in
+    walked-stepped a.i a.clauses.words.now a.clauses.count a.added hf hs last c.newly_decided-decided.ensures

@@ -1,7 +1,8 @@
 -- `form::store_form` meets its contract: each arm by the law of its kind of line. Assumes nothing.
+use mathlib.Core.Logic.{inl, inr}
 use borrow.Author.Rules.{rules}
 use Rattle.store.proofs.Stored.{clause-kind, head-onward, head-within, clause-room, constraint-room}
-use Rattle.store.proofs.Stored.{skipped_stored, no_form_stored, clause_stored, constraint_stored}
+use Rattle.store.proofs.Stored.{skipped_stored, clause_stored, constraint_stored}
 use Rattle.store.proofs.Stored.{seen_stored, query-room, query_stored}
 use Rattle.store.proofs.Stored.{name-onward, name-within, price-few, supplement-few, cost_stored}
 use Rattle.store.proofs.Stored.{atom_stored, edition_stored}
@@ -16,17 +17,16 @@ store_constraint-requires c = search (rules, constraint-room)
 pub store_query-requires : goal.store_query-requires
 store_query-requires c = search (rules, query-room)
 
-pub find-atom-requires : goal.find-atom-requires
-find-atom-requires c = search (rules, name-onward, name-within)
+pub slice_bounds-atom_of-end : goal.slice_bounds-atom_of-end
+slice_bounds-atom_of-end c = search (rules, name-onward, name-within)
 
 pub price_of-requires : goal.price_of-requires
 price_of-requires c = search (rules, price-few, supplement-few)
 
-pub returns-in-NoForm : goal.returns-in-NoForm
-returns-in-NoForm c = search (rules, no_form_stored)
-
 pub returns-in-Skipped : goal.returns-in-Skipped
-returns-in-Skipped c = search (rules, skipped_stored)
+returns-in-Skipped c =
+    let s = c.requires.1 in
+    elim c.in-Skipped.is [ inl e ↦ skipped_stored s e | inr t ↦ atom_stored s t.2 ]
 
 pub returns-in-Clause : goal.returns-in-Clause
 returns-in-Clause c = search (rules, clause_stored)
@@ -42,9 +42,6 @@ returns-in-Query c = search (rules, query_stored)
 
 pub returns-in-Cost : goal.returns-in-Cost
 returns-in-Cost c = search (rules, cost_stored)
-
-pub returns-in-Atom : goal.returns-in-Atom
-returns-in-Atom c = search (rules, atom_stored)
 
 pub returns-in-Edition : goal.returns-in-Edition
 returns-in-Edition c = search (rules, edition_stored)

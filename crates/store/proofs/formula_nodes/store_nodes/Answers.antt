@@ -27,8 +27,8 @@ loop-next-preserved-in-Close c = search (rules, storing_close)
 pub returns-then-n-ge-NODES : goal.returns-then-n-ge-NODES
 returns-then-n-ge-NODES c = search (rules, storing_full)
 
-pub node_at-requires : goal.node_at-requires
-node_at-requires c = search (rules, word-le, word-within)
+pub slice_bounds-node_at-end : goal.slice_bounds-node_at-end
+slice_bounds-node_at-end c = search (rules, word-le, word-within)
 
 pub loop-next-smaller : goal.loop-next-smaller
 loop-next-smaller c = search (rules, word-less)

@@ -1,7 +1,7 @@
 -- Answers to the goals of this function. Assumes nothing.
 use borrow.Author.Rules.{rules}
 use Rattle.store.proofs.MaskLaws.{passed_none, passed-more, passed-all}
-use Rattle.store.proofs.MaskLaws.{literal-onward, literal-within, literal-less}
+use Rattle.store.proofs.MaskLaws.{literal-less}
 use Rattle.store.proofs.masks.masks_of.Goals as goal
 
 pub loop-negated-init : goal.loop-negated-init
@@ -9,9 +9,6 @@ loop-negated-init c = search (rules, passed_none)
 
 pub returns-in_default : goal.returns-in_default
 returns-in_default c = search (rules, passed-all)
-
-pub find-atom-requires : goal.find-atom-requires
-find-atom-requires c = search (rules, literal-onward, literal-within)
 
 pub loop-negated-smaller : goal.loop-negated-smaller
 loop-negated-smaller c = search (rules, literal-less)

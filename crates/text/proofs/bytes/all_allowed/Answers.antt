@@ -1,17 +1,13 @@
--- Answers to the goals of this function. Assumes nothing.
-use borrow.Author.Rules.{rules}
-use Rattle.words.proofs.Tests.{failed, passed}
-use Rattle.text.proofs.ByteLaws.{all-from-none, all-from-more, all-from-stops, all-from-ends}
+-- `text::bytes::all_allowed` meets its contract, by what `all` says of a list. Assumes nothing.
+use Rattle.std.proofs.Common.{rules}
+use Rattle.std.proofs.lemmas.Iterator.{YieldsList-from_slice}
+use Rattle.std.proofs.lemmas.Iterator.Search.{all_from_yields_List}
+use Rattle.text.specs.Bytes.{is_allowed}
+use Rattle.text.proofs.ByteLaws.{all_listed}
 use Rattle.text.proofs.bytes.all_allowed.Goals as goal
 
-pub loop-i-init : goal.loop-i-init
-loop-i-init c = search (rules, all-from-none)
-
-pub returns-then-not-is_allowed : goal.returns-then-not-is_allowed
-returns-then-not-is_allowed c = search (rules, all-from-stops, failed)
-
-pub loop-i-preserved : goal.loop-i-preserved
-loop-i-preserved c = search (rules, all-from-more, passed)
-
 pub returns : goal.returns
-returns c = search (rules, all-from-ends)
+returns c =
+    let e = all_from_yields_List is_allowed _ _ _ c.all.ensures.ran (YieldsList-from_slice c.args.l.now cc)
+    (λ x b q k. (search rules, search rules)) in
+    rw all_listed e

@@ -1,10 +1,7 @@
 -- Answers to the goals of this function. Assumes nothing.
 use borrow.Author.Rules.{rules}
-use Rattle.text.proofs.LineLaws.{in_line_none, in_line_more, in_line_stops, in_line_ends}
+use Rattle.text.proofs.LineLaws.{in_line_more, in_line_stops, in_line_ends}
 use Rattle.text.proofs.lines.line_end.Goals as goal
-
-pub loop-i-init : goal.loop-i-init
-loop-i-init c = search (rules, in_line_none)
 
 pub returns-then-file-i-eq10 : goal.returns-then-file-i-eq10
 returns-then-file-i-eq10 c = search (rules, in_line_stops)

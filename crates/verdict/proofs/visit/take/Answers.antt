@@ -1,37 +1,24 @@
 -- `take` meets its contract: a setting that doesn't explain or isn't minimal is marked and passed, a minimal one is
--- marked, counted and put into the list's free rest. Assumes nothing.
-use native.Mathlib.Omega.{arith}
-use Rattle.planes.specs.Planes.{column}
-use Rattle.verdict.proofs.Taking.{room-passed, room-taken, take-other, take_larger, take-minimal}
+-- marked, counted and put into the list. Assumes nothing.
+use mathlib.Core.Path.{sym, ◌∙◌}
+use Rattle.verdict.proofs.Taking.{room-taken, take-other, take_larger, take-minimal}
 use Rattle.verdict.proofs.visit.take.Goals as goal
 
 pub returns-then-not-explains-clause-visited : goal.returns-then-not-explains-clause-visited
 returns-then-not-explains-clause-visited c =
-    λ J cs list₀ work₀ t l v. take-other v c.requires.2 t l c.if-not-explains.true
-
-pub returns-then-not-explains-clause-room : goal.returns-then-not-explains-clause-room
-returns-then-not-explains-clause-room c = room-passed c.requires.3
+    λ J cs list₀ work₀ t l v. take-other v c.requires.2 t (sym c.test-explains.ensures ∙ c.if-not-explains.true)
 
 pub returns-then-larger-clause-visited : goal.returns-then-larger-clause-visited
 returns-then-larger-clause-visited c =
-    λ J cs list₀ work₀ t l v. take_larger v c.requires.2 t l c.if-not-explains.false c.if-larger.true
-
-pub returns-then-larger-clause-room : goal.returns-then-larger-clause-room
-returns-then-larger-clause-room c = room-passed c.requires.3
-
-pub hold-requires : goal.hold-requires
-hold-requires c =
-    let p = c.requires in
-    (p.0, omega (arith, p.3.few), p.3.askable)
+    λ J cs list₀ work₀ t l v.
+    take_larger v c.requires.2 t l (sym c.test-explains.ensures ∙ c.if-not-explains.false)
+    (sym c.test-larger.ensures ∙ c.if-larger.true)
 
 pub returns-clause-visited : goal.returns-clause-visited
 returns-clause-visited c =
     λ J cs list₀ work₀ t l v.
-    take-minimal v c.requires.2 t l c.if-not-explains.false c.if-larger.false _ c.hold.ensures
-    _ _ c.put-took.ensures.0 c.put-took.ensures.1
+    take-minimal v c.requires.2 t l (sym c.test-explains.ensures ∙ c.if-not-explains.false)
+    (sym c.test-larger.ensures ∙ c.if-larger.false) c.hold.ensures c.put.ensures.0 c.put.ensures.1
 
 pub returns-clause-room : goal.returns-clause-room
-returns-clause-room c =
-    let a = c.args in
-    room-taken c.requires.3 (column a.t.now a.f.now a.j) _ c.hold.ensures _ _ c.put-took.ensures.0
-    c.put-took.ensures.1
+returns-clause-room c = room-taken c.requires.3 _ c.hold.ensures c.put.ensures.0 c.put.ensures.1

@@ -3,13 +3,13 @@ use Rattle.writing.proofs.LineTexts.{begin_room, part_room, close_room, line-wri
 use Rattle.writing.proofs.line.atom_line.Goals as goal
 
 pub begin-p-requires : goal.begin-p-requires
-begin-p-requires c = begin_room (atom-form _) c.args.g c.requires.1
+begin-p-requires c = begin_room (atom-form _) c.args.g c.requires
 
-pub name-q-requires : goal.name-q-requires
-name-q-requires c = (c.requires.0, part_room (atom-form _) c.args.g c.begin-p.ensures c.requires.1)
+pub word-q-requires : goal.word-q-requires
+word-q-requires c = part_room (atom-form _) c.args.g c.begin-p.ensures c.requires
 
 pub close-requires : goal.close-requires
-close-requires c = close_room (atom-form _) c.args.g c.begin-p.ensures c.name-q.ensures c.requires.1
+close-requires c = close_room (atom-form _) c.args.g c.begin-p.ensures c.word-q.ensures c.requires
 
 pub returns : goal.returns
-returns c = line-written (atom-form _) c.args.g c.begin-p.ensures c.name-q.ensures c.close.ensures
+returns c = line-written (atom-form _) c.args.g c.begin-p.ensures c.word-q.ensures c.close.ensures

@@ -7,11 +7,11 @@ use Rattle.writing.proofs.line.begin_constraint.Goals as goal
 pub begin-requires : goal.begin-requires
 begin-requires c = word_room 3 (3 + c.args.kind) c.args.g (omega arith) c.requires.1
 
-pub returns-then-kind-eq0 : goal.returns-then-kind-eq0
-returns-then-kind-eq0 c = word-written 3 (3 + c.args.kind) c.args.g (omega arith) c.begin.ensures
+pub returns-in-0 : goal.returns-in-0
+returns-in-0 c = word-written 3 (3 + c.args.kind) c.args.g (omega arith) c.begin.ensures
 
-pub begin-requires-2 : goal.begin-requires-2
-begin-requires-2 c = word_room 4 (3 + c.args.kind) c.args.g (omega arith) c.requires.1
+pub begin-requires-in_default : goal.begin-requires-in_default
+begin-requires-in_default c = word_room 4 (3 + c.args.kind) c.args.g (omega arith) c.requires.1
 
-pub returns : goal.returns
-returns c = word-written 4 (3 + c.args.kind) c.args.g (omega arith) c.begin-2.ensures
+pub returns-in_default : goal.returns-in_default
+returns-in_default c = word-written 4 (3 + c.args.kind) c.args.g (omega arith) c.begin-in_default.ensures

@@ -3,15 +3,15 @@ use Rattle.writing.proofs.LineTexts.{begin_room, part_room, close_room, line-wri
 use Rattle.writing.proofs.line.seen_line.Goals as goal
 
 pub begin-p-requires : goal.begin-p-requires
-begin-p-requires c = begin_room (seen-form _) c.args.g c.requires.1
+begin-p-requires c = begin_room (seen-form _) c.args.g c.requires
 
 pub literal-q-requires : goal.literal-q-requires
 literal-q-requires c =
-    (c.requires.0, part_room (seen-form _) c.args.g c.begin-p.ensures c.requires.1)
+    part_room (seen-form _) c.args.g c.begin-p.ensures c.requires
 
 pub close-requires : goal.close-requires
 close-requires c =
-    close_room (seen-form _) c.args.g c.begin-p.ensures c.literal-q.ensures c.requires.1
+    close_room (seen-form _) c.args.g c.begin-p.ensures c.literal-q.ensures c.requires
 
 pub returns : goal.returns
 returns c =

@@ -1,7 +1,6 @@
 -- The goals of `lines::atom_lines`: its loop keeps the invariant, and each way out gives what is promised.
 -- Assumes nothing.
 use native.Mathlib.Omega.{arith}
-use Rattle.spelling.proofs.Pages.{sets-length}
 use Rattle.writing.proofs.Growing.{list_grows, entry-start, entry-room, entry_more, entry-end}
 use Rattle.writing.proofs.lines.atom_lines.Goals as goal
 
@@ -10,14 +9,11 @@ loop-a-init c = entry-start (list_grows _) _ _ _
 
 pub atom_line-page-requires : goal.atom_line-page-requires
 atom_line-page-requires c =
-    (omega arith, entry-room (list_grows _) c.loop-a.invariant (omega arith) c.requires.2)
+    rw c.name_of.ensures (entry-room (list_grows _) c.loop-a.invariant (omega arith) c.requires.2)
 
 pub loop-a-preserved : goal.loop-a-preserved
 loop-a-preserved c =
-    entry_more (list_grows _) c.loop-a.invariant (omega arith) c.atom_line-page.ensures
-
-pub shape_of-out : goal.shape_of-out
-shape_of-out c = sets-length c.loop-a.invariant.sets
+    entry_more (list_grows _) c.loop-a.invariant (omega arith) (rw c.name_of.ensures at c.atom_line-page.ensures)
 
 pub returns : goal.returns
 returns c = entry-end (list_grows _) c.loop-a.invariant (omega arith)

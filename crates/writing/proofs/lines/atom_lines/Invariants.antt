@@ -1,12 +1,8 @@
 -- `lines::atom_lines` meets its contract. The loop's invariant: the lines of
 -- the first entries are written. Assumes nothing.
-use Prim.Native.Nat.{◌-◌}
 use Rattle.writing.specs.Steps.{atom_texts}
 use Rattle.writing.proofs.Growing.{AtEntry}
 use Rattle.writing.proofs.lines.atom_lines.Given as goal
 
 abbrev pub invariant-loop-a : goal.invariant-loop-a
 invariant-loop-a l = AtEntry (λ j. atom_texts l.names j) l.n l.initial.out l.initial.page l.a l.page l.out
-
-abbrev pub decreases-loop-a : goal.decreases-loop-a
-decreases-loop-a l = l.n - l.a

@@ -1,7 +1,6 @@
 -- The goals of `lines::clause_lines`: its loop keeps the invariant, and each way out gives what is promised.
 -- Assumes nothing.
 use native.Mathlib.Omega.{arith}
-use Rattle.spelling.proofs.Pages.{sets-length}
 use Rattle.writing.proofs.Growing.{list_grows, entry-start, entry-room, entry_more, entry-end}
 use Rattle.writing.proofs.lines.clause_lines.Goals as goal
 
@@ -10,17 +9,14 @@ loop-k-init c = entry-start (list_grows _) _ _ _
 
 pub clause_line-page-requires : goal.clause_line-page-requires
 clause_line-page-requires c = (
-  c.requires.3 c.loop-k.k (omega arith),
-  c.requires.1,
-  entry-room (list_grows _) c.loop-k.invariant (omega arith) c.requires.4,
+  c.requires.1 c.loop-k.k (omega arith),
+  c.requires.0,
+  entry-room (list_grows _) c.loop-k.invariant (omega arith) c.requires.2,
 )
 
 pub loop-k-preserved : goal.loop-k-preserved
 loop-k-preserved c =
     entry_more (list_grows _) c.loop-k.invariant (omega arith) c.clause_line-page.ensures
-
-pub shape_of-out : goal.shape_of-out
-shape_of-out c = sets-length c.loop-k.invariant.sets
 
 pub returns : goal.returns
 returns c = entry-end (list_grows _) c.loop-k.invariant (omega arith)

@@ -1,7 +1,6 @@
 -- The goals of `lines::constraint_lines`: its loop keeps the invariant, and each way out gives what is promised.
 -- Assumes nothing.
 use native.Mathlib.Omega.{arith}
-use Rattle.spelling.proofs.Pages.{sets-length}
 use Rattle.writing.proofs.Growing.{list_grows, entry-start, entry-room, entry_more, entry-end}
 use Rattle.writing.proofs.lines.constraint_lines.Goals as goal
 
@@ -18,9 +17,6 @@ constraint_line-page-requires c = (
 pub loop-k-preserved : goal.loop-k-preserved
 loop-k-preserved c =
     entry_more (list_grows _) c.loop-k.invariant (omega arith) c.constraint_line-page.ensures
-
-pub shape_of-out : goal.shape_of-out
-shape_of-out c = sets-length c.loop-k.invariant.sets
 
 pub returns : goal.returns
 returns c = entry-end (list_grows _) c.loop-k.invariant (omega arith)

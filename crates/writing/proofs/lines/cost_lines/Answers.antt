@@ -1,7 +1,6 @@
 -- The goals of `lines::cost_lines`: its loop keeps the invariant, and each way out gives what is promised.
 -- Assumes nothing.
 use native.Mathlib.Omega.{arith}
-use Rattle.spelling.proofs.Pages.{sets-length}
 use Rattle.writing.proofs.Growing.{costs-grow, entry-start, entry-room, entry_more, entry-end}
 use Rattle.writing.proofs.lines.cost_lines.Goals as goal
 
@@ -15,9 +14,6 @@ priced_line-page-requires c =
 pub loop-atom-preserved : goal.loop-atom-preserved
 loop-atom-preserved c =
     entry_more (costs-grow _ _) c.loop-atom.invariant (omega arith) c.priced_line-page.ensures
-
-pub shape_of-out : goal.shape_of-out
-shape_of-out c = sets-length c.loop-atom.invariant.sets
 
 pub returns : goal.returns
 returns c = entry-end (costs-grow _ _) c.loop-atom.invariant (omega arith)

@@ -1,6 +1,5 @@
 -- `lines::cost_lines` meets its contract. The loop's invariant: the lines of
 -- the first entries are written. Assumes nothing.
-use Prim.Native.Nat.{◌-◌}
 use Rattle.writing.specs.Steps.{cost_texts}
 use Rattle.writing.proofs.Growing.{AtEntry}
 use Rattle.writing.proofs.lines.cost_lines.Given as goal
@@ -8,6 +7,3 @@ use Rattle.writing.proofs.lines.cost_lines.Given as goal
 abbrev pub invariant-loop-atom : goal.invariant-loop-atom
 invariant-loop-atom l =
     AtEntry (λ j. cost_texts l.names l.prices j) l.n l.initial.out l.initial.page l.atom l.page l.out
-
-abbrev pub decreases-loop-atom : goal.decreases-loop-atom
-decreases-loop-atom l = l.n - l.atom

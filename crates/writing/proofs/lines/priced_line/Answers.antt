@@ -11,8 +11,10 @@ returns-then-price-eq0 c =
 
 pub cost_line-requires : goal.cost_line-requires
 cost_line-requires c =
-    (c.requires.0, line-room-there _ (lt-ltb 0 (get_or c.args.prices.now c.args.atom 0) (omega arith)) c.requires.2)
+    rw c.name_of.ensures
+    (line-room-there _ (lt-ltb 0 (get_or c.args.prices.now c.args.atom 0) (omega arith)) c.requires.2)
 
 pub returns : goal.returns
 returns c =
-    line-there _ (lt-ltb 0 (get_or c.args.prices.now c.args.atom 0) (omega arith)) c.cost_line.ensures
+    line-there _ (lt-ltb 0 (get_or c.args.prices.now c.args.atom 0) (omega arith))
+    (rw c.name_of.ensures at c.cost_line.ensures)

@@ -1,7 +1,6 @@
 -- The goals of `lines::query_lines`: its loop keeps the invariant, and each way out gives what is promised.
 -- Assumes nothing.
 use native.Mathlib.Omega.{arith}
-use Rattle.spelling.proofs.Pages.{sets-length}
 use Rattle.writing.proofs.Formulas.{lent_one, lent-room, lent_written}
 use Rattle.writing.proofs.Growing.{list_grows, entry-start, entry-room, entry_more, entry-end}
 use Rattle.writing.proofs.lines.query_lines.Goals as goal
@@ -29,9 +28,6 @@ loop-q-preserved c =
     let a = c.args in
     entry_more (list_grows _) c.loop-q.invariant (omega arith)
     (lent_written a.nodes.now a.formula.now c.loop-q.q a.names.now c.query_line-page.ensures)
-
-pub shape_of-out : goal.shape_of-out
-shape_of-out c = sets-length c.loop-q.invariant.sets
 
 pub returns : goal.returns
 returns c = entry-end (list_grows _) c.loop-q.invariant (omega arith)

@@ -1,6 +1,5 @@
 -- `lines::query_lines` meets its contract. The loop's invariant: the lines of
 -- the first entries are written. Assumes nothing.
-use Prim.Native.Nat.{◌-◌}
 use Rattle.writing.specs.Steps.{query_texts}
 use Rattle.writing.proofs.Growing.{AtEntry}
 use Rattle.writing.proofs.lines.query_lines.Given as goal
@@ -8,6 +7,3 @@ use Rattle.writing.proofs.lines.query_lines.Given as goal
 abbrev pub invariant-loop-q : goal.invariant-loop-q
 invariant-loop-q l =
     AtEntry (λ j. query_texts l.names l.nodes l.formula j) l.n l.initial.out l.initial.page l.q l.page l.out
-
-abbrev pub decreases-loop-q : goal.decreases-loop-q
-decreases-loop-q l = l.n - l.q

@@ -6,10 +6,7 @@ use Rattle.writing.specs.Lines.{line_text}
 use Rattle.writing.proofs.Bits.{AtAtomLine}
 use Rattle.writing.proofs.lines.seen_lines.Given as goal
 
-abbrev pub invariant-loop-left : goal.invariant-loop-left
-invariant-loop-left l =
+abbrev pub invariant-loop-a : goal.invariant-loop-a
+invariant-loop-a l =
     AtAtomLine (λ a. line_text (Line.seen (Literal.literal l.negated (name_in l.names a)))) l.atoms
-    l.initial.out l.initial.page l.left l.page l.out
-
-abbrev pub decreases-loop-left : goal.decreases-loop-left
-decreases-loop-left l = l.left
+    l.initial.out l.initial.page l.a-iterator.left l.page l.out

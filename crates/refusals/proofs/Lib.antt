@@ -1,0 +1,2 @@
+-- Numbers: laws of the numbers of refusals.
+pub mod Numbers

@@ -1,0 +1,2 @@
+-- Refusal: the number of each refusal.
+pub mod Refusal

@@ -1,9 +1,0 @@
--- `text::number::is_digit` meets its contract, by the byte. Assumes nothing.
-use borrow.Author.Tests.{lt-leb, le-leb}
-use Rattle.text.proofs.number.is_digit.Goals as goal
-
-pub returns-then-b-lt48 : goal.returns-then-b-lt48
-returns-then-b-lt48 c = rw (lt-leb 48 _ c.if-b-lt48.true)
-
-pub returns : goal.returns
-returns c = rw (le-leb 48 _ c.if-b-lt48.false)

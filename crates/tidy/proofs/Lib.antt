@@ -1,2 +1,0 @@
--- Texts: what the program makes of the text of the bytes read.
-pub mod Texts
