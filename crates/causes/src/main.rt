@@ -2,9 +2,11 @@
 // cannot be read or the report cannot be written whole, it says so on standard error. It takes no argument.
 #![tactic(auto)]
 
+ghost use Rattle.std.proofs.Common.{◌∙◌};
 ghost use Rattle.system.specs.Writing.{WritesText};
 ghost use Rattle.report.specs.Report.{report_text};
-ghost use Rattle.causes.specs.Program.{IsReport, is_report-cut};
+ghost use Rattle.report.proofs.Theorems.{report_cut};
+ghost use Rattle.causes.specs.Program.{IsReport};
 
 use input::{Operation, answer, tell};
 use report::operation::report;
@@ -24,7 +26,7 @@ struct Causes;
 impl Operation for Causes {
     ghost is_text = { IsReport };
 
-    ghost cut = { is_report-cut };
+    ghost cut = { λ i t k h e. e ∙ report_cut i k h };
 
     fn write<W: Write>(&self, input: &[u8], to: &mut W) -> io::Result<()> {
         let mut out = [0; USUAL_ROOM];

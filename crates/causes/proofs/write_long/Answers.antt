@@ -15,7 +15,8 @@ pub slice_bounds-out-end : goal.slice_bounds-out-end
 slice_bounds-out-end g c = report_within (rw c.unwrap-length.ensures at c.report.ensures)
 
 pub slice_bounds-write_whole-end : goal.slice_bounds-write_whole-end
-slice_bounds-write_whole-end g c = sym (length-take-le _ _ (report_within (rw c.unwrap-length.ensures at c.report.ensures)))
+slice_bounds-write_whole-end g c =
+    sym (length-take-le _ _ (report_within (rw c.unwrap-length.ensures at c.report.ensures)))
 
 pub returns : goal.returns
 returns g c = rw (shown_whole (rw c.unwrap-length.ensures at c.report.ensures)) at c.write_whole.ensures

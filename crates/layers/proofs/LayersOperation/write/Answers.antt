@@ -17,7 +17,8 @@ pub slice_bounds-out-end : goal.slice_bounds-out-end
 slice_bounds-out-end g c = report_within (rw c.unwrap-length.ensures at c.layer_report.ensures.shown)
 
 pub slice_bounds-write_whole-end : goal.slice_bounds-write_whole-end
-slice_bounds-write_whole-end g c = sym (length-take-le _ _ (report_within (rw c.unwrap-length.ensures at c.layer_report.ensures.shown)))
+slice_bounds-write_whole-end g c =
+    sym (length-take-le _ _ (report_within (rw c.unwrap-length.ensures at c.layer_report.ensures.shown)))
 
 pub returns : goal.returns
 returns g c =
