@@ -1,4 +1,5 @@
 -- The answers of reading.
+-- From: document 01, "What each operation refuses" (Reading).
 --
 --   of_no_line r     the refusal r of no line
 --   refusal_in r     the number of the refusal of the answer r, 0 where it is a record

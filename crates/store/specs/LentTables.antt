@@ -1,4 +1,5 @@
 -- The five lent tables as one value.
+-- From: document 01, "Case tables and sound cases"; document 02, [7] (prices).
 --
 --   lent_of t       what the tables t hold
 --   TablesOf t u    u are the tables t without names and prices

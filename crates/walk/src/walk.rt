@@ -60,6 +60,16 @@ pub fn walk(course: &Course, list: &mut [u16], work: &mut [u8]) -> Tally
         (choices_of (causes_of course.now.case course.now.tables.clauses.now)) list.old work.old course.now.end result
         list.new work.new }
 {
+    // The large locals stand first, since one that is made behind a call is zeroed twice.
+    let mut row = [0u64; 1848];
+    let mut planes = AddedPlanes {
+        facts: [0; 64],
+        assumptions: [0; 64],
+    };
+    let mut settled = TruthPlanes {
+        trues: [0; 64],
+        falses: [0; 64],
+    };
     let Course {
         case,
         tables,
@@ -80,15 +90,6 @@ pub fn walk(course: &Course, list: &mut [u16], work: &mut [u8]) -> Tally
     let opening = OpeningPlanes::of(preparation.opening);
     let weights = weigh(causes);
     let priced = priced_in(prices);
-    let mut row = [0u64; 1848];
-    let mut planes = AddedPlanes {
-        facts: [0; 64],
-        assumptions: [0; 64],
-    };
-    let mut settled = TruthPlanes {
-        trues: [0; 64],
-        falses: [0; 64],
-    };
     let mut added = Additions {
         facts: 0,
         assumptions: 0,
