@@ -5,7 +5,7 @@ use mathlib.Core.Bool.{Bool, ◌&&◌}
 use mathlib.Core.List.{List}
 use Prim.Native.Nat.{ℕ, zero, suc, ◌+◌, ◌-◌, ◌≤◌, ◌<◌}
 use native.Mathlib.Omega.{arith}
-use Rattle.std.specs.Prelude.{Option, unwrap_or, Result, Ok, Err}
+use Rattle.std.specs.Prelude.{Option, Some, unwrap_or, Result, Ok, Err}
 use lib.Dec.{ltb}
 use borrow.Author.Tests.{lt-leb, le-leb}
 use Rattle.words.specs.Choice.{first_of, first_failed}
@@ -70,7 +70,7 @@ taken_lengths {t = t} {u = u} h = kept_lengths t u h.kept
 -- By the form of the line
 
 -- the form x of the line l brings b, and n names are in the table u with those of l
-module _ {l : List ℕ} {x : Form} (f : Formed l x) {b : Brings} (g : Brought x b) where
+module _ {l : List ℕ} {x : Form} (f : Formed l x) {b : Brings} (g : Brought (Some x) b) where
   brought : b ≡ brings (line_of (tokens l))
   brought = g l _ f.form-is
 
@@ -180,7 +180,7 @@ module _ {l : List ℕ} {x : Form} (f : Formed l x) {b : Brings} (g : Brought x 
               refused-took (last-number st g ∙ rw (lt-leb (p.editions + b.editions) 1 (omega arith)));
         }
 
-        pub form_storable : Storable l x (with_atom_count c n) (line_of (tokens l))
+        pub form_storable : Storable l (Some x) (with_atom_count c n) (line_of (tokens l))
         form_storable = record {
           short = f.short;
           form-is = f.form-is;

@@ -122,7 +122,7 @@ fn take_form(
         (lent clauses.new constraints.new formula.new names.new
         prices.new) }
 {
-    let b = brings(x);
+    let b = brings(Some(x));
     check_text(l, b)?;
     let c = p.found;
     let Some(atoms) = names::intern_line(l, names, c.atoms) else {
@@ -134,7 +134,16 @@ fn take_form(
         return Err(Refusal::SecondEdition);
     }
     let named = Case { atoms, ..c };
-    let found = store_form(l, x, named, names, clauses, constraints, formula, prices);
+    let found = store_form(
+        l,
+        Some(x),
+        named,
+        names,
+        clauses,
+        constraints,
+        formula,
+        prices,
+    );
     Ok(Progress {
         found,
         costed: with_cost(p.costed, atom),

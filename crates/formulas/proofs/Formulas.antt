@@ -130,6 +130,10 @@ closed_parsed q f j d (Some p) c h eq n m = record {
   room = omega (arith, q.onward, c.1.onward);
 }
 
+pub no_head_parsed : (l : List ℕ) (at : ℕ) {h : Option Head} → HeadAt l at h → h ≡ None
+    → begins_formula (items_of (tokens (drop at l))) ≡ false
+no_head_parsed l at t p = let n : HeadAt l at None = subst (HeadAt l at) p t in n
+
 module _ (l : List ℕ) (at : ℕ) {h : Head} (t : HeadAt l at (Some h)) where
   pub name_parsed : {a e : ℕ} → h ≡ Name a e → FormulaAt l at e 1
   unfolding depth_of size_of

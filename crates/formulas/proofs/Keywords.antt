@@ -11,6 +11,7 @@ use Rattle.words.proofs.Below.{every-at}
 use Rattle.text.specs.Bytes.{same_bytes}
 use Rattle.text.specs.Words.{place_of}
 use Rattle.text.proofs.Places.{place-le, place-name}
+use Rattle.text.proofs.Same.{same-pointwise}
 use Rattle.formulas.specs.Sentence.{form_words}
 use Rattle.formulas.specs.Keyword.{node_of, Below, NodeFound}
 
@@ -50,13 +51,6 @@ unfolding node_of
 no-node q = record { node_is = rw q }
 
 -- Words that are searched
-
-same-pointwise : (v w : List ℕ) → pointwise nat_eq v w ≡ same_bytes v w
-unfolding same_bytes
-same-pointwise [] [] = refl
-same-pointwise [] (c ∷ w) = refl
-same-pointwise (b ∷ v) [] = refl
-same-pointwise (b ∷ v) (c ∷ w) = rw (same-pointwise v w)
 
 -- the test of a lent word
 abbrev pub is : List ℕ → Bor (List ℕ) → Bool

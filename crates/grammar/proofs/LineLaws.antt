@@ -1,7 +1,6 @@
 -- What a line holds: its names are those among its tokens, what it brings is told by its form, a body has a literal,
 -- a query has at most half as many nodes as the line has tokens, and an edition is one.
 --
---   brings_of x      what a line of the form x brings
 --   Bodied ls        there is a literal
 --   ClauseShaped k   the literals of a clause of kind k are as many as it takes
 --   Shaped n x       the bodies of the line x have a literal, a constraint its kind, a query at most n / 2 nodes, an
@@ -15,6 +14,8 @@ use Prim.Native.Nat.{ℕ, zero, suc, ◌+◌, ◌*◌, ◌≤◌, ◌<◌}
 use native.Mathlib.Omega.{arith}
 use lib.Dec.{ltb}
 use lib.ListN.{length, get_or}
+use Rattle.std.specs.Prelude.{None, Some}
+use Rattle.std.specs.Prelude as code
 use borrow.Author.Tests.{ltb-true, eqb-true, lt-ltb}
 use Rattle.text.specs.Tokens.{Token}
 use Rattle.text.specs.Words.{names_in, begins_with_letter}
@@ -33,6 +34,11 @@ use Rattle.formulas.proofs.Sizes.{formula-size}
 use Rattle.grammar.specs.Line.{Literal, Line, line_words, of_literal, body_tokens, line_tokens, are_named, takes}
 use Rattle.grammar.specs.Line.{is_cost, is_edition, is_line, body_names, line_names}
 use Rattle.grammar.specs.LineOf.{line_of}
+use Rattle.grammar.specs.Bringing.{nothing}
+use Rattle.grammar.specs.Parsing.{Brought}
+use Rattle.grammar.specs.declared.line.Form.{Form}
+use Rattle.grammar.specs.declared.line.Form.TheVariants.{Skipped, Clause, Constraint, Seen, Query, Cost, Atom}
+use Rattle.grammar.specs.declared.line.Form.TheVariants.{Edition}
 use Rattle.grammar.proofs.Editions.{edition-number}
 use Rattle.grammar.proofs.LineReading.{sentence-read, ClauseParts, clause-parts, ConstraintParts}
 use Rattle.grammar.proofs.LineReading.{constraint-parts}
@@ -162,6 +168,22 @@ name-is-line w = refl
 pub edition-is-line : (e : ℕ) → is_line (Line.edition e) ≡ is_edition e
 unfolding is_line
 edition-is-line e = refl
+
+-- What a line brings, by its form
+
+-- one with none of these forms brings nothing
+pub brought-nothing : (x : code.Option Form) → ((k a e n : ℕ) → x ≡ Some (Clause k a e n) → ⊥)
+    → ((k at n : ℕ) → x ≡ Some (Constraint k at n) → ⊥) → ((at d : ℕ) → x ≡ Some (Query at d) → ⊥)
+    → ((a e p s : ℕ) → x ≡ Some (Cost a e p s) → ⊥) → ((n : ℕ) → x ≡ Some (Edition n) → ⊥) → Brought x nothing
+brought-nothing None f g h i j l y q = rw q
+brought-nothing (Some Skipped) f g h i j l y q = rw q
+brought-nothing (Some (Clause k a e n)) f g h i j l y q = absurd (f k a e n refl)
+brought-nothing (Some (Constraint k at n)) f g h i j l y q = absurd (g k at n refl)
+brought-nothing (Some (Seen at)) f g h i j l y q = rw q.line-is
+brought-nothing (Some (Query at d)) f g h i j l y q = absurd (h at d refl)
+brought-nothing (Some (Cost a e p s)) f g h i j l y q = absurd (i a e p s refl)
+brought-nothing (Some (Atom a e)) f g h i j l y q = rw q.1
+brought-nothing (Some (Edition n)) f g h i j l y q = absurd (j n refl)
 
 -- Literals and nodes
 

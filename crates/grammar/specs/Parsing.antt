@@ -160,6 +160,6 @@ ends_line l at = ends_items (items_of (tokens (drop at l)))
 pub record FormFound (l : List ℕ) (r : code.Option Form) : Type 0 where
   pub form-is : FormOrNone l r (line_of (tokens l))
 
--- r is what a line of the form x brings
-abbrev pub Brought : Form → Brings → Type 0
-Brought x r = (l : List ℕ) (y : Line) → FormIs l x y → r ≡ brings y
+-- r is what a line of the form x, or of none, brings
+abbrev pub Brought : code.Option Form → Brings → Type 0
+Brought x r = (l : List ℕ) (y : Line) → FormOrNone l x y → r ≡ brings y

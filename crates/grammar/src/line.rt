@@ -139,35 +139,35 @@ pub fn form_of(l: &[u8]) -> Option<Form>
     }
 }
 
-// What the line of a form brings.
-pub fn brings(x: Form) -> Brings
+// What a line of a form, or of none, brings.
+pub fn brings(x: Option<Form>) -> Brings
     ensures { Brought x result }
 {
     match x {
-        Form::Clause(_, _, _, literals) => Brings {
+        Some(Form::Clause(_, _, _, literals)) => Brings {
             clauses: 1,
             literals,
             ..Brings::NOTHING
         },
-        Form::Constraint(_, _, literals) => Brings {
+        Some(Form::Constraint(_, _, literals)) => Brings {
             constraints: 1,
             literals,
             ..Brings::NOTHING
         },
-        Form::Query(_, depth) => Brings {
+        Some(Form::Query(_, depth)) => Brings {
             queries: 1,
             depth,
             ..Brings::NOTHING
         },
-        Form::Cost(_, _, price, supplement) => Brings {
+        Some(Form::Cost(_, _, price, supplement)) => Brings {
             price,
             supplement,
             ..Brings::NOTHING
         },
-        Form::Edition(_) => Brings {
+        Some(Form::Edition(_)) => Brings {
             editions: 1,
             ..Brings::NOTHING
         },
-        Form::Skipped | Form::Seen(_) | Form::Atom(_, _) => Brings::NOTHING,
+        Some(Form::Skipped | Form::Seen(_) | Form::Atom(_, _)) | None => Brings::NOTHING,
     }
 }

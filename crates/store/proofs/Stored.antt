@@ -7,6 +7,8 @@ use Prim.Native.Nat.{ℕ, ◌*◌, ◌-◌, ◌≤◌, ◌<◌}
 use native.Mathlib.Omega.{arith}
 use lib.ListN.{length, take, drop}
 use lib.Seq.{slice}
+use Rattle.std.specs.Prelude.{None, Some}
+use Rattle.std.specs.Prelude as code
 use Rattle.logic.specs.Nodes.{nodes}
 use Rattle.program.specs.declared.case.Case.{Case}
 use Rattle.program.specs.Case.{clause_size, constraint_size, formula_size, part_size}
@@ -19,7 +21,7 @@ use Rattle.grammar.specs.declared.line.Form.{Form}
 use Rattle.grammar.specs.declared.line.Form.TheVariants.{Skipped, Clause, Constraint, Seen, Query, Cost, Atom}
 use Rattle.grammar.specs.declared.line.Form.TheVariants.{Edition}
 use Rattle.grammar.specs.Line.{Line, Literal}
-use Rattle.grammar.specs.Parsing.{FormIs, body_in}
+use Rattle.grammar.specs.Parsing.{FormIs, FormOrNone, body_in}
 use Rattle.names.specs.Row.{row_of}
 use Rattle.store.specs.declared.masks.Masks.{Masks}
 use Rattle.store.specs.Lent.{lent}
@@ -40,9 +42,21 @@ abbrev MasksOf : List ℕ → ℕ → List ℕ → ℕ → Masks → Type 0
 MasksOf l at na n m =
     (ls : List Literal) → body_in (tokens (drop at l)) ≡ Option.some ls → m ≡ masks_by (row_of na n) ls
 
-module _ {l : List ℕ} {x : Form} {c : Case} {y : Line} (s : Storable l x c y) where
+-- of a line with no form
+pub no_form_stored : {l : List ℕ} {x : code.Option Form} {c : Case} {y : Line} {cl co fo na pr : List ℕ}
+    → Storable l x c y → x ≡ None → StoredAs y c (lent cl co fo na pr) c (lent cl co fo na pr)
+unfolding said_by
+no_form_stored {l} {y = y} s q =
+    let f = subst (λ r. FormOrNone l r y) q s.form-is in
+    record { kept = kept_refl-all _; held = λ st h known once. rw f h }
+
+-- of a line of the form x
+module _ {l : List ℕ} {o : code.Option Form} {x : Form} {c : Case} {y : Line} (s : Storable l o c y)
+    (has : o ≡ Some x) where
   form-told : {z : Form} → x ≡ z → FormIs l z y
-  form-told e = subst (λ q. FormIs l q y) e s.form-is
+  form-told e =
+      let f : FormIs l x y = subst (λ q. FormOrNone l q y) has s.form-is in
+      subst (λ q. FormIs l q y) e f
 
   -- what the arms of a clause, a constraint and a query take
 

@@ -6,9 +6,9 @@
 --   with_price t a p     the table t with the price p of atom a, where a is below 64
 --   Room c b             behind c there is room for what a line brings, and its price and supplement are in their
 --                        limits
---   Storable l x c y     x is the form of the line l, which says y, and behind c there is room for it
+--   Storable l x c y     x is the form, or none, of the line l, which says y, and behind c there is room for it
 --   StoredAs y c t r u   the record r and the tables u are c and t with what the line y says
-use Rattle.std.specs.Prelude.{◌≡◌, false, List, [], ◌∷◌, ℕ, ◌+◌, ◌*◌, ◌≤◌, ltb, length, set, take, drop}
+use Rattle.std.specs.Prelude.{◌≡◌, Option, false, List, [], ◌∷◌, ℕ, ◌+◌, ◌*◌, ◌≤◌, ltb, length, set, take, drop}
 use Rattle.std.proofs.lemmas.List.Edits.{sets}
 use Rattle.words.specs.Choice.{pick}
 use Rattle.program.specs.declared.case.Case.{Case}
@@ -18,7 +18,7 @@ use Rattle.grammar.specs.declared.brings.Brings.{Brings}
 use Rattle.grammar.specs.declared.line.Form.{Form}
 use Rattle.grammar.specs.Line.{Line, line_names}
 use Rattle.grammar.specs.Bringing.{brings}
-use Rattle.grammar.specs.Parsing.{FormIs}
+use Rattle.grammar.specs.Parsing.{FormOrNone}
 use Rattle.names.specs.Names.{with_names}
 use Rattle.names.specs.Row.{row_of}
 use Rattle.store.specs.declared.masks.Masks.{Masks}
@@ -76,9 +76,9 @@ pub record Room (c : Case) (b : Brings) : Type 0 where
   pub price-fits : b.price ≤ 2000000
   pub supplement-fits : b.supplement ≤ 100
 
-pub record Storable (l : List ℕ) (x : Form) (c : Case) (y : Line) : Type 0 where
+pub record Storable (l : List ℕ) (x : Option Form) (c : Case) (y : Line) : Type 0 where
   pub short : length l ≤ 200
-  pub form-is : FormIs l x y
+  pub form-is : FormOrNone l x y
   pub atoms-few : c.atoms ≤ 64
   pub room : Room c (brings y)
 

@@ -83,11 +83,11 @@ fn store_query(l: &[u8], at: usize, c: Case, names: &[u8], formula: &mut [u8]) -
     next
 }
 
-// Stores what the line of a form says. The tables are no struct of `&mut`s: one of these cannot be lent as a `&`
-// through a `&mut` to the struct, which the borrow checker does not cover.
+// Stores what a line of a form, or of none, says. The tables are no struct of `&mut`s: one of these cannot be lent as
+// a `&` through a `&mut` to the struct, which the borrow checker does not cover.
 pub fn store_form(
     l: &[u8],
-    x: Form,
+    x: Option<Form>,
     c: Case,
     names: &[u8],
     clauses: &mut [u64],
@@ -103,6 +103,9 @@ pub fn store_form(
         (lent clauses.new constraints.new formula.new names.now
         prices.new) }
 {
+    let Some(x) = x else {
+        return c;
+    };
     match x {
         Form::Skipped | Form::Atom(_, _) => c,
         Form::Clause(kind, a, e, _) => {

@@ -1,14 +1,15 @@
--- Laws of the lines of a file, by places of the file: a loop over a line. Assumes nothing.
+-- Laws of the lines of a file, by places of the file: a loop over a line, and a line's first byte. Assumes nothing.
 use mathlib.Core.Path.{◌≡◌, refl, ◌∙◌}
 use mathlib.Core.List.{List, [], ◌∷◌, ◌++◌}
 use Prim.Native.Nat.{ℕ, ◌+◌, ◌≤◌, ◌<◌}
 use native.Mathlib.Nat.{not-suc-le-zero}
 use native.Mathlib.Numerals.{add-one}
 use native.Mathlib.Omega.{arith}
+use lib.Dec.{eqb}
 use lib.ListN.{length, drop, get_or, drop_of_length-le}
 use lib.Seq.{slice, length-slice, drop-cons}
 use borrow.Author.Tests.{eq-eqb, ne_eqb}
-use Rattle.text.specs.Lines.{last_line, lines_from, lines}
+use Rattle.text.specs.Lines.{last_line, lines_from, lines, is_comment}
 use Rattle.text.specs.Scanning.{LineEnds}
 use Rattle.text.proofs.Slices.{slice_more}
 
@@ -61,3 +62,10 @@ module _ {f : List ℕ} {at i : ℕ} (h : InLine f at i) where
   in_line_ends l k =
       let n : 0 < length (slice at i f) = rw (length-slice at i f h.within) (omega arith) in
       record { onward = h.onward; within = h.within; lines_are = h.lines_are ∙ lines_end f (slice at i f) i n k }
+
+-- is_comment
+
+pub comment_first : (l : List ℕ) → 0 < length l → is_comment l ≡ eqb (get_or l 0 0) 59
+unfolding is_comment
+comment_first [] h = absurd (not-suc-le-zero h)
+comment_first (b ∷ l) h = refl

@@ -9,6 +9,8 @@ use native.Mathlib.Omega.{arith}
 use lib.Dec.{eqb}
 use lib.ListN.{length, drop, get_or, drop_of_length-le}
 use lib.Seq.{slice, slice-cons, slice_empty, drop-cons}
+use Rattle.std.proofs.Common.{nat_eq}
+use Rattle.std.specs.Cmp.Lexicographic.{pointwise}
 use borrow.Author.Tests.{eq-eqb, ne_eqb, eqb-true}
 use Rattle.words.proofs.Tests.{eqb_comm}
 use Rattle.text.specs.Bytes.{same_bytes}
@@ -34,6 +36,14 @@ same_comm [] [] = refl
 same_comm [] (c ∷ m) = refl
 same_comm (b ∷ l) [] = refl
 same_comm (b ∷ l) (c ∷ m) = rw (eqb_comm b c, same_comm l m)
+
+-- std's comparison of slices is that of bytes
+pub same-pointwise : (v w : List ℕ) → pointwise nat_eq v w ≡ same_bytes v w
+unfolding same_bytes
+same-pointwise [] [] = refl
+same-pointwise [] (c ∷ w) = refl
+same-pointwise (b ∷ v) [] = refl
+same-pointwise (b ∷ v) (c ∷ w) = rw (same-pointwise v w)
 
 -- the part of l from a to e is w if what is left of it behind its first i entries is what is left of w
 pub record SameFrom (l : List ℕ) (a e : ℕ) (w : List ℕ) (i : ℕ) : Type 0 where

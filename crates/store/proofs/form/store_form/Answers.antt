@@ -2,7 +2,7 @@
 use mathlib.Core.Logic.{inl, inr}
 use borrow.Author.Rules.{rules}
 use Rattle.store.proofs.Stored.{clause-kind, head-onward, head-within, clause-room, constraint-room}
-use Rattle.store.proofs.Stored.{skipped_stored, clause_stored, constraint_stored}
+use Rattle.store.proofs.Stored.{skipped_stored, no_form_stored, clause_stored, constraint_stored}
 use Rattle.store.proofs.Stored.{seen_stored, query-room, query_stored}
 use Rattle.store.proofs.Stored.{name-onward, name-within, price-few, supplement-few, cost_stored}
 use Rattle.store.proofs.Stored.{atom_stored, edition_stored}
@@ -23,10 +23,14 @@ slice_bounds-atom_of-end c = search (rules, name-onward, name-within)
 pub price_of-requires : goal.price_of-requires
 price_of-requires c = search (rules, price-few, supplement-few)
 
+pub returns-in_default : goal.returns-in_default
+returns-in_default c = search (rules, no_form_stored)
+
 pub returns-in-Skipped : goal.returns-in-Skipped
 returns-in-Skipped c =
     let s = c.requires.1 in
-    elim c.in-Skipped.is [ inl e ↦ skipped_stored s e | inr t ↦ atom_stored s t.2 ]
+    let i = c.in-Some.is in
+    elim c.in-Skipped.is [ inl e ↦ skipped_stored s i e | inr t ↦ atom_stored s i t.2 ]
 
 pub returns-in-Clause : goal.returns-in-Clause
 returns-in-Clause c = search (rules, clause_stored)
