@@ -1,12 +1,16 @@
 -- Laws of a list put in front of another, part by part. Assumes nothing.
 use mathlib.Core.Path.{◌≡◌, ap, sym, ◌∙◌}
-use mathlib.Core.List.{List, ◌++◌, append_assoc}
+use mathlib.Core.List.{List, ◌++◌, append_assoc, append-nil}
 use Prim.Native.Nat.{ℕ, ◌≤◌}
 use native.Mathlib.Omega.{arith}
-use lib.ListN.{length, take, drop, length-append}
+use lib.ListN.{length, take, drop, length-append, drop_of_length-le}
 use lib.Seq.{take_at, drop_at, drop-drop}
 use Rattle.words.specs.Lists.{over}
 use Rattle.table.proofs.Stores.{rest_from, rest_back, rest-lent, rest_put}
+
+-- in all places
+pub over-all : (l old : List ℕ) → length old ≤ length l → over l old ≡ l
+over-all l old h = rw (drop_of_length-le old h, append-nil)
 
 -- l is in front, and m is put to the part behind it, which is the rest
 pub over-behind : (l m old : List ℕ) {k : ℕ} {mid back : List ℕ} → k ≡ length l → mid ≡ over l old

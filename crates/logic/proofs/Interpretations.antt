@@ -108,6 +108,14 @@ pub nothing_good : Good nothing
 nothing_good = record { trues_fit = lit< tt; falses_fit = lit< tt; disjoint = refl }
 
 -- ---- one atom assigned
+-- an atom that is assigned the value it has
+pub assigned-kept : (v : ℕ → Value) (a : ℕ) (x : Value) → x ≡ v a → (b : ℕ) → assigned v a x b ≡ v b
+assigned-kept v a x e b = go (eqb b a) refl
+  where
+    go : (t : Bool) → eqb b a ≡ t → pick t x (v b) ≡ v b
+    go true p = e ∙ ap v (sym (eqb-true b a p))
+    go false p = refl
+
 -- a word of the atoms whose value in v passes the test q, and the word of those that pass with x at atom a
 module _ (q : Value → Bool) (v : ℕ → Value) (w : ℕ) (a : ℕ) (x : Value)
     (fits : w < 2 ^ 64) (l : a < 64) (bits : (b : ℕ) → has w b ≡ q (v b)) where

@@ -1,8 +1,9 @@
 -- Laws of the values: by their tests, by their ranks, and of the connectives. A law of two values is one computed test
 -- over all pairs (Every.antt). Assumes nothing.
 use mathlib.Core.Path.{◌≡◌, refl, sym, ap, ap₂, ◌∙◌, subst}
-use mathlib.Core.Bool.{Bool, true, false, ◌&&◌, ◌||◌, beq, false≢true}
-use Prim.Native.Nat.{ℕ, zero, suc}
+use mathlib.Core.Bool.{Bool, true, false, ◌&&◌, ◌||◌, beq, true≢false, false≢true}
+use Prim.Native.Nat.{ℕ, zero, suc, ◌<◌}
+use native.Mathlib.Omega.{arith}
 use lib.Dec.{T, eqb, eqb→eq}
 use Rattle.logic.specs.declared.value.Value.{Value}
 use Rattle.logic.specs.declared.value.Value.TheVariants.{False, Unknown, True}
@@ -11,6 +12,11 @@ use Rattle.logic.specs.Interpretation.{among}
 use Rattle.logic.proofs.Every.{every_at₂, beq_eq}
 
 -- ---- rank
+pub rank_lt : (v : Value) → rank v < 3
+rank_lt False = omega arith
+rank_lt Unknown = omega arith
+rank_lt True = omega arith
+
 abbrev of_rank : ℕ → Value
 of_rank zero = False
 of_rank (suc zero) = Unknown
@@ -117,6 +123,11 @@ pub greater_false_r : (v : Value) → greater v False ≡ v
 greater_false_r False = refl
 greater_false_r Unknown = refl
 greater_false_r True = refl
+
+pub greater-unknown-r : (v : Value) → is_true v ≡ false → greater v Unknown ≡ Unknown
+greater-unknown-r False e = refl
+greater-unknown-r Unknown e = refl
+greater-unknown-r True e = absurd (true≢false e)
 
 pub greater_true_r : (v : Value) → greater v True ≡ True
 greater_true_r False = refl

@@ -85,7 +85,17 @@ impl Interpretation {
         requires { (atom < 64) × Disjoint self }
         ensures { result ≡ of_values (assigned (value_at self) atom (greater (value_at self atom) v)) }
     {
-        self.decide(atom, self.value(atom).or(v))
+        match v {
+            Value::True => self.decide(atom, Value::True),
+            Value::Unknown => {
+                if self.holds(atom, false) {
+                    self
+                } else {
+                    self.decide(atom, Value::Unknown)
+                }
+            }
+            Value::False => self,
+        }
     }
 
     // The number of decided atoms.

@@ -6,8 +6,9 @@ use Prim.Native.Nat.{ℕ, suc, ◌+◌, ◌-◌, ◌≤◌, ◌<◌}
 use native.Mathlib.Nat.{add-suc, suc-add, add-zero, zero-add}
 use native.Mathlib.Numerals.{add-one}
 use native.Mathlib.Omega.{arith}
-use lib.ListN.{length, take, drop, get_or, set, length-set, length-drop, take-append-drop}
+use lib.ListN.{length, take, drop, get_or, set, length-set, length-drop, take-append-drop, get_or-eq_default}
 use lib.Seq.{sets, sets-eq, take_all, take-suc, length-take-le, drop-drop, drop_at, drop-length}
+use lib.Seq.{slice, length-slice, get_or-take, get_or-drop}
 use borrow.Rule.Slice.PartMut.{mid_of, put_mid, Post-is}
 use Rattle.table.specs.Filled.{padded}
 use Rattle.table.proofs.Filled.{padded-length, padded-at}
@@ -56,6 +57,14 @@ module _ (vs t t₀ : List ℕ) (i j : ℕ) (e : t ≡ sets t₀ i (take j vs)) 
 
   pub stored_all : length vs ≤ j → t ≡ sets t₀ i vs
   stored_all h = e ∙ rw (take_all j vs h)
+
+-- entry i of a part of s, and past its end
+pub slice_at : (s : List ℕ) (a e i : ℕ) → a + i < e → get_or s (a + i) 0 ≡ get_or (slice a e s) i 0
+slice_at s a e i h = sym (get_or-drop a (take e s) i 0 ∙ get_or-take e s (a + i) 0 h)
+
+pub slice_past : (s : List ℕ) (a e i : ℕ) → e ≤ length s → e - a ≤ i → 0 ≡ get_or (slice a e s) i 0
+slice_past s a e i h l =
+    let m : length (slice a e s) ≤ i = rw (length-slice a e s h) l in sym (get_or-eq_default (slice a e s) 0 m)
 
 -- t is t₀ with the first i of n bytes of a padded row stored from a place on: at the loop's start, after a turn and at
 -- its end

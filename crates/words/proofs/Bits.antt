@@ -110,6 +110,10 @@ has-single (suc j) (suc i) =
     let q : 2 ^ suc j / 2 ≡ 2 ^ j = omega arith in
     has-half _ i ∙ ap (λ (x : ℕ). has x i) q ∙ has-single j i ∙ sym (eqb-suc-suc i j)
 
+pub pow_pred : (n : ℕ) → 1 ≤ n → 2 ^ n ≡ 2 ^ (n - 1) * 2
+pow_pred zero h = absurd (omega arith)
+pow_pred (suc n) h = let e : suc n - 1 ≡ n = omega arith in rw e (pow-suc 2 n)
+
 -- the highest number of 64 bits, shifted to n bits
 pub top_shifted : (n : ℕ) → n ≤ 64 → (2 ^ 64 - 1) / 2 ^ (64 - n) + 1 ≡ 2 ^ n
 top_shifted n h =
