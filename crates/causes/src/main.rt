@@ -4,13 +4,14 @@
 
 ghost use Rattle.std.proofs.Common.{◌∙◌};
 ghost use Rattle.system.specs.Writing.{WritesText};
+ghost use Rattle.input.specs.Answering.{IsAnswered};
 ghost use Rattle.report.specs.Report.{report_text};
 ghost use Rattle.report.proofs.Theorems.{report_cut};
 ghost use Rattle.causes.specs.Program.{IsReport};
 
-use input::{Operation, answer, tell};
+use input::{Fault, Operation, answer, tell};
 use report::operation::report;
-use std::io::{self, Write};
+use std::io::{self, Read, Write};
 use system::{argument_count, write_whole};
 
 // Room for a byte more than a file may have (refusal 2), for the report of ten causes and less, and for every report
@@ -46,6 +47,14 @@ fn write_long<W: Write>(file: &[u8], to: &mut W) -> io::Result<()>
     write_whole(to, &out[..length])
 }
 
+// Reads the input, and writes its report.
+fn run<R: Read, W: Write>(from: &mut R, to: &mut W) -> Result<(), Fault>
+    ensures { IsAnswered IsReport (R.remaining from.old) result (W.contents to.old) (W.contents to.new) }
+{
+    let mut file = [0; FILE_ROOM];
+    answer(&Causes, from, to, &mut file)
+}
+
 fn main(rt: HostRuntime) {
     let mut errors = rt.stderr();
     if argument_count(&rt) > 1 {
@@ -55,8 +64,7 @@ fn main(rt: HostRuntime) {
         );
         return;
     }
-    let mut file = [0; FILE_ROOM];
-    if let Err(fault) = answer(&Causes, &mut rt.stdin(), &mut rt.stdout(), &mut file) {
+    if let Err(fault) = run(&mut rt.stdin(), &mut rt.stdout()) {
         let _ = tell(&mut errors, "causes", fault);
     }
 }

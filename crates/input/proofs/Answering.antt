@@ -33,24 +33,42 @@ read_whole n buf fits (Some xs) (Some ys) c e = ⊎_elim full short (eq-or-lt_of
         let all : xs ≡ take n buf = c ∙ ap (λ l. take n buf ++ l) (e h) ∙ append-nil (take n buf) in
         ap (take (length buf)) all ∙ take_all (length buf) (take n buf) (omega (arith, held))
 
+-- t is a text of every input that begins with the n bytes read, and ends with them where the buffer is not full
+module _ (P : List ℕ → List ℕ → Type 0) (t : List ℕ) (n : ℕ) (buf : List ℕ) (fits : n ≤ length buf)
+    (text_of : (xs : List ℕ) → take (length buf) xs ≡ take n buf → P xs t) where
+  known : (Q : List ℕ → Type 0) (i : Option (List ℕ)) → IfSome i (λ xs. take (length buf) xs ≡ take n buf) → Q t
+      → IfSome i (λ xs. (t : List ℕ) × P xs t × Q t)
+  known Q None e h = tt
+  known Q (Some xs) e h = (t, text_of xs e, h)
+
+  -- they were read from i to y, and t was written from old to new with the outcome w
+  pub text_answered : (i y : Option (List ℕ)) → Consumes i y (take n buf) → (n < length buf → IsAtEnd y)
+      → (old new : Option (List ℕ)) (w : Result Unit Error) → WritesText w old new t → (r : Result Unit Fault)
+      → MatchResult w (λ u. r ≡ Ok u) (λ e. r ≡ Err (Output e)) → IsAnswered P i r old new
+  text_answered i y c e old new (Ok u) h r f =
+      rw f (known (λ t. Appends old new t) i (read_whole n buf fits i y c e) h)
+  text_answered i y c e old new (Err x) h r f =
+      rw f (known (λ t. (k : ℕ) × Appends old new (take k t)) i (read_whole n buf fits i y c e) h)
+
 -- what was read from i to y is answered by t, which was written from old to new with the outcome w
 module _ (P : List ℕ → List ℕ → Type 0) (cut : (i t : List ℕ) (k : ℕ) → 32768 < k → P (take k i) t → P i t)
     (n : ℕ) (buf : List ℕ) (room : 32768 < length buf) (t : List ℕ) (text-is : P (take n buf) t)
     (i y old new : Option (List ℕ)) where
-  known : (Q : List ℕ → Type 0) → (i : Option (List ℕ)) → IfSome i (λ xs. take (length buf) xs ≡ take n buf) → Q t
-      → IfSome i (λ xs. (t : List ℕ) × P xs t × Q t)
-  known Q None e h = tt
-  known Q (Some xs) e h = (t, cut xs t (length buf) room (rw e text-is), h)
-
-  whole : IsRead n buf i y × (n < length buf → IsAtEnd y) → IfSome i (λ xs. take (length buf) xs ≡ take n buf)
-  whole read = read_whole n buf read.0.counted.0 i y read.0.bytes read.1
+  text_of : (xs : List ℕ) → take (length buf) xs ≡ take n buf → P xs t
+  text_of xs e = cut xs t (length buf) room (rw e text-is)
 
   pub answered : IsRead n buf i y × (n < length buf → IsAtEnd y) → (w : Result Unit Error) → WritesText w old new t
       → (r : Result Unit Fault) → MatchResult w (λ u. r ≡ Ok u) (λ e. IsErrAnd r (λ f. f ≡ Output e))
       → IsAnswered P i r old new
-  answered read (Ok u) h r f = rw f (known (Appends old new) i (whole read) h)
-  answered read (Err x) h (Ok u) f = absurd f
-  answered read (Err x) h (Err e) f = rw f (known (λ t. (k : ℕ) × Appends old new (take k t)) i (whole read) h)
+  answered read w h r f =
+      text_answered P t n buf read.0.counted.0 text_of i y read.0.bytes read.1 old new w h r (outcome w r f)
+    where
+      outcome : (w : Result Unit Error) (r : Result Unit Fault)
+          → MatchResult w (λ u. r ≡ Ok u) (λ e. IsErrAnd r (λ f. f ≡ Output e))
+          → MatchResult w (λ u. r ≡ Ok u) (λ e. r ≡ Err (Output e))
+      outcome (Ok u) r f = f
+      outcome (Err x) (Ok u) f = absurd f
+      outcome (Err x) (Err e) f = ap Err f
 
 -- a was told behind the program's name p
 pub told : (p a b : List ℕ) (x y z : Option (List ℕ)) (r : Result Unit Error) → Appends x y (p ++ codes ": ")

@@ -10,6 +10,13 @@ ghost use Rattle.input.specs.Answering.{IsAnswered, stream_of};
 use std::io::{self, Read, Write};
 use system::tell_fault;
 
+// What reading the input gave: how many bytes, and how many of them by the last call of read.
+#[derive(Clone, Copy)]
+pub struct Input {
+    pub count: usize,
+    pub last: usize,
+}
+
 // Why the input could not be read, and how many bytes of it were read before.
 #[derive(Clone, Copy)]
 pub struct ReadFault {
@@ -46,18 +53,25 @@ pub trait Operation {
 }
 
 // Reads the input until the buffer is full, the input ends or a read fails. An interrupted read counts as a failed one.
-pub fn read_input<R: Read>(from: &mut R, buf: &mut [u8]) -> Result<usize, ReadFault>
+pub fn read_input<R: Read>(from: &mut R, buf: &mut [u8]) -> Result<Input, ReadFault>
     ensures { InputRead result buf.new (R.remaining from.old) (R.remaining from.new) }
 {
     let mut done: usize = 0;
+    let mut last: usize = 0;
     while done < buf.len() {
         match from.read(&mut buf[done..]) {
-            Ok(0) => return Ok(done),
-            Ok(n) => done += n,
+            Ok(0) => return Ok(Input {
+                count: done,
+                last: 0,
+            }),
+            Ok(n) => {
+                last = n;
+                done += n;
+            }
             Err(error) => return Err(ReadFault { count: done, error }),
         }
     }
-    Ok(done)
+    Ok(Input { count: done, last })
 }
 
 // Reads the input into a buffer, and writes a text that answers it.
@@ -70,7 +84,7 @@ pub fn answer<P: Operation, R: Read, W: Write>(
     requires { 32768 < length buf.old }
     ensures { IsAnswered P.is_text (R.remaining from.old) result (W.contents to.old) (W.contents to.new) }
 {
-    let n = read_input(from, buf)?;
+    let n = read_input(from, buf)?.count;
     operation.write(&buf[..n], to).map_err(Fault::Output)
 }
 

@@ -3,12 +3,13 @@
 // takes no argument.
 #![tactic(auto)]
 
+ghost use Rattle.input.specs.Answering.{IsAnswered};
 ghost use Rattle.layer_report.specs.Report.{LayersOf};
 ghost use Rattle.layer_report.proofs.Theorems.{layers_cut};
 
-use input::{Operation, answer, tell};
+use input::{Fault, Operation, answer, tell};
 use layer_report::operation::layer_report;
-use std::io::{self, Write};
+use std::io::{self, Read, Write};
 use system::{argument_count, write_whole};
 
 // Room for a byte more than a file may have (refusal 2), and for every text (crates/layer_report/specs/Claims.antt).
@@ -30,6 +31,14 @@ impl Operation for Layers {
     }
 }
 
+// Reads the input, and writes its text.
+fn run<R: Read, W: Write>(from: &mut R, to: &mut W) -> Result<(), Fault>
+    ensures { IsAnswered LayersOf (R.remaining from.old) result (W.contents to.old) (W.contents to.new) }
+{
+    let mut file = [0; FILE_ROOM];
+    answer(&Layers, from, to, &mut file)
+}
+
 fn main(rt: HostRuntime) {
     let mut errors = rt.stderr();
     if argument_count(&rt) > 1 {
@@ -39,8 +48,7 @@ fn main(rt: HostRuntime) {
         );
         return;
     }
-    let mut file = [0; FILE_ROOM];
-    if let Err(fault) = answer(&Layers, &mut rt.stdin(), &mut rt.stdout(), &mut file) {
+    if let Err(fault) = run(&mut rt.stdin(), &mut rt.stdout()) {
         let _ = tell(&mut errors, "layers", fault);
     }
 }

@@ -22,7 +22,7 @@ pub fn generate(seed: u32, n: u64, c: u64, out: &mut [u8]) -> Result<usize, Refu
     if !is_load(n, c) {
         return Err(Refusal::NoLoad);
     }
-    let page = load_lines(&mut [], seed, n, c);
+    let page = load_lines(&mut [0; 1], seed, n, c);
     if out.len() < page.at {
         return Err(Refusal::ShortLoadOutput);
     }

@@ -78,6 +78,8 @@ pub fn report(file: &[u8], out: &mut [u8]) -> Result<usize, Refusal>
     let mut formula = [0; Case::FORMULA_BYTES];
     let mut names = [0; Case::NAME_BYTES];
     let mut prices = [0; Case::PRICES];
+    let mut list = [0; 1024];
+    let mut work = [0; 59049];
     let found = read(
         file,
         &mut clauses,
@@ -95,8 +97,6 @@ pub fn report(file: &[u8], out: &mut [u8]) -> Result<usize, Refusal>
         constraints: &constraints,
         formula: &formula,
     };
-    let mut list = [0; 1024];
-    let mut work = [0; 59049];
     let a = ask(c, tables, &prices, &mut list, &mut work).unwrap();
     let words = Clauses {
         words: &clauses,

@@ -21,7 +21,7 @@ pub fn write(c: Case, t: LentTables, out: &mut [u8]) -> Result<usize, Refusal>
     if !is_writable(c, t) {
         return Err(Refusal::Unsound);
     }
-    let page = case_lines(&mut [], c, t);
+    let page = case_lines(&mut [0; 1], c, t);
     if page.long || 32768 < page.at {
         return Err(Refusal::LongText);
     }
