@@ -4,11 +4,12 @@
 #![tactic(auto)]
 
 ghost use Rattle.std.proofs.Common.{◌∙◌};
+ghost use Rattle.input.specs.Answering.{IsAnswered};
 ghost use Rattle.tidying.proofs.Theorems.{tidy_cut};
 ghost use Rattle.tidy.specs.Program.{IsTidy};
 
-use input::{Operation, answer, tell};
-use std::io::{self, Write};
+use input::{Fault, Operation, answer, tell};
+use std::io::{self, Read, Write};
 use system::{argument_count, write_whole};
 use tidying::operation::tidy;
 
@@ -31,6 +32,14 @@ impl Operation for Tidy {
     }
 }
 
+// Reads the input, and writes its text.
+fn run<R: Read, W: Write>(from: &mut R, to: &mut W) -> Result<(), Fault>
+    ensures { IsAnswered IsTidy (R.remaining from.old) result (W.contents to.old) (W.contents to.new) }
+{
+    let mut file = [0; FILE_ROOM];
+    answer(&Tidy, from, to, &mut file)
+}
+
 fn main(rt: HostRuntime) {
     let mut errors = rt.stderr();
     if argument_count(&rt) > 1 {
@@ -40,8 +49,7 @@ fn main(rt: HostRuntime) {
         );
         return;
     }
-    let mut file = [0; FILE_ROOM];
-    if let Err(fault) = answer(&Tidy, &mut rt.stdin(), &mut rt.stdout(), &mut file) {
+    if let Err(fault) = run(&mut rt.stdin(), &mut rt.stdout()) {
         let _ = tell(&mut errors, "tidy", fault);
     }
 }
