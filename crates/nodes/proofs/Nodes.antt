@@ -6,7 +6,6 @@ use Rattle.std.specs.Option.{MatchOption}
 use Rattle.std.specs.Prelude.{Option, None, Some}
 use Rattle.nodes.specs.declared.formula.Form.{Form}
 use Rattle.nodes.specs.declared.formula.Form.TheVariants.{And, Or, Then, Same}
-use Rattle.nodes.specs.declared.formula.Extent.{Extent}
 use Rattle.nodes.specs.Node.{place, IsDeeper}
 use Rattle.logic.specs.Evaluation.{Measured, Unmeasured}
 
@@ -17,8 +16,8 @@ place_few Then = omega arith
 place_few Same = omega arith
 
 -- the formula one deeper than its operands, if it is shallow enough
-pub measured_deeper : (n : ℕ) (ks : List ℕ) (at d m : ℕ) (o : Option Extent) → MatchOption o (16 ≤ d) (IsDeeper d m)
+pub measured_deeper : (n : ℕ) (ks : List ℕ) (at d m : ℕ) (o : Option ℕ) → MatchOption o (16 ≤ d) (IsDeeper d)
     → (16 ≤ d → Unmeasured n ks at) → (d < 16 → Measured n ks at (d + 1) m)
-    → MatchOption o (Unmeasured n ks at) (λ e. Measured n ks at e.depth e.next)
+    → MatchOption o (Unmeasured n ks at) (λ e. Measured n ks at e m)
 measured_deeper n ks at d m None h p q = p h
-measured_deeper n ks at d m (Some e) h p q = rw (h.1, h.2) (q h.0)
+measured_deeper n ks at d m (Some e) h p q = rw h.1 (q h.0)

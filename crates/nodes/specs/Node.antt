@@ -4,9 +4,8 @@
 --   IsNode k n       the number k is the node n
 --   NodeAt ks at n   the node n stands at place at of the nodes ks
 --   NoNode ks at     none stands there
---   IsDeeper d m e   e ends at place m, one deeper than d, at most 16
+--   IsDeeper d e     e is one deeper than d, at most 16
 use Rattle.std.specs.Prelude.{◌≡◌, List, ℕ, ◌+◌, ◌<◌, length, get_or}
-use Rattle.nodes.specs.declared.formula.Extent.{Extent}
 use Rattle.nodes.specs.declared.formula.Form.{Form}
 use Rattle.nodes.specs.declared.formula.Form.TheVariants.{And, Or, Then, Same}
 use Rattle.nodes.specs.declared.formula.Node.{Node}
@@ -29,5 +28,5 @@ NodeAt ks at n = (at < length ks) × IsNode (get_or ks at 0) n
 abbrev pub NoNode : List ℕ → ℕ → Type 0
 NoNode ks at = at < length ks → 68 < get_or ks at 0
 
-abbrev pub IsDeeper : ℕ → ℕ → Extent → Type 0
-IsDeeper d m e = (d < 16) × (e.depth ≡ d + 1) × (e.next ≡ m)
+abbrev pub IsDeeper : ℕ → ℕ → Type 0
+IsDeeper d e = (d < 16) × (e ≡ d + 1)

@@ -63,37 +63,22 @@ pub fn form_value(form: Form, left: Value, right: Value) -> Value
     }
 }
 
-// The value of a formula, and the place of the nodes behind it.
-#[derive(Clone, Copy)]
-pub struct Worth {
-    pub value: Value,
-    pub next: usize,
-}
-
-// The value of the formula at a place of the nodes, if one stands there.
-fn eval(nodes: &[u8], at: usize, i: Interpretation) -> Option<Worth>
-    ensures { MatchOption result (Unread nodes.now at) (λ w. Evaluated (value_at i) nodes.now at w.value w.next) }
+// The value of the formula at a place of the nodes, if one stands there; the place moves behind it.
+fn eval(nodes: &[u8], at: &mut usize, i: Interpretation) -> Option<Value>
+    ensures { MatchOption result (Unread nodes.now at.old) (λ v. Evaluated (value_at i) nodes.now at.old v at.new) }
 {
-    let node = node_at(nodes, at)?;
+    let node = node_at(nodes, *at)?;
+    *at += 1;
     match node {
-        Node::Atom(atom) => Some(Worth {
-            value: i.value(atom),
-            next: at + 1,
-        }),
+        Node::Atom(atom) => Some(i.value(atom)),
         Node::Not => {
-            let a = eval(nodes, at + 1, i)?;
-            Some(Worth {
-                value: a.value.not(),
-                next: a.next,
-            })
+            let a = eval(nodes, at, i)?;
+            Some(a.not())
         }
         Node::Two(form) => {
-            let a = eval(nodes, at + 1, i)?;
-            let b = eval(nodes, a.next, i)?;
-            Some(Worth {
-                value: form_value(form, a.value, b.value),
-                next: b.next,
-            })
+            let a = eval(nodes, at, i)?;
+            let b = eval(nodes, at, i)?;
+            Some(form_value(form, a, b))
         }
     }
 }
@@ -106,55 +91,41 @@ pub fn formula_value(nodes: &[u8], i: Interpretation) -> Value
     if let Some(Node::Atom(atom)) = node_at(nodes, 0) {
         return i.value(atom);
     }
-    match eval(nodes, 0, i) {
-        Some(w) => w.value,
+    match eval(nodes, &mut 0, i) {
+        Some(value) => value,
         None => Value::Unknown,
     }
 }
 
-// The depth of a formula, and the place of the nodes behind it.
-#[derive(Clone, Copy)]
-pub struct Extent {
-    pub depth: u8,
-    pub next: usize,
-}
-
 // One deeper than the operands, if that is at most 16.
-fn deeper(depth: u8, next: usize) -> Option<Extent>
-    ensures { MatchOption result (16 ≤ depth) (IsDeeper depth next) }
+fn deeper(depth: u8) -> Option<u8>
+    ensures { MatchOption result (16 ≤ depth) (IsDeeper depth) }
 {
-    if depth < 16 {
-        return Some(Extent {
-            depth: depth + 1,
-            next,
-        });
-    }
-    None
+    if depth < 16 { Some(depth + 1) } else { None }
 }
 
-// The depth of the formula at a place of the nodes, if one of depth at most 16 over atoms below a number stands there.
-fn measure(nodes: &[u8], at: usize, atoms: usize) -> Option<Extent>
-    ensures { MatchOption result (Unmeasured atoms nodes.now at) (λ e. Measured atoms nodes.now at e.depth e.next) }
+// The depth of the formula at a place of the nodes, if one of depth at most 16 over atoms below a number stands there;
+// the place moves behind it.
+fn measure(nodes: &[u8], at: &mut usize, atoms: usize) -> Option<u8>
+    ensures { MatchOption result (Unmeasured atoms nodes.now at.old) (λ d. Measured atoms nodes.now at.old d at.new) }
 {
-    let node = node_at(nodes, at)?;
+    let node = node_at(nodes, *at)?;
+    *at += 1;
     match node {
         Node::Atom(atom) => {
             if atoms <= atom as usize {
                 return None;
             }
-            Some(Extent {
-                depth: 1,
-                next: at + 1,
-            })
+            Some(1)
         }
         Node::Not => {
-            let a = measure(nodes, at + 1, atoms)?;
-            deeper(a.depth, a.next)
+            let a = measure(nodes, at, atoms)?;
+            deeper(a)
         }
         Node::Two(_) => {
-            let a = measure(nodes, at + 1, atoms)?;
-            let b = measure(nodes, a.next, atoms)?;
-            deeper(a.depth.max(b.depth), b.next)
+            let a = measure(nodes, at, atoms)?;
+            let b = measure(nodes, at, atoms)?;
+            deeper(a.max(b))
         }
     }
 }
@@ -163,8 +134,9 @@ fn measure(nodes: &[u8], at: usize, atoms: usize) -> Option<Extent>
 pub fn one_formula(nodes: &[u8], atoms: usize) -> bool
     ensures { result ≡ one_formula atoms nodes.now }
 {
-    match measure(nodes, 0, atoms) {
-        Some(e) => e.next == nodes.len(),
+    let mut end = 0;
+    match measure(nodes, &mut end, atoms) {
+        Some(_) => end == nodes.len(),
         None => false,
     }
 }

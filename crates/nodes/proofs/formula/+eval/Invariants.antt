@@ -3,4 +3,4 @@ use Rattle.std.proofs.Common.{◌-◌, length}
 use Rattle.nodes.proofs.formula.+eval.Given as goal
 
 abbrev pub decreases-eval : goal.decreases-eval
-decreases-eval l = length l.nodes.now - l.at
+decreases-eval l = length l.nodes.now - l.at.now

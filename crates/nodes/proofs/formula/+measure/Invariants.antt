@@ -3,4 +3,4 @@ use Rattle.std.proofs.Common.{◌-◌, length}
 use Rattle.nodes.proofs.formula.+measure.Given as goal
 
 abbrev pub decreases-measure : goal.decreases-measure
-decreases-measure l = length l.nodes.now - l.at
+decreases-measure l = length l.nodes.now - l.at.now
