@@ -3,8 +3,8 @@
 --
 --   Stopped buf r             reading into the buffer stopped where it was full or the last call of read gave no byte
 --   IsRead n buf old new      the first n bytes of the buffer are those read from old to new
---   InputRead r buf old new   reading into the buffer, from old to new, stopped with r: with what reading gave, where the
---                             buffer is full or the input ends, or with a fault before that
+--   InputRead r buf old new   reading into the buffer, from old to new, stopped with r: with what reading gave, where
+--                             the buffer is full or the input ends, or with a fault before that
 use Rattle.std.specs.Prelude.{◌≡◌, List, ℕ, ◌<◌, length, take, Result, Option, Ok, Err}
 use Rattle.std.specs.Counts.{IsPrefixLen}
 use Rattle.std.specs.Io.KnownBytes.{Consumes, IsAtEnd}
